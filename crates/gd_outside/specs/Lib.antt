@@ -1,0 +1,6 @@
+pub mod Told
+pub mod Causes
+pub mod Seen
+pub mod Statuses
+pub mod Fails
+pub mod Memory
