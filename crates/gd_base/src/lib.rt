@@ -1,0 +1,26 @@
+//! What every crate speaks of: stamps, labels, names, shapes, styles, short lists, faults of reading, and steps.
+#![tactic(auto)]
+
+mod fault;
+mod ids;
+mod label;
+mod member;
+mod name;
+mod place;
+mod ranges;
+mod shape;
+mod stamp;
+mod steps;
+mod style;
+
+pub use fault::{FieldFault, FieldWhy, LogWhy, WireFault, WireWhy};
+pub use ids::Ids;
+pub use label::{Label, LabelFault};
+pub use member::{Member, Members};
+pub use name::Name;
+pub use place::Place;
+pub use ranges::{PLACE_LIMIT, SIZE_LIMIT};
+pub use shape::Shape;
+pub use stamp::Stamp;
+pub use steps::Steps;
+pub use style::Style;
