@@ -1,0 +1,10 @@
+//! What a site's user did: operations, sound events, and lists of events.
+#![tactic(auto)]
+
+mod event;
+mod list;
+mod op;
+
+pub use event::{Event, EventFault};
+pub use list::EventList;
+pub use op::Op;

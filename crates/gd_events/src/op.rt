@@ -1,0 +1,63 @@
+ghost use Rattle.std.specs.Prelude.{◌≡◌};
+
+use gd_base::{Label, Shape, Stamp};
+
+/// An operation on a drawing. Places are from `-PLACE_LIMIT` to `PLACE_LIMIT`, sizes from `-SIZE_LIMIT` to `SIZE_LIMIT`.
+#[derive(Drop)]
+pub enum Op {
+    /// A new shape on top, with the event's stamp as its id.
+    Create {
+        kind: Shape,
+        x: i32,
+        y: i32,
+        w: i32,
+        h: i32,
+        label: Label,
+    },
+    Delete {
+        id: Stamp,
+    },
+    Move {
+        id: Stamp,
+        x: i32,
+        y: i32,
+    },
+    /// Moves the object to the top.
+    Raise {
+        id: Stamp,
+    },
+}
+
+impl Op {
+    pub fn copy(&self) -> Self
+        ensures { result ≡ self.now }
+    {
+        match self {
+            Op::Create {
+                kind,
+                x,
+                y,
+                w,
+                h,
+                label,
+            } => {
+                let label = label.copy();
+                Op::Create {
+                    kind: *kind,
+                    x: *x,
+                    y: *y,
+                    w: *w,
+                    h: *h,
+                    label,
+                }
+            }
+            Op::Delete { id } => Op::Delete { id: *id },
+            Op::Move { id, x, y } => Op::Move {
+                id: *id,
+                x: *x,
+                y: *y,
+            },
+            Op::Raise { id } => Op::Raise { id: *id },
+        }
+    }
+}
