@@ -1,0 +1,117 @@
+-- The bytes of an event: its stamp, its number, a tag and the body by the tag. Numbers are big-endian, and a signed field
+-- is two's complement. A field that isn't whole is Short, and one out of its range is Field at its first byte; an id in a
+-- body that isn't before the event's stamp is FutureId at its first byte. A tag from 04 to 08 isn't built yet.
+use Rattle.std.specs.Prelude.{ℕ, ℤ, List, [], ◌∷◌, Result, Ok, Err, ◌&&◌, nat_lt, nat_le, ◌==◌, if◌then◌else◌}
+use Rattle.std.specs.Int.{w16, w32, w64, from_be_bytes, cast_signed}
+use Rattle.gd_base.specs.Stamps.{Stamp, is_before}
+use Rattle.gd_base.specs.Labels.{most_label, is_plain}
+use Rattle.gd_base.specs.Ranges.{place_limit, size_limit, is_within}
+use Rattle.gd_base.specs.declared.fault.FieldWhy.TheVariants.{Field, FutureId, NotBuilt}
+use Rattle.gd_base.specs.declared.shape.Shape.{Shape}
+use Rattle.gd_base.specs.declared.shape.Shape.TheVariants.{Rect, Ellipse, Line, Text}
+use Rattle.gd_events.specs.declared.op.Op.{Op}
+use Rattle.gd_events.specs.declared.op.Op.TheVariants.{Create, Delete, Move, Raise}
+use Rattle.gd_events.specs.Events.{Event}
+use Rattle.gd_model.specs.Reading.{Reads, ◌>>=◌, fault_at, short, bytes_at, ranged}
+
+unfoldable pub byte_at : List ℕ → Reads ℕ
+byte_at [] = Err short
+byte_at (b ∷ rest) = Ok (b, rest)
+
+-- 1 to 2^48 - 1
+unfoldable pub clock_at : List ℕ → Reads ℕ
+clock_at bytes = do
+  six ← bytes_at 6 bytes
+  ranged (nat_lt 0 (from_be_bytes w64 (0 ∷ 0 ∷ six.0))) (from_be_bytes w64 (0 ∷ 0 ∷ six.0)) bytes six.1
+
+-- 1 to 16
+unfoldable pub site_at : List ℕ → Reads ℕ
+site_at bytes = do
+  site ← byte_at bytes
+  ranged (nat_le 1 site.0 && nat_le site.0 16) site.0 bytes site.1
+
+unfoldable pub stamp_at : List ℕ → Reads Stamp
+stamp_at bytes = do
+  clock ← clock_at bytes
+  site ← site_at clock.1
+  Ok (record { clock = clock.0; site = site.0 }, site.1)
+
+-- an id in the body of the event with this stamp
+unfoldable pub id_at : Stamp → List ℕ → Reads Stamp
+id_at stamp bytes = do
+  id ← stamp_at bytes
+  if is_before id.0 stamp then Ok id else Err (fault_at FutureId bytes)
+
+-- 1 to 65,535
+unfoldable pub number_at : List ℕ → Reads ℕ
+number_at bytes = do
+  two ← bytes_at 2 bytes
+  ranged (nat_lt 0 (from_be_bytes w16 two.0)) (from_be_bytes w16 two.0) bytes two.1
+
+-- from -limit to limit
+unfoldable pub signed_at : ℕ → List ℕ → Reads ℤ
+signed_at limit bytes = do
+  four ← bytes_at 4 bytes
+  ranged (is_within limit (cast_signed w32 (from_be_bytes w32 four.0))) (cast_signed w32 (from_be_bytes w32 four.0)) bytes four.1
+
+unfoldable pub shape_at : List ℕ → Reads Shape
+shape_at bytes = do
+  kind ← byte_at bytes
+  if kind.0 == 1 then Ok (Rect, kind.1)
+      else if kind.0 == 2 then Ok (Ellipse, kind.1)
+      else if kind.0 == 3 then Ok (Line, kind.1)
+      else if kind.0 == 4 then Ok (Text, kind.1)
+      else Err (fault_at Field bytes)
+
+-- a length, and that many bytes of a text without control characters
+unfoldable pub label_at : List ℕ → Reads (List ℕ)
+label_at bytes = do
+  len ← byte_at bytes
+  if nat_lt most_label len.0 then Err (fault_at Field bytes) else (do
+    text ← bytes_at len.0 len.1
+    ranged (is_plain text.0) text.0 len.1 text.1)
+
+unfoldable pub create_at : List ℕ → Reads Op
+create_at bytes = do
+  kind ← shape_at bytes
+  x ← signed_at place_limit kind.1
+  y ← signed_at place_limit x.1
+  w ← signed_at size_limit y.1
+  h ← signed_at size_limit w.1
+  label ← label_at h.1
+  Ok (Create kind.0 x.0 y.0 w.0 h.0 label.0, label.1)
+
+unfoldable pub delete_at : Stamp → List ℕ → Reads Op
+delete_at stamp bytes = do
+  id ← id_at stamp bytes
+  Ok (Delete id.0, id.1)
+
+unfoldable pub move_at : Stamp → List ℕ → Reads Op
+move_at stamp bytes = do
+  id ← id_at stamp bytes
+  x ← signed_at place_limit id.1
+  y ← signed_at place_limit x.1
+  Ok (Move id.0 x.0 y.0, y.1)
+
+unfoldable pub raise_at : Stamp → List ℕ → Reads Op
+raise_at stamp bytes = do
+  id ← id_at stamp bytes
+  Ok (Raise id.0, id.1)
+
+-- a tag, and the body by the tag
+unfoldable pub op_at : Stamp → List ℕ → Reads Op
+op_at stamp bytes = do
+  tag ← byte_at bytes
+  if tag.0 == 1 then create_at tag.1
+      else if tag.0 == 2 then delete_at stamp tag.1
+      else if tag.0 == 3 then move_at stamp tag.1
+      else if tag.0 == 9 then raise_at stamp tag.1
+      else if nat_le 4 tag.0 && nat_le tag.0 8 then Err (fault_at NotBuilt bytes)
+      else Err (fault_at Field bytes)
+
+unfoldable pub event_at : List ℕ → Reads Event
+event_at bytes = do
+  stamp ← stamp_at bytes
+  number ← number_at stamp.1
+  op ← op_at stamp.0 number.1
+  Ok (record { stamp = stamp.0; number = number.0; op = op.0 }, op.1)

@@ -1,0 +1,9 @@
+pub mod Reading
+pub mod EventBytes
+pub mod LogBytes
+pub mod Forms
+pub mod Drawing
+pub mod Text
+pub mod Effects
+pub mod SlowRun
+pub mod Worked

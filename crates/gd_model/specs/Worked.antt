@@ -1,0 +1,80 @@
+-- Worked rows: logs of a few events, byte by byte, and what is printed of them.
+use Rattle.std.specs.Prelude.{ℕ, ℤ, pos, List, [], ◌∷◌, ◌++◌, map, codes, take}
+use Rattle.gd_base.specs.Stamps.{Stamp}
+use Rattle.gd_base.specs.declared.shape.Shape.TheVariants.{Rect, Ellipse}
+use Rattle.gd_events.specs.declared.op.Op.{Op}
+use Rattle.gd_events.specs.declared.op.Op.TheVariants.{Create, Delete, Move, Raise}
+use Rattle.gd_events.specs.Events.{Event}
+use Rattle.gd_model.specs.Drawing.{Drawing, picture}
+use Rattle.gd_model.specs.LogBytes.{Header}
+use Rattle.gd_model.specs.Effects.{Effect, Print}
+
+abbrev pub at_stamp : ℕ → ℕ → Stamp
+at_stamp clock site = record { clock = clock; site = site }
+
+abbrev pub event : ℕ → ℕ → ℕ → Op → Event
+event clock site number op = record { stamp = at_stamp clock site; number = number; op = op }
+
+-- session 7, site 1 of 2
+abbrev pub header_bytes : List ℕ
+header_bytes = 71 ∷ 68 ∷ 79 ∷ 76 ∷ 1 ∷ 0 ∷ 0 ∷ 0 ∷ 7 ∷ 1 ∷ 2 ∷ []
+
+abbrev pub header : Header
+header = record { session = 7; site = 1; n = 2 }
+
+-- a header and a closed gate
+abbrev pub empty_log : List ℕ
+empty_log = header_bytes ++ 0 ∷ []
+
+-- two events of one clock: a rect of site 2, and then an ellipse of site 1
+abbrev pub tie_log : List ℕ
+tie_log =
+    header_bytes
+    ++ 195 ∷ 0 ∷ 0 ∷ 0 ∷ 0 ∷ 0 ∷ 1 ∷ 2 ∷ 0 ∷ 1 ∷ 1 ∷ 1 ∷ 0 ∷ 0 ∷ 0 ∷ 5 ∷ 0 ∷ 0 ∷ 0 ∷ 5 ∷ 0 ∷ 0 ∷ 0 ∷ 10 ∷ 0 ∷ 0 ∷ 0 ∷ 10 ∷ 0 ∷ []
+    ++ 195 ∷ 0 ∷ 0 ∷ 0 ∷ 0 ∷ 0 ∷ 1 ∷ 1 ∷ 0 ∷ 1 ∷ 1 ∷ 2 ∷ 0 ∷ 0 ∷ 0 ∷ 0 ∷ 0 ∷ 0 ∷ 0 ∷ 0 ∷ 0 ∷ 0 ∷ 0 ∷ 20 ∷ 0 ∷ 0 ∷ 0 ∷ 20 ∷ 0 ∷ []
+    ++ 0 ∷ []
+
+abbrev pub tie_events : List Event
+tie_events =
+    event 1 2 1 (Create Rect (pos 5) (pos 5) (pos 10) (pos 10) [])
+    ∷ event 1 1 1 (Create Ellipse (pos 0) (pos 0) (pos 20) (pos 20) [])
+    ∷ []
+
+abbrev pub tie_text : List (List ℕ)
+tie_text =
+    codes "ellipse 1.1 in - at 0 0 size 20 20 stroke 000000 fill none width 1\n"
+    ∷ codes "rect 1.2 in - at 5 5 size 10 10 stroke 000000 fill none width 1\n"
+    ∷ codes "end 2\n"
+    ∷ []
+
+-- a raise whose stamp is greater comes first in the log, and lifts its object above all
+abbrev pub rank_events : List Event
+rank_events =
+    event 1 1 1 (Create Rect (pos 0) (pos 0) (pos 10) (pos 10) [])
+    ∷ event 2 1 2 (Create Ellipse (pos 0) (pos 0) (pos 20) (pos 20) [])
+    ∷ event 5 1 3 (Raise (at_stamp 1 1))
+    ∷ event 4 2 1 (Raise (at_stamp 2 1))
+    ∷ []
+
+abbrev pub rank_text : List (List ℕ)
+rank_text =
+    codes "ellipse 2.1 in - at 0 0 size 20 20 stroke 000000 fill none width 1\n"
+    ∷ codes "rect 1.1 in - at 0 0 size 10 10 stroke 000000 fill none width 1\n"
+    ∷ codes "end 2\n"
+    ∷ []
+
+-- a delete that comes before the create of its object
+abbrev pub effect_before_cause : List Event
+effect_before_cause =
+    event 3 2 1 (Delete (at_stamp 1 1))
+    ∷ event 1 1 1 (Create Rect (pos 0) (pos 0) (pos 10) (pos 10) [])
+    ∷ []
+
+abbrev pub end_alone : List (List ℕ)
+end_alone = codes "end 0\n" ∷ []
+
+abbrev pub replay_words : List (List ℕ)
+replay_words = codes "replay" ∷ []
+
+abbrev pub prints_of : List (List ℕ) → List Effect
+prints_of lines = map Print lines

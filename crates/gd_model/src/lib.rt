@@ -1,0 +1,6 @@
+//! The definitions that contracts cite, and the plain data that they share with the code.
+#![tactic(auto)]
+
+mod object;
+
+pub use object::{Kind, Link, Object};
