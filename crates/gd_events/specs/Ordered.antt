@@ -1,5 +1,5 @@
 -- Events in stamp order: they are put in one by one, each behind those whose stamps aren't greater.
-use Rattle.std.specs.Prelude.{◌≡◌, Bool, true, false, not, ◌&&◌, List, [], ◌∷◌, if◌then◌else◌, fold, Contains, ◌↔◌}
+use Rattle.std.specs.Prelude.{Bool, true, not, ◌&&◌, List, [], ◌∷◌, if◌then◌else◌, fold, Contains, ◌↔◌}
 use Rattle.std.specs.List.{list_all}
 use Rattle.gd_base.specs.Stamps.{is_before, is_same}
 use Rattle.gd_events.specs.Events.{Event}

@@ -1,6 +1,6 @@
 -- Which events are sound: the number is at least 1, the fields are in their ranges, and every id that the operation
 -- names is before the event's own stamp.
-use Rattle.std.specs.Prelude.{◌≡◌, ℕ, Bool, true, ◌&&◌, not, ◌==◌, if◌then◌else◌, Option, Some, None, ◌≤◌}
+use Rattle.std.specs.Prelude.{◌≡◌, Bool, true, ◌&&◌, not, ◌==◌, if◌then◌else◌, Option, Some, None, ◌≤◌}
 use Rattle.gd_base.specs.Stamps.{Stamp, IsStamp, is_before}
 use Rattle.gd_base.specs.Labels.{IsLabel}
 use Rattle.gd_base.specs.Ranges.{place_limit, size_limit, is_within}
