@@ -50,7 +50,6 @@ impl EventList {
         ensures ok { OnOk result (self.new ≡ ordered self.old) }
         ensures err { OnErr result (self.new ≡ self.old) }
     {
-        let _ = &self.items;
-        Err(AllocError)
+        self.items.sort_by_key(|event| event.stamp())
     }
 }
