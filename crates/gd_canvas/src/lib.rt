@@ -1,0 +1,4 @@
+//! The drawing, as a plain list of objects.
+#![tactic(auto)]
+
+pub mod text;

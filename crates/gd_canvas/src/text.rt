@@ -1,0 +1,4 @@
+//! The text of a drawing.
+
+pub mod line;
+pub mod object;
