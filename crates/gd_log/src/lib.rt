@@ -1,0 +1,5 @@
+//! Reading a log.
+#![tactic(auto)]
+
+mod ahead;
+mod turns;
