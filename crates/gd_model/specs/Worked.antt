@@ -1,12 +1,12 @@
 -- Worked rows: logs of a few events, byte by byte, and what is printed of them.
-use Rattle.std.specs.Prelude.{ℕ, ℤ, pos, List, [], ◌∷◌, ◌++◌, map, codes, take}
+use Rattle.std.specs.Prelude.{ℕ, pos, List, [], ◌∷◌, ◌++◌, map, codes, Result, Err}
 use Rattle.gd_base.specs.Stamps.{Stamp}
 use Rattle.gd_base.specs.declared.shape.Shape.TheVariants.{Rect, Ellipse}
 use Rattle.gd_events.specs.declared.op.Op.{Op}
 use Rattle.gd_events.specs.declared.op.Op.TheVariants.{Create, Delete, Move, Raise}
 use Rattle.gd_events.specs.Events.{Event}
-use Rattle.gd_model.specs.Drawing.{Drawing, picture}
-use Rattle.gd_model.specs.LogBytes.{Header}
+use Rattle.gd_base.specs.declared.fault.LogWhy.{LogWhy}
+use Rattle.gd_model.specs.LogBytes.{Header, LogFault}
 use Rattle.gd_model.specs.Effects.{Effect, Print}
 
 abbrev pub at_stamp : ℕ → ℕ → Stamp
@@ -78,3 +78,22 @@ replay_words = codes "replay" ∷ []
 
 abbrev pub prints_of : List (List ℕ) → List Effect
 prints_of lines = map Print lines
+
+-- a record of an operation that isn't built yet
+abbrev pub unbuilt_log : List ℕ
+unbuilt_log = header_bytes ++ 195 ∷ 0 ∷ 0 ∷ 0 ∷ 0 ∷ 0 ∷ 1 ∷ 1 ∷ 0 ∷ 1 ∷ 8 ∷ []
+
+-- the tie's log with an event of site 3
+abbrev pub no_site_log : List ℕ
+no_site_log = 71 ∷ 68 ∷ 79 ∷ 76 ∷ 1 ∷ 0 ∷ 0 ∷ 0 ∷ 7 ∷ 1 ∷ 2 ∷ 195 ∷ 0 ∷ 0 ∷ 0 ∷ 0 ∷ 0 ∷ 1 ∷ 3 ∷ 0 ∷ 1 ∷ 1 ∷ 1 ∷ 0 ∷ 0 ∷ 0 ∷ 5 ∷ 0 ∷ 0 ∷ 0 ∷ 5 ∷ 0 ∷ 0 ∷ 0 ∷ 10 ∷ 0 ∷ 0 ∷ 0 ∷ 10 ∷ 0 ∷ 195 ∷ 0 ∷ 0 ∷ 0 ∷ 0 ∷ 0 ∷ 1 ∷ 1 ∷ 0 ∷ 1 ∷ 1 ∷ 2 ∷ 0 ∷ 0 ∷ 0 ∷ 0 ∷ 0 ∷ 0 ∷ 0 ∷ 0 ∷ 0 ∷ 0 ∷ 0 ∷ 20 ∷ 0 ∷ 0 ∷ 0 ∷ 20 ∷ 0 ∷ 0 ∷ []
+
+-- the same with a number that isn't next
+abbrev pub turn_log : List ℕ
+turn_log = 71 ∷ 68 ∷ 79 ∷ 76 ∷ 1 ∷ 0 ∷ 0 ∷ 0 ∷ 7 ∷ 1 ∷ 2 ∷ 195 ∷ 0 ∷ 0 ∷ 0 ∷ 0 ∷ 0 ∷ 1 ∷ 2 ∷ 0 ∷ 2 ∷ 1 ∷ 1 ∷ 0 ∷ 0 ∷ 0 ∷ 5 ∷ 0 ∷ 0 ∷ 0 ∷ 5 ∷ 0 ∷ 0 ∷ 0 ∷ 10 ∷ 0 ∷ 0 ∷ 0 ∷ 10 ∷ 0 ∷ 195 ∷ 0 ∷ 0 ∷ 0 ∷ 0 ∷ 0 ∷ 1 ∷ 1 ∷ 0 ∷ 1 ∷ 1 ∷ 2 ∷ 0 ∷ 0 ∷ 0 ∷ 0 ∷ 0 ∷ 0 ∷ 0 ∷ 0 ∷ 0 ∷ 0 ∷ 0 ∷ 20 ∷ 0 ∷ 0 ∷ 0 ∷ 20 ∷ 0 ∷ 0 ∷ []
+
+-- the same with two events of site 2 and one clock
+abbrev pub backdated_log : List ℕ
+backdated_log = 71 ∷ 68 ∷ 79 ∷ 76 ∷ 1 ∷ 0 ∷ 0 ∷ 0 ∷ 7 ∷ 1 ∷ 2 ∷ 195 ∷ 0 ∷ 0 ∷ 0 ∷ 0 ∷ 0 ∷ 1 ∷ 2 ∷ 0 ∷ 1 ∷ 1 ∷ 1 ∷ 0 ∷ 0 ∷ 0 ∷ 5 ∷ 0 ∷ 0 ∷ 0 ∷ 5 ∷ 0 ∷ 0 ∷ 0 ∷ 10 ∷ 0 ∷ 0 ∷ 0 ∷ 10 ∷ 0 ∷ 195 ∷ 0 ∷ 0 ∷ 0 ∷ 0 ∷ 0 ∷ 1 ∷ 2 ∷ 0 ∷ 2 ∷ 1 ∷ 2 ∷ 0 ∷ 0 ∷ 0 ∷ 0 ∷ 0 ∷ 0 ∷ 0 ∷ 0 ∷ 0 ∷ 0 ∷ 0 ∷ 20 ∷ 0 ∷ 0 ∷ 0 ∷ 20 ∷ 0 ∷ 0 ∷ []
+
+abbrev pub fault_at : LogWhy → ℕ → Result (Header × List Event) LogFault
+fault_at why left = Err (record { why = why; left = left })

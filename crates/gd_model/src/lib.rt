@@ -2,5 +2,6 @@
 #![tactic(auto)]
 
 mod object;
+pub mod rows;
 
 pub use object::{Kind, Link, Object};

@@ -1,0 +1,26 @@
+use Rattle.std.proofs.Common.{refl}
+use Rattle.std.specs.Str.{chars, is_utf8}
+use Rattle.gd_model.specs.EventBytes.{byte_at, clock_at, site_at, stamp_at, id_at, number_at, signed_at, shape_at, label_at, create_at, delete_at, move_at, raise_at, op_at, event_at}
+use Rattle.gd_model.specs.LogBytes.{magic_at, version_at, session_at, sites_at, header_at, turn_fault, record_at, step_at, events_at, log}
+use Rattle.gd_base.specs.Stamps.{stamp_cmp}
+use Rattle.gd_model.proofs.rows.a_fault_has_its_place.Goals as goal
+
+pub returns-clause-cut : goal.returns-clause-cut
+unfolding chars is_utf8 byte_at clock_at site_at stamp_at id_at number_at signed_at shape_at label_at create_at delete_at move_at raise_at op_at event_at magic_at version_at session_at sites_at header_at turn_fault record_at step_at events_at log stamp_cmp
+returns-clause-cut c = refl
+
+pub returns-clause-unbuilt : goal.returns-clause-unbuilt
+unfolding chars is_utf8 byte_at clock_at site_at stamp_at id_at number_at signed_at shape_at label_at create_at delete_at move_at raise_at op_at event_at magic_at version_at session_at sites_at header_at turn_fault record_at step_at events_at log stamp_cmp
+returns-clause-unbuilt c = refl
+
+pub returns-clause-no_site : goal.returns-clause-no_site
+unfolding chars is_utf8 byte_at clock_at site_at stamp_at id_at number_at signed_at shape_at label_at create_at delete_at move_at raise_at op_at event_at magic_at version_at session_at sites_at header_at turn_fault record_at step_at events_at log stamp_cmp
+returns-clause-no_site c = refl
+
+pub returns-clause-turn : goal.returns-clause-turn
+unfolding chars is_utf8 byte_at clock_at site_at stamp_at id_at number_at signed_at shape_at label_at create_at delete_at move_at raise_at op_at event_at magic_at version_at session_at sites_at header_at turn_fault record_at step_at events_at log stamp_cmp
+returns-clause-turn c = refl
+
+pub returns-clause-backdated : goal.returns-clause-backdated
+unfolding chars is_utf8 byte_at clock_at site_at stamp_at id_at number_at signed_at shape_at label_at create_at delete_at move_at raise_at op_at event_at magic_at version_at session_at sites_at header_at turn_fault record_at step_at events_at log stamp_cmp
+returns-clause-backdated c = refl
