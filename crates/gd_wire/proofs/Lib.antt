@@ -1,0 +1,4 @@
+pub mod Steady
+pub mod SteadyFields
+mod Plain
+mod Whole

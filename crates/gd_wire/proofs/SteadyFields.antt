@@ -1,0 +1,219 @@
+-- Each field of an event or of a header is read alike whatever follows it. An event takes at most 92 bytes: 7 for the
+-- stamp, 2 for the number, 1 for the tag, and at most 82 for the body: 1 for the kind, 16 for the place and the size, 65
+-- for the label.
+use Rattle.std.proofs.Common.{◌≡◌, ◌≢◌, ℕ, ◌+◌, ◌≤◌, Bool, true, false, cond, ltb, List, [], ◌∷◌, ◌++◌, length, take, drop, Ok, Err, refl, arith, inl}
+use Rattle.std.specs.Prelude.{◌&&◌, nat_lt, nat_le, ◌==◌}
+use Rattle.std.proofs.lemmas.Bool.{ltb-false}
+use Rattle.std.proofs.lemmas.List.{length-drop}
+use Rattle.std.specs.Int.{w16, w32, w64, from_be_bytes, cast_signed}
+use Rattle.gd_base.specs.declared.fault.FieldFault.{FieldFault}
+use Rattle.gd_base.specs.declared.fault.FieldWhy.TheVariants.{Short, Magic, Version, Field, FutureId, NotBuilt}
+use Rattle.gd_base.specs.declared.shape.Shape.TheVariants.{Rect, Ellipse, Line, Text}
+use Rattle.gd_base.specs.Stamps.{Stamp, is_before}
+use Rattle.gd_base.specs.Labels.{most_label, is_plain}
+use Rattle.gd_events.specs.declared.op.Op.TheVariants.{Create, Delete, Move, Raise}
+use Rattle.gd_model.specs.Reading.{Reads, ◌>>=◌, fault_at, short, bytes_at, ranged}
+use Rattle.gd_model.specs.EventBytes.{byte_at, clock_at, site_at, stamp_at, id_at, number_at, signed_at, shape_at, label_at, create_at, delete_at, move_at, raise_at, op_at, event_at}
+use Rattle.gd_base.specs.Ranges.{place_limit, size_limit, is_within}
+use Rattle.gd_model.specs.LogBytes.{magic, magic_at, version_at, session_at, sites_at, header_at}
+use Rattle.gd_events.specs.Events.{Event}
+use Rattle.gd_wire.proofs.Steady.{Steady, IsEnd, IsEnd-shorter, Follows, Steady-then, Steady-weaken, Steady-bytes, guard_ok, bind_ok, done, behind, fault_there, either}
+
+pub field_ne : Field ≢ Short
+field_ne e = cc
+
+-- a value in its range, or a fault at the field
+pub in_range : {A : Type 0} (n : ℕ) (t : Bool) (v : A) → Follows n (λ bytes rest. ranged t v bytes rest)
+in_range n t v = either t (λ _. done n v) (λ _. fault_there n Field field_ne)
+
+byte-ok : (bytes more : List ℕ) (x : ℕ × List ℕ) → byte_at bytes ≡ Ok x → byte_at (bytes ++ more) ≡ Ok (x.0, x.1 ++ more)
+unfolding byte_at
+byte-ok [] more x e = absurd cc
+byte-ok (b ∷ rest) more x e = let k : (b, rest) ≡ x = cc in rw (← k) refl
+
+byte-err : (bytes : List ℕ) (f : FieldFault) → byte_at bytes ≡ Err f → (f.why ≡ Short) × (length bytes ≡ 0)
+unfolding byte_at
+byte-err [] f e = let k : short ≡ f = cc in (rw (← k) refl, refl)
+byte-err (b ∷ rest) f e = absurd cc
+
+byte-inside : (bytes : List ℕ) (f : FieldFault) → byte_at bytes ≡ Err f → f.left ≤ length bytes
+unfolding byte_at
+byte-inside [] f e = let k : short ≡ f = cc in rw (← k) (omega arith)
+byte-inside (b ∷ rest) f e = absurd cc
+
+byte-takes : (bytes : List ℕ) (x : ℕ × List ℕ) → byte_at bytes ≡ Ok x → length bytes ≤ length x.1 + 1
+unfolding byte_at
+byte-takes [] x e = absurd cc
+byte-takes (b ∷ rest) x e = let k : (b, rest) ≡ x = cc in rw (← k) (omega arith)
+
+byte-suffix : (bytes : List ℕ) (x : ℕ × List ℕ) → byte_at bytes ≡ Ok x → IsEnd bytes x.1
+unfolding byte_at
+byte-suffix [] x e = absurd cc
+byte-suffix (b ∷ rest) x e = let k : (b, rest) ≡ x = cc in rw (← k) (1, omega arith, refl)
+
+pub Steady-byte : Steady 1 byte_at
+Steady-byte = record {
+  ok = byte-ok;
+  err = λ bytes more f e. inl (byte-err bytes f e).0;
+  takes = byte-takes;
+  suffix = byte-suffix;
+  long = λ bytes f le e. absurd (omega (arith, (byte-err bytes f e).1));
+  inside = byte-inside;
+}
+
+pub Steady-clock : Steady 6 clock_at
+unfolding clock_at
+Steady-clock = Steady-then 6 0 (bytes_at 6) (λ six bytes rest. ranged (nat_lt 0 (from_be_bytes w64 (0 ∷ 0 ∷ six))) (from_be_bytes w64 (0 ∷ 0 ∷ six)) bytes rest) (Steady-bytes 6) (λ six. in_range 0 _ _)
+
+pub Steady-site : Steady 1 site_at
+unfolding site_at
+Steady-site = Steady-then 1 0 byte_at (λ site bytes rest. ranged (nat_le 1 site && nat_le site 16) site bytes rest) Steady-byte (λ site. in_range 0 _ _)
+
+pub Steady-stamp : Steady 7 stamp_at
+unfolding stamp_at
+Steady-stamp = Steady-then 6 1 clock_at (λ clock bytes rest. site_at rest >>= λ site. Ok (record { clock = clock; site = site.0 }, site.1)) Steady-clock
+    (λ clock. behind 1 _ (Steady-then 1 0 site_at (λ site bytes rest. Ok (record { clock = clock; site = site }, rest)) Steady-site (λ site. done 0 _)))
+
+pub Steady-id : (stamp : Stamp) → Steady 7 (id_at stamp)
+unfolding id_at
+Steady-id stamp = Steady-then 7 0 stamp_at (λ id bytes rest. cond (is_before id stamp) (Ok (id, rest)) (Err (fault_at FutureId bytes))) Steady-stamp (λ id. either _ (λ _. done 0 id) (λ _. fault_there 0 FutureId (λ e. cc)))
+
+pub Steady-number : Steady 2 number_at
+unfolding number_at
+Steady-number = Steady-then 2 0 (bytes_at 2) (λ two bytes rest. ranged (nat_lt 0 (from_be_bytes w16 two)) (from_be_bytes w16 two) bytes rest) (Steady-bytes 2) (λ two. in_range 0 _ _)
+
+pub Steady-signed : (limit : ℕ) → Steady 4 (signed_at limit)
+unfolding signed_at
+Steady-signed limit = Steady-then 4 0 (bytes_at 4) (λ four bytes rest. ranged (is_within limit (cast_signed w32 (from_be_bytes w32 four))) (cast_signed w32 (from_be_bytes w32 four)) bytes rest) (Steady-bytes 4) (λ four. in_range 0 _ _)
+
+pub Steady-shape : Steady 1 shape_at
+unfolding shape_at
+Steady-shape = Steady-then 1 0 byte_at (λ kind bytes rest. cond (kind == 1) (Ok (Rect, rest)) (cond (kind == 2) (Ok (Ellipse, rest)) (cond (kind == 3) (Ok (Line, rest)) (cond (kind == 4) (Ok (Text, rest)) (Err (fault_at Field bytes)))))) Steady-byte
+    (λ kind. either (kind == 1) (λ _. done 0 Rect) (λ _. either (kind == 2) (λ _. done 0 Ellipse) (λ _. either (kind == 3) (λ _. done 0 Line) (λ _. either (kind == 4) (λ _. done 0 Text) (λ _. fault_there 0 Field field_ne)))))
+
+pub Steady-label : Steady 65 label_at
+unfolding label_at
+Steady-label = Steady-then 1 64 byte_at (λ len bytes rest. cond (nat_lt most_label len) (Err (fault_at Field bytes)) (bytes_at len rest >>= λ text. ranged (is_plain text.0) text.0 rest text.1)) Steady-byte
+    (λ len. either _ (λ _. fault_there 64 Field field_ne) (λ h. let le : len ≤ 64 = ltb-false _ _ h in
+    behind 64 _ (Steady-weaken (len + 0) 64 _ (omega arith) (Steady-then len 0 (bytes_at len) (λ text bytes rest. ranged (is_plain text) text bytes rest) (Steady-bytes len) (λ text. in_range 0 _ _)))))
+
+pub Steady-create : Steady 82 create_at
+unfolding create_at
+Steady-create = Steady-then 1 81 shape_at (λ kind _ b0. signed_at place_limit b0 >>= λ x. signed_at place_limit x.1 >>= λ y. signed_at size_limit y.1 >>= λ w. signed_at size_limit w.1 >>= λ h. label_at h.1 >>= λ label. Ok (Create kind x.0 y.0 w.0 h.0 label.0, label.1)) Steady-shape (λ kind. behind 81 _
+    (Steady-then 4 77 (signed_at place_limit) (λ x _ b1. signed_at place_limit b1 >>= λ y. signed_at size_limit y.1 >>= λ w. signed_at size_limit w.1 >>= λ h. label_at h.1 >>= λ label. Ok (Create kind x y.0 w.0 h.0 label.0, label.1)) (Steady-signed place_limit) (λ x. behind 77 _
+    (Steady-then 4 73 (signed_at place_limit) (λ y _ b2. signed_at size_limit b2 >>= λ w. signed_at size_limit w.1 >>= λ h. label_at h.1 >>= λ label. Ok (Create kind x y w.0 h.0 label.0, label.1)) (Steady-signed place_limit) (λ y. behind 73 _
+    (Steady-then 4 69 (signed_at size_limit) (λ w _ b3. signed_at size_limit b3 >>= λ h. label_at h.1 >>= λ label. Ok (Create kind x y w h.0 label.0, label.1)) (Steady-signed size_limit) (λ w. behind 69 _
+    (Steady-then 4 65 (signed_at size_limit) (λ h _ b4. label_at b4 >>= λ label. Ok (Create kind x y w h label.0, label.1)) (Steady-signed size_limit) (λ h. behind 65 _
+    (Steady-then 65 0 label_at (λ label _ b5. Ok (Create kind x y w h label, b5)) Steady-label (λ label. done 0 _)))))))))))
+
+pub Steady-delete : (stamp : Stamp) → Steady 7 (delete_at stamp)
+unfolding delete_at
+Steady-delete stamp = Steady-then 7 0 (id_at stamp) (λ id _ rest. Ok (Delete id, rest)) (Steady-id stamp) (λ id. done 0 _)
+
+pub Steady-raise : (stamp : Stamp) → Steady 7 (raise_at stamp)
+unfolding raise_at
+Steady-raise stamp = Steady-then 7 0 (id_at stamp) (λ id _ rest. Ok (Raise id, rest)) (Steady-id stamp) (λ id. done 0 _)
+
+pub Steady-move : (stamp : Stamp) → Steady 15 (move_at stamp)
+unfolding move_at
+Steady-move stamp = Steady-then 7 8 (id_at stamp) (λ id _ b0. signed_at place_limit b0 >>= λ x. signed_at place_limit x.1 >>= λ y. Ok (Move id x.0 y.0, y.1)) (Steady-id stamp) (λ id. behind 8 _
+    (Steady-then 4 4 (signed_at place_limit) (λ x _ b1. signed_at place_limit b1 >>= λ y. Ok (Move id x y.0, y.1)) (Steady-signed place_limit) (λ x. behind 4 _
+    (Steady-then 4 0 (signed_at place_limit) (λ y _ b2. Ok (Move id x y, b2)) (Steady-signed place_limit) (λ y. done 0 _)))))
+
+pub Steady-op : (stamp : Stamp) → Steady 83 (op_at stamp)
+unfolding op_at
+Steady-op stamp = Steady-then 1 82 byte_at (λ tag bytes rest. cond (tag == 1) (create_at rest) (cond (tag == 2) (delete_at stamp rest) (cond (tag == 3) (move_at stamp rest) (cond (tag == 9) (raise_at stamp rest) (cond (nat_le 4 tag && nat_le tag 8) (Err (fault_at NotBuilt bytes)) (Err (fault_at Field bytes))))))) Steady-byte
+    (λ tag. either (tag == 1) (λ _. behind 82 _ Steady-create) (λ _. either (tag == 2) (λ _. behind 82 _ (Steady-weaken 7 82 _ (omega arith) (Steady-delete stamp))) (λ _. either (tag == 3) (λ _. behind 82 _ (Steady-weaken 15 82 _ (omega arith) (Steady-move stamp)))
+    (λ _. either (tag == 9) (λ _. behind 82 _ (Steady-weaken 7 82 _ (omega arith) (Steady-raise stamp))) (λ _. either (nat_le 4 tag && nat_le tag 8) (λ _. fault_there 82 NotBuilt (λ e. cc)) (λ _. fault_there 82 Field field_ne))))))
+
+pub Steady-event : Steady 92 event_at
+unfolding event_at
+Steady-event = Steady-then 7 85 stamp_at (λ stamp _ b0. number_at b0 >>= λ number. op_at stamp number.1 >>= λ op. Ok (record { stamp = stamp; number = number.0; op = op.0 }, op.1)) Steady-stamp (λ stamp. behind 85 _
+    (Steady-then 2 83 number_at (λ number _ b1. op_at stamp b1 >>= λ op. Ok (record { stamp = stamp; number = number; op = op.0 }, op.1)) Steady-number (λ number. behind 83 _
+    (Steady-then 83 0 (op_at stamp) (λ op _ b2. Ok (record { stamp = stamp; number = number; op = op }, b2)) (Steady-op stamp) (λ op. done 0 _)))))
+
+-- ---- the header of a log
+
+pub Steady-magic : Steady 4 magic_at
+unfolding magic_at
+Steady-magic = Steady-then 4 0 (bytes_at 4) (λ four bytes rest. cond (from_be_bytes w32 four == magic) (Ok (magic, rest)) (Err (fault_at Magic bytes))) (Steady-bytes 4)
+    (λ four. either (from_be_bytes w32 four == magic) (λ _. done 0 magic) (λ _. fault_there 0 Magic (λ e. cc)))
+
+pub Steady-version : Steady 1 version_at
+unfolding version_at
+Steady-version = Steady-then 1 0 byte_at (λ version bytes rest. cond (version == 1) (Ok (version, rest)) (Err (fault_at Version bytes))) Steady-byte
+    (λ version. either (version == 1) (λ _. done 0 version) (λ _. fault_there 0 Version (λ e. cc)))
+
+pub Steady-session : Steady 4 session_at
+unfolding session_at
+Steady-session = Steady-then 4 0 (bytes_at 4) (λ four bytes rest. Ok (from_be_bytes w32 four, rest)) (Steady-bytes 4) (λ four. done 0 _)
+
+pub Steady-sites : (site : ℕ) → Steady 1 (sites_at site)
+unfolding sites_at
+Steady-sites site = Steady-then 1 0 byte_at (λ n bytes rest. ranged (nat_le site n && nat_le n 16) n bytes rest) Steady-byte (λ n. in_range 0 _ _)
+
+pub Steady-header : Steady 11 header_at
+unfolding header_at
+Steady-header = Steady-then 4 7 magic_at (λ _ _ b0. version_at b0 >>= λ version. session_at version.1 >>= λ session. site_at session.1 >>= λ site. sites_at site.0 site.1 >>= λ n. Ok (record { session = session.0; site = site.0; n = n.0 }, n.1)) Steady-magic (λ _. behind 7 _
+    (Steady-then 1 6 version_at (λ _ _ b1. session_at b1 >>= λ session. site_at session.1 >>= λ site. sites_at site.0 site.1 >>= λ n. Ok (record { session = session.0; site = site.0; n = n.0 }, n.1)) Steady-version (λ _. behind 6 _
+    (Steady-then 4 2 session_at (λ session _ b2. site_at b2 >>= λ site. sites_at site.0 site.1 >>= λ n. Ok (record { session = session; site = site.0; n = n.0 }, n.1)) Steady-session (λ session. behind 2 _
+    (Steady-then 1 1 site_at (λ site _ b3. sites_at site b3 >>= λ n. Ok (record { session = session; site = site; n = n.0 }, n.1)) Steady-site (λ site. behind 1 _
+    (Steady-then 1 0 (sites_at site) (λ n _ b4. Ok (record { session = session; site = site; n = n }, b4)) (Steady-sites site) (λ n. done 0 _)))))))))
+
+-- ---- an event takes at least 9 bytes: its stamp and its number
+
+-- it takes at least so many bytes
+abbrev pub Takes : {A : Type 0} → ℕ → (List ℕ → Reads A) → Type 0
+Takes {A = A} least read = (bytes : List ℕ) (x : A × List ℕ) → read bytes ≡ Ok x → least + length x.1 ≤ length bytes
+
+-- behind a field, at least so many more are taken
+Takes-then : {A B : Type 0} (m n : ℕ) (r : List ℕ → Reads A) (f : List ℕ → A × List ℕ → Reads B) → Takes m r
+    → ((bytes : List ℕ) (a : A × List ℕ) (y : B × List ℕ) → f bytes a ≡ Ok y → n + length y.1 ≤ length a.1) → Takes (m + n) (λ bytes. r bytes >>= f bytes)
+Takes-then m n r f first second bytes y e =
+    let b = bind_ok (r bytes) (f bytes) y e in
+    omega (arith, first bytes b.0 b.1, second bytes b.0 y b.2)
+
+Steady-takes : {A : Type 0} (most : ℕ) (read : List ℕ → Reads A) → Steady most read → Takes 0 read
+Steady-takes most read s bytes x e = omega (arith, IsEnd-shorter bytes x.1 (s.suffix bytes x e))
+
+takes-done : {A : Type 0} (v : A) → Takes 0 (λ rest. Ok (v, rest))
+takes-done v rest x e = let k : (v, rest) ≡ x = cc in rw (← k) (omega arith)
+
+takes-ranged : {A : Type 0} (t : Bool) (v : A) (bytes rest : List ℕ) (x : A × List ℕ) → ranged t v bytes rest ≡ Ok x → 0 + length x.1 ≤ length rest
+takes-ranged true v bytes rest x e = takes-done v rest x e
+takes-ranged false v bytes rest x e = absurd cc
+
+takes-bytes : (n : ℕ) → Takes n (bytes_at n)
+takes-bytes n bytes x e =
+    let g = guard_ok (ltb (length bytes) n) short (take n bytes, drop n bytes) x e in
+    rw (← g.1) (omega (arith, length-drop n bytes, ltb-false _ _ g.0))
+
+takes-byte : Takes 1 byte_at
+unfolding byte_at
+takes-byte [] x e = absurd cc
+takes-byte (b ∷ rest) x e = let k : (b, rest) ≡ x = cc in rw (← k) (omega arith)
+
+takes-clock : Takes 6 clock_at
+unfolding clock_at
+takes-clock = Takes-then 6 0 (bytes_at 6) (λ bytes six. ranged (nat_lt 0 (from_be_bytes w64 (0 ∷ 0 ∷ six.0))) (from_be_bytes w64 (0 ∷ 0 ∷ six.0)) bytes six.1) (takes-bytes 6)
+    (λ bytes six. takes-ranged _ _ bytes six.1)
+
+takes-site : Takes 1 site_at
+unfolding site_at
+takes-site = Takes-then 1 0 byte_at (λ bytes site. ranged (nat_le 1 site.0 && nat_le site.0 16) site.0 bytes site.1) takes-byte (λ bytes site. takes-ranged _ _ bytes site.1)
+
+takes-stamp : Takes 7 stamp_at
+unfolding stamp_at
+takes-stamp = Takes-then 6 1 clock_at (λ _ clock. site_at clock.1 >>= λ site. Ok (record { clock = clock.0; site = site.0 }, site.1)) takes-clock
+    (λ _ clock. Takes-then 1 0 site_at (λ _ site. Ok (record { clock = clock.0; site = site.0 }, site.1)) takes-site (λ _ site. takes-done _ site.1) clock.1)
+
+takes-number : Takes 2 number_at
+unfolding number_at
+takes-number = Takes-then 2 0 (bytes_at 2) (λ bytes two. ranged (nat_lt 0 (from_be_bytes w16 two.0)) (from_be_bytes w16 two.0) bytes two.1) (takes-bytes 2)
+    (λ bytes two. takes-ranged _ _ bytes two.1)
+
+pub event-long : (bytes : List ℕ) (x : Event × List ℕ) → event_at bytes ≡ Ok x → 9 + length x.1 ≤ length bytes
+unfolding event_at
+event-long = Takes-then 7 2 stamp_at (λ _ stamp. number_at stamp.1 >>= λ number. op_at stamp.0 number.1 >>= λ op. Ok (record { stamp = stamp.0; number = number.0; op = op.0 }, op.1)) takes-stamp
+    (λ _ stamp. Takes-then 2 0 number_at (λ _ number. op_at stamp.0 number.1 >>= λ op. Ok (record { stamp = stamp.0; number = number.0; op = op.0 }, op.1)) takes-number
+    (λ _ number. Takes-then 0 0 (op_at stamp.0) (λ _ op. Ok (record { stamp = stamp.0; number = number.0; op = op.0 }, op.1)) (Steady-takes 83 (op_at stamp.0) (Steady-op stamp.0)) (λ _ op. takes-done _ op.1) number.1) stamp.1)

@@ -1,0 +1,101 @@
+ghost use Rattle.std.specs.Prelude.{◌≡◌, true, IfOk};
+ghost use Rattle.gd_base.specs.Stamps as stamps;
+ghost use Rattle.gd_events.specs.Sound.{is_in_range, names_before};
+ghost use Rattle.gd_model.specs.Reading.{Gives};
+ghost use Rattle.gd_model.specs.EventBytes.{create_at, delete_at, move_at, raise_at, op_at, event_at};
+
+use crate::bytes::Bytes;
+use gd_base::{FieldFault, FieldWhy, PLACE_LIMIT, SIZE_LIMIT, Stamp};
+use gd_events::{Event, Op};
+
+impl<'a> Bytes<'a> {
+    /// Reads the event at the front, of 17 to 92 bytes: its stamp, its number, a tag and the operation by the tag.
+    /// The first fault is the answer: `Short` at the end of all bytes where a field isn't whole, `FutureId` at an id
+    /// in the body that isn't before the event's stamp, `NotBuilt` at a tag from 4 to 8, and `Field` at the first byte
+    /// of any other field that is out of its range.
+    #[tactic(auto, using(crate::proofs::Whole::soundness), unfolding(gd_model::specs::EventBytes::event_at))]
+    pub fn event(&mut self) -> Result<Event, FieldFault>
+        ensures { Gives (λ e. (e, self.new)) result (event_at self.old) }
+    {
+        let stamp = self.stamp()?;
+        let number = self.number()?;
+        let op = self.op(stamp)?;
+        match Event::new(stamp, number, op) {
+            Ok(event) => Ok(event),
+            Err(_) => unreachable!(),
+        }
+    }
+
+    /// The operation of the event with that stamp.
+    #[tactic(auto, unfolding(gd_model::specs::EventBytes::op_at))]
+    fn op(&mut self, stamp: Stamp) -> Result<Op, FieldFault>
+        ensures read { Gives (λ x. (x, self.new)) result (op_at stamp self.old) }
+        ensures ranges { IfOk result (λ op. is_in_range op ≡ true) }
+        ensures before { IfOk result (λ op. names_before stamp op ≡ true) }
+    {
+        let unbuilt = self.fault(FieldWhy::NotBuilt);
+        let unknown = self.fault(FieldWhy::Field);
+        match self.byte()? {
+            1 => self.create(),
+            2 => self.delete(stamp),
+            3 => self.shift(stamp),
+            9 => self.raise(stamp),
+            4..=8 => Err(unbuilt),
+            _ => Err(unknown),
+        }
+    }
+
+    #[tactic(auto, unfolding(gd_model::specs::EventBytes::create_at))]
+    fn create(&mut self) -> Result<Op, FieldFault>
+        ensures read { Gives (λ x. (x, self.new)) result (create_at self.old) }
+        ensures ranges { IfOk result (λ op. is_in_range op ≡ true) }
+        ensures before { (stamp : stamps.Stamp) → IfOk result (λ op. names_before stamp op ≡ true) }
+    {
+        let kind = self.shape()?;
+        let x = self.signed(PLACE_LIMIT)?;
+        let y = self.signed(PLACE_LIMIT)?;
+        let w = self.signed(SIZE_LIMIT)?;
+        let h = self.signed(SIZE_LIMIT)?;
+        let label = self.label()?;
+        Ok(Op::Create {
+            kind,
+            x,
+            y,
+            w,
+            h,
+            label,
+        })
+    }
+
+    #[tactic(auto, unfolding(gd_model::specs::EventBytes::delete_at))]
+    fn delete(&mut self, stamp: Stamp) -> Result<Op, FieldFault>
+        ensures read { Gives (λ x. (x, self.new)) result (delete_at stamp self.old) }
+        ensures ranges { IfOk result (λ op. is_in_range op ≡ true) }
+        ensures before { IfOk result (λ op. names_before stamp op ≡ true) }
+    {
+        let id = self.id(stamp)?;
+        Ok(Op::Delete { id })
+    }
+
+    #[tactic(auto, unfolding(gd_model::specs::EventBytes::move_at))]
+    fn shift(&mut self, stamp: Stamp) -> Result<Op, FieldFault>
+        ensures read { Gives (λ x. (x, self.new)) result (move_at stamp self.old) }
+        ensures ranges { IfOk result (λ op. is_in_range op ≡ true) }
+        ensures before { IfOk result (λ op. names_before stamp op ≡ true) }
+    {
+        let id = self.id(stamp)?;
+        let x = self.signed(PLACE_LIMIT)?;
+        let y = self.signed(PLACE_LIMIT)?;
+        Ok(Op::Move { id, x, y })
+    }
+
+    #[tactic(auto, unfolding(gd_model::specs::EventBytes::raise_at))]
+    fn raise(&mut self, stamp: Stamp) -> Result<Op, FieldFault>
+        ensures read { Gives (λ x. (x, self.new)) result (raise_at stamp self.old) }
+        ensures ranges { IfOk result (λ op. is_in_range op ≡ true) }
+        ensures before { IfOk result (λ op. names_before stamp op ≡ true) }
+    {
+        let id = self.id(stamp)?;
+        Ok(Op::Raise { id })
+    }
+}

@@ -1,0 +1,14 @@
+//! Reads the bytes of events and of the header of a log. No call takes memory.
+#![tactic(auto)]
+
+mod bytes;
+mod event;
+mod header;
+mod read;
+#[cfg(test)]
+mod tests;
+
+pub use bytes::Bytes;
+pub use gd_base::{WireFault, WireWhy};
+pub use header::LogHeader;
+pub use read::{read_event, read_header};
