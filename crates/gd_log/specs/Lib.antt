@@ -1,2 +1,3 @@
 pub mod Stream
 pub mod Turns
+pub mod Steps

@@ -1,6 +1,7 @@
 -- The numbers that a reader keeps in place of the events that it has read.
 use Rattle.std.specs.Prelude.{◌≡◌, ℕ, ◌-◌, ◌≤◌, List, slice_index, Option, Some, None, Result, Ok, Err, ⊤}
 use Rattle.gd_base.specs.declared.fault.LogWhy.{LogWhy}
+use Rattle.gd_base.specs.declared.fault.LogWhy.TheVariants.{NoSite, Turn}
 use Rattle.gd_events.specs.Events.{Event}
 use Rattle.gd_model.specs.LogBytes.{count_of, last_clock}
 
@@ -18,3 +19,9 @@ pub record Follows (turns : Turns) (seen : List Event) : Type 0 where
 abbrev pub TurnIs : Result ⊤ LogWhy → Option LogWhy → Type 0
 TurnIs (Ok x) fault = fault ≡ None
 TurnIs (Err why) fault = fault ≡ Some why
+
+-- where the fault stands in its record: at the site byte, at the number, or at the first byte
+abbrev pub turn_place : LogWhy → ℕ
+turn_place NoSite = 6
+turn_place Turn = 7
+turn_place other = 0

@@ -2,4 +2,5 @@
 #![tactic(auto)]
 
 mod ahead;
+mod record;
 mod turns;

@@ -1,0 +1,131 @@
+//! One record of a log.
+
+ghost use Rattle.std.specs.Prelude.{◌≡◌, ℕ, ◌+◌, ◌≤◌, [], ◌∷◌, ◌++◌, List, length, sum, IfOk, IfSome, IsSome, IfErr, OnErr};
+ghost use Rattle.gd_events.specs.Events.{Event as EventValue};
+ghost use Rattle.gd_model.specs.LogBytes.{log_why, record_at, step_at};
+ghost use Rattle.gd_log.specs.Turns.{turn_place};
+ghost use Rattle.gd_outside.specs.Causes.{Rose};
+ghost use Rattle.gd_log.specs.Stream.{stream};
+ghost use Rattle.gd_log.specs.Turns.{Follows};
+ghost use Rattle.gd_log.specs.Steps.{RecordIs, StepIs, StreamStepIs};
+
+use crate::ahead::Ahead;
+use crate::turns::Turns;
+use gd_base::{FieldFault, FieldWhy, LogWhy};
+use gd_events::Event;
+use gd_outside::{Failed, Source};
+use gd_wire::Bytes;
+
+/// Stands in front of each record.
+const GATE: u8 = 0xC3;
+
+/// The most bytes that a gate and an event take.
+pub const RECORD: usize = 93;
+
+/// The first fault of a record, with its place counted from the first byte that was read.
+#[derive(Clone, Copy, Debug, PartialEq, Eq)]
+pub struct RecordFault {
+    pub at: usize,
+    pub why: LogWhy,
+}
+
+/// Why no record was read.
+#[derive(Clone, Copy, Debug, PartialEq, Eq)]
+pub enum Stop {
+    Read,
+    Bad(RecordFault),
+}
+
+impl From<Failed> for Stop {
+    ghost use Rattle.std.specs.Prelude.{◌≡◌};
+    ghost use Rattle.gd_log.specs.declared.record.Stop.TheVariants.{Read};
+
+    ghost from_gives = { λ _ e. e ≡ Read };
+
+    fn from(_: Failed) -> Self {
+        Stop::Read
+    }
+}
+
+fn log_why(why: FieldWhy) -> LogWhy
+    ensures { result ≡ log_why why }
+{
+    match why {
+        FieldWhy::Short => LogWhy::Short,
+        FieldWhy::Magic => LogWhy::Magic,
+        FieldWhy::Version => LogWhy::Version,
+        FieldWhy::Field => LogWhy::Field,
+        FieldWhy::FutureId => LogWhy::FutureId,
+        FieldWhy::NotBuilt => LogWhy::NotBuilt,
+    }
+}
+
+/// The fault of a field of these bytes.
+pub fn field_fault(bytes: &[u8], fault: FieldFault) -> RecordFault
+    requires { fault.left ≤ length bytes.now }
+    ensures at { result.at + fault.left ≡ length bytes.now }
+    ensures why { result.why ≡ log_why fault.why }
+{
+    RecordFault {
+        at: bytes.len() - fault.left,
+        why: log_why(fault.why),
+    }
+}
+
+/// The fault of an event that isn't next in turn: at its site byte, its number, or its first byte.
+fn turn_fault(why: LogWhy) -> RecordFault
+    ensures { result ≡ record { at = turn_place why; why = why } }
+{
+    let at = match why {
+        LogWhy::NoSite => 6,
+        LogWhy::Turn => 7,
+        _ => 0,
+    };
+    RecordFault { at, why }
+}
+
+/// The event at the front of a record that is next in turn, and how many bytes it takes.
+fn parse_event(n: u8, turns: &mut Turns, body: &[u8]) -> Result<(Event, usize), RecordFault>
+    requires { n ≤ 16 }
+    ensures exact { (seen : List EventValue) → Follows turns.old seen → RecordIs result (record_at n seen body.now) body.now }
+    ensures follows { IfOk result (λ x. (seen : List EventValue) → Follows turns.old seen → Follows turns.new (seen ++ x.0 ∷ [])) }
+    ensures one_more { IfOk result (λ x. sum turns.new.counts ≡ sum turns.old.counts + 1) }
+    ensures within { IfOk result (λ x. x.1 ≤ length body.now) }
+    ensures near { IfErr result (λ f. f.at ≤ length body.now) }
+    ensures err { OnErr result (turns.new ≡ turns.old) }
+{
+    let mut bytes = Bytes::new(body);
+    match bytes.event() {
+        Ok(event) => match turns.take(n, &event) {
+            Ok(()) => Ok((event, body.len() - bytes.len())),
+            Err(why) => Err(turn_fault(why)),
+        },
+        Err(fault) => Err(field_fault(body, fault)),
+    }
+}
+
+/// The event behind the gate at the front of these bytes, and how many bytes both take. None is the end of the log.
+fn parse_record(n: u8, turns: &mut Turns, bytes: &[u8]) -> Result<Option<(Event, usize)>, RecordFault>
+    requires { n ≤ 16 }
+    ensures exact { (seen : List EventValue) → Follows turns.old seen → StepIs result (step_at n seen bytes.now) bytes.now }
+    ensures follows { IfOk result (λ o. IfSome o (λ x. (seen : List EventValue) → Follows turns.old seen → Follows turns.new (seen ++ x.0 ∷ []))) }
+    ensures one_more { IfOk result (λ o. IfSome o (λ x. sum turns.new.counts ≡ sum turns.old.counts + 1)) }
+    ensures within { IfOk result (λ o. IfSome o (λ x. x.1 ≤ length bytes.now)) }
+    ensures near { IfErr result (λ f. f.at ≤ length bytes.now) }
+    ensures none { result ≡ Ok None → turns.new ≡ turns.old }
+    ensures err { OnErr result (turns.new ≡ turns.old) }
+{
+    let Some((gate, body)) = bytes.split_first() else {
+        return Ok(None);
+    };
+    if *gate != GATE {
+        return Ok(None);
+    }
+    match parse_event(n, turns, body) {
+        Ok((event, count)) => Ok(Some((event, count + 1))),
+        Err(fault) => Err(RecordFault {
+            at: fault.at + 1,
+            why: fault.why,
+        }),
+    }
+}
