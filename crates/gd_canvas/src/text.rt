@@ -1,4 +1,7 @@
-//! The text of a drawing.
+//! The text of a drawing: one line an object, in printed order, and the number of lines.
 
-pub mod line;
-pub mod object;
+mod line;
+mod object;
+mod write;
+
+pub use write::write_text;
