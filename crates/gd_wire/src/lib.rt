@@ -5,8 +5,6 @@ mod bytes;
 mod event;
 mod header;
 mod read;
-#[cfg(test)]
-mod tests;
 
 pub use bytes::Bytes;
 pub use gd_base::{WireFault, WireWhy};
