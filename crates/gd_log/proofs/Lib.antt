@@ -1,3 +1,4 @@
 pub mod StreamLemmas
 pub mod RecordLemmas
 pub mod StepLemmas
+pub mod TurnLemmas

@@ -10,9 +10,9 @@ use Rattle.gd_base.specs.declared.fault.LogWhy.TheVariants.{NoSite, Turn}
 use Rattle.gd_events.specs.Events.{Event}
 use Rattle.gd_model.specs.Reading.{Reads, ◌>>=◌, place}
 use Rattle.gd_model.specs.EventBytes.{event_at}
-use Rattle.gd_model.specs.LogBytes.{LogFault, log_why, in_log, turn_fault, left_of, settled, gate, record_at, step_at}
+use Rattle.gd_model.specs.LogBytes.{Header, LogFault, log_why, in_log, turn_fault, left_of, settled, gate, header_at, record_at, step_at}
 use Rattle.gd_wire.proofs.Steady.{Steady, farther, IsEnd}
-use Rattle.gd_wire.proofs.SteadyFields.{Steady-event, event-long}
+use Rattle.gd_wire.proofs.SteadyFields.{Steady-event, Steady-header, event-long}
 use Rattle.gd_log.specs.Turns.{turn_place}
 use Rattle.gd_log.specs.Steps.{Step, IsFault}
 
@@ -105,4 +105,18 @@ step-there n seen b bytes at why g h = record {
   is = step-faulty n seen b bytes (record { why = why; left = h.left }) g h.is;
   inside = omega (arith, h.inside);
   there = omega (arith, h.inside, h.there);
+}
+
+-- ---- the header
+
+-- what a header leaves, by how many bytes it took
+pub header-left : (bytes : List ℕ) (x : Header × List ℕ) → header_at bytes ≡ Ok x → (length x.1 ≤ length bytes) × (drop (length bytes - length x.1) bytes ≡ x.1)
+header-left bytes x e = left-by-end bytes x.1 (Steady-header.suffix bytes x e)
+
+pub header-faulty : (bytes : List ℕ) (f : FieldFault) (at : ℕ) (why : LogWhy) → header_at bytes ≡ Err f → at + f.left ≡ length bytes → why ≡ log_why f.why → IsFault (in_log (header_at bytes)) bytes at why
+header-faulty bytes f at why e sum same = rw same record {
+  left = f.left;
+  is = rw e refl;
+  inside = omega arith;
+  there = omega arith;
 }

@@ -1,7 +1,7 @@
 -- A step over what was read ahead is the step over the whole stream, where enough was read ahead.
 use Rattle.std.proofs.Common.{◌≡◌, ◌≢◌, ℕ, suc, ◌+◌, ◌-◌, ◌<◌, ◌≤◌, ◌⊎◌, Bool, true, false, cond, eqb, List, [], ◌∷◌, ◌++◌, length, drop, refl, sym, ap, subst, ◌∙◌, append_assoc, arith, inl, inr}
 use Rattle.std.specs.Prelude.{Option, Some, None, Result, Ok, Err}
-use Rattle.std.proofs.lemmas.List.{length-append, append-nil}
+use Rattle.std.proofs.lemmas.List.{length-append, length-drop, append-nil}
 use Rattle.std.proofs.Common.{ltb}
 use Rattle.std.proofs.lemmas.Bool.{ltb-true, ltb-false}
 use Rattle.gd_base.specs.declared.fault.FieldFault.{FieldFault}
@@ -168,3 +168,28 @@ header-fault-more bytes more f enough e = by (header_at bytes) refl e where
   by (Err g) q k =
       let same : refused_by (log_why g.why) g.left ≡ f = cc in
       rw (front-err 11 header_at Steady-header bytes more g enough q) (ap (λ (h : LogFault). header_fault (farther_on h more)) same)
+
+-- ---- what was read ahead of a stream
+
+-- a step that takes an event takes it from the stream
+pub stream-taken : (n : ℕ) (seen : List Event) (all ahead more : List ℕ) (e : Event) (k : ℕ) → all ≡ ahead ++ more → k ≤ length ahead → step_at n seen ahead ≡ Ok (Some (e, drop k ahead))
+    → (step_at n seen all ≡ Ok (Some (e, drop k ahead ++ more))) × (length all ≡ k + length (drop k ahead ++ more))
+stream-taken n seen all ahead more e k same fits h =
+    (rw same (step-more n seen ahead more (e, drop k ahead) h), rw same (omega (arith, length-append ahead more, length-append (drop k ahead) more, length-drop k ahead)))
+
+pub stream-ended : (n : ℕ) (seen : List Event) (all ahead more : List ℕ) → all ≡ ahead ++ more → Enough 93 ahead more → step_at n seen ahead ≡ Ok None → step_at n seen all ≡ Ok None
+stream-ended n seen all ahead more same enough h = rw same (step-none-more n seen ahead more enough h)
+
+pub stream-faulty : (n : ℕ) (seen : List Event) (all ahead more : List ℕ) (at : ℕ) (why : LogWhy) → all ≡ ahead ++ more → Enough 93 ahead more → IsFault (step_at n seen ahead) ahead at why → IsFault (step_at n seen all) all at why
+stream-faulty n seen all ahead more at why same enough h =
+    rw same (there-more (step_at n seen) ahead more at why (λ f e. step-fault-more n seen ahead more f enough e) h)
+
+-- a header that was read ahead is taken from the stream
+pub header-taken : (all ahead more : List ℕ) (h : Header) (k : ℕ) → all ≡ ahead ++ more → k ≤ length ahead → in_log (header_at ahead) ≡ Ok (h, drop k ahead)
+    → (in_log (header_at all) ≡ Ok (h, drop k ahead ++ more)) × (k + length (drop k ahead ++ more) ≡ length all)
+header-taken all ahead more h k same fits e =
+    (rw same (header-more ahead more (h, drop k ahead) e), rw same (omega (arith, length-append ahead more, length-append (drop k ahead) more, length-drop k ahead)))
+
+pub header-there : (all ahead more : List ℕ) (at : ℕ) (why : LogWhy) → all ≡ ahead ++ more → Enough 11 ahead more → IsFault (in_log (header_at ahead)) ahead at why → IsFault (in_log (header_at all)) all at why
+header-there all ahead more at why same enough h =
+    rw same (there-more (λ bytes. in_log (header_at bytes)) ahead more at why (λ f e. header-fault-more ahead more f enough e) h)

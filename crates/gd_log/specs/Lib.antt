@@ -1,3 +1,4 @@
 pub mod Stream
 pub mod Turns
+pub mod Reader
 pub mod Steps

@@ -2,5 +2,6 @@
 #![tactic(auto)]
 
 mod ahead;
+mod reader;
 mod record;
 mod turns;

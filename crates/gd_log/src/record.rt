@@ -1,13 +1,13 @@
 //! One record of a log.
 
-ghost use Rattle.std.specs.Prelude.{◌≡◌, ℕ, ◌+◌, ◌≤◌, [], ◌∷◌, ◌++◌, List, length, sum, IfOk, IfSome, IsSome, IfErr, OnErr};
+ghost use Rattle.std.specs.Prelude.{◌≡◌, ℕ, ◌+◌, ◌≤◌, [], ◌∷◌, ◌++◌, List, length, IfOk, IfSome, IsSome, IfErr, OnErr};
 ghost use Rattle.gd_events.specs.Events.{Event as EventValue};
 ghost use Rattle.gd_model.specs.LogBytes.{log_why, record_at, step_at};
 ghost use Rattle.gd_log.specs.Turns.{turn_place};
 ghost use Rattle.gd_outside.specs.Causes.{Rose};
 ghost use Rattle.gd_log.specs.Stream.{stream};
-ghost use Rattle.gd_log.specs.Turns.{Follows};
-ghost use Rattle.gd_log.specs.Steps.{RecordIs, StepIs, StreamStepIs};
+ghost use Rattle.gd_log.specs.Turns.{Follows, OneMore};
+ghost use Rattle.gd_log.specs.Steps.{RecordIs, StepIs, StreamStepIs, IsNear};
 
 use crate::ahead::Ahead;
 use crate::turns::Turns;
@@ -89,7 +89,7 @@ fn parse_event(n: u8, turns: &mut Turns, body: &[u8]) -> Result<(Event, usize), 
     requires { n ≤ 16 }
     ensures exact { (seen : List EventValue) → Follows turns.old seen → RecordIs result (record_at n seen body.now) body.now }
     ensures follows { IfOk result (λ x. (seen : List EventValue) → Follows turns.old seen → Follows turns.new (seen ++ x.0 ∷ [])) }
-    ensures one_more { IfOk result (λ x. sum turns.new.counts ≡ sum turns.old.counts + 1) }
+    ensures one_more { IfOk result (λ x. OneMore turns.old turns.new) }
     ensures within { IfOk result (λ x. x.1 ≤ length body.now) }
     ensures near { IfErr result (λ f. f.at ≤ length body.now) }
     ensures err { OnErr result (turns.new ≡ turns.old) }
@@ -109,7 +109,7 @@ fn parse_record(n: u8, turns: &mut Turns, bytes: &[u8]) -> Result<Option<(Event,
     requires { n ≤ 16 }
     ensures exact { (seen : List EventValue) → Follows turns.old seen → StepIs result (step_at n seen bytes.now) bytes.now }
     ensures follows { IfOk result (λ o. IfSome o (λ x. (seen : List EventValue) → Follows turns.old seen → Follows turns.new (seen ++ x.0 ∷ []))) }
-    ensures one_more { IfOk result (λ o. IfSome o (λ x. sum turns.new.counts ≡ sum turns.old.counts + 1)) }
+    ensures one_more { IfOk result (λ o. IfSome o (λ x. OneMore turns.old turns.new)) }
     ensures within { IfOk result (λ o. IfSome o (λ x. x.1 ≤ length bytes.now)) }
     ensures near { IfErr result (λ f. f.at ≤ length bytes.now) }
     ensures none { result ≡ Ok None → turns.new ≡ turns.old }
@@ -127,5 +127,36 @@ fn parse_record(n: u8, turns: &mut Turns, bytes: &[u8]) -> Result<Option<(Event,
             at: fault.at + 1,
             why: fault.why,
         }),
+    }
+}
+
+/// The next event of a log, and how many bytes it takes with its gate. None is the end of the log.
+pub fn read_record<S: Source>(
+    n: u8,
+    turns: &mut Turns,
+    ahead: &mut Ahead,
+    source: &mut S,
+) -> Result<Option<(Event, usize)>, Stop>
+    requires { n ≤ 16 }
+    ensures was { IsSome (S.seen source.new).left → IsSome (S.seen source.old).left }
+    ensures exact { (seen : List EventValue) → Follows turns.old seen → IsSome (S.seen source.new).left
+        → StreamStepIs result (step_at n seen (stream ahead.old (S.seen source.old).left)) (stream ahead.old (S.seen source.old).left) (stream ahead.new (S.seen source.new).left) }
+    ensures follows { IfOk result (λ o. IfSome o (λ x. (seen : List EventValue) → Follows turns.old seen → Follows turns.new (seen ++ x.0 ∷ []))) }
+    ensures one_more { IfOk result (λ o. IfSome o (λ x. OneMore turns.old turns.new)) }
+    ensures few { IfOk result (λ o. IfSome o (λ x. x.1 ≤ 65536)) }
+    ensures near { IsNear result }
+    ensures none { result ≡ Ok None → turns.new ≡ turns.old }
+    ensures err { OnErr result (turns.new ≡ turns.old) }
+    ensures count { (S.seen source.old).faults ≤ (S.seen source.new).faults }
+    ensures cause { result ≡ Err Stop.Read → Rose (S.seen source.old).faults (S.seen source.new).faults }
+{
+    ahead.fill(source, RECORD)?;
+    match parse_record(n, turns, ahead.as_slice()) {
+        Ok(Some((event, count))) => {
+            ahead.skip(count);
+            Ok(Some((event, count)))
+        }
+        Ok(None) => Ok(None),
+        Err(fault) => Err(Stop::Bad(fault)),
     }
 }

@@ -1,7 +1,7 @@
-ghost use Rattle.std.specs.Prelude.{◌≡◌, ℕ, ◌+◌, ◌≤◌, [], ◌∷◌, ◌++◌, List, sum, OnOk, OnErr};
+ghost use Rattle.std.specs.Prelude.{◌≡◌, ◌≤◌, [], ◌∷◌, ◌++◌, List, sum, OnOk, OnErr};
 ghost use Rattle.gd_events.specs.Events.{Event};
 ghost use Rattle.gd_model.specs.LogBytes.{turn_fault};
-ghost use Rattle.gd_log.specs.Turns.{Follows, TurnIs};
+ghost use Rattle.gd_log.specs.Turns.{Follows, OneMore, TurnIs};
 
 use gd_base::LogWhy;
 use gd_events::Event;
@@ -26,8 +26,10 @@ impl Model for Turns {
 }
 
 impl Turns {
+    /// No events so far.
     pub fn new() -> Self
-        ensures { Follows result [] }
+        ensures none { Follows result [] }
+        ensures zero { sum result.counts ≡ 0 }
     {
         Turns {
             counts: [0; 16],
@@ -41,7 +43,7 @@ impl Turns {
         requires { n ≤ 16 }
         ensures exact { (seen : List Event) → Follows self.old seen → TurnIs result (turn_fault n seen event.now) }
         ensures follows { OnOk result ((seen : List Event) → Follows self.old seen → Follows self.new (seen ++ event.now ∷ [])) }
-        ensures one_more { OnOk result (sum self.new.counts ≡ sum self.old.counts + 1) }
+        ensures one_more { OnOk result (OneMore self.old self.new) }
         ensures err { OnErr result (self.new ≡ self.old) }
     {
         let site = event.stamp().site();
