@@ -2,3 +2,4 @@ pub mod StreamLemmas
 pub mod RecordLemmas
 pub mod StepLemmas
 pub mod TurnLemmas
+pub mod EventLemmas

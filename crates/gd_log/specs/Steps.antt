@@ -1,5 +1,5 @@
 -- What reading one record answers, against the definition of a step of a log.
-use Rattle.std.specs.Prelude.{◌≡◌, ℕ, ◌+◌, ◌≤◌, List, [], ◌++◌, length, drop, sum, Option, Some, None, Result, Ok, Err}
+use Rattle.std.specs.Prelude.{◌≡◌, ℕ, ◌+◌, ◌≤◌, List, ◌++◌, length, drop, Option, Some, None, Result, Ok, Err}
 use Rattle.gd_base.specs.declared.fault.LogWhy.{LogWhy}
 use Rattle.gd_events.specs.Events.{Event}
 use Rattle.gd_model.specs.Reading.{place}
@@ -10,7 +10,6 @@ use Rattle.gd_log.specs.declared.record.Stop.TheVariants as stop
 use Rattle.gd_log.specs.declared.reader.LogFault as reader
 use Rattle.gd_log.specs.declared.reader.LogFault.TheVariants.{Read, Bad}
 use Rattle.gd_log.specs.Reader.{Reader}
-use Rattle.gd_log.specs.Turns.{Follows}
 
 -- what one step of a log is: an event and the bytes behind it, or the end, or the first fault
 abbrev pub Step : Type 0
@@ -55,7 +54,7 @@ HeaderIs (Err f) bytes = IsFault (in_log (header_at bytes)) bytes f.at f.why
 
 -- a reader that stands behind the header of these bytes, and what the source has left; or the fault
 abbrev pub StartIs : Result (Reader × Header) reader.LogFault → List ℕ → List ℕ → Type 0
-StartIs (Ok (r, h)) all left = (in_log (header_at all) ≡ Ok (h, r.ahead ++ left)) × (r.header ≡ h) × (r.place + length (r.ahead ++ left) ≡ length all) × Follows r.turns [] × (sum r.turns.counts ≡ 0)
+StartIs (Ok (r, h)) all left = (in_log (header_at all) ≡ Ok (h, r.ahead ++ left)) × (r.place + length (r.ahead ++ left) ≡ length all)
 StartIs (Err Read) all left = Unit {0}
 StartIs (Err (Bad at why)) all left = IsFault (in_log (header_at all)) all at why
 

@@ -2,6 +2,7 @@
 #![tactic(auto)]
 
 mod ahead;
+mod log;
 mod reader;
 mod record;
 mod turns;

@@ -67,6 +67,8 @@ impl LogReader {
     /// `Read` where a read failed, and `Bad` at the first fault of the header.
     pub fn start<S: Source>(source: &mut S) -> Result<(LogReader, LogHeader), LogFault>
         ensures was { IsSome (S.seen source.new).left → IsSome (S.seen source.old).left }
+        ensures header { IfOk result (λ x. x.0.header ≡ x.1) }
+        ensures fresh { IfOk result (λ x. Follows x.0.turns []) }
         ensures exact { IsSome (S.seen source.new).left → StartIs result (told (S.seen source.old).left) (told (S.seen source.new).left) }
         ensures count { (S.seen source.old).faults ≤ (S.seen source.new).faults }
         ensures cause { result ≡ Err LogFault.Read → Rose (S.seen source.old).faults (S.seen source.new).faults }

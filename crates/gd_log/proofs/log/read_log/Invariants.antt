@@ -1,0 +1,20 @@
+use Rattle.std.proofs.Common.{◌≡◌, ◌+◌, ◌-◌, ◌≤◌, length, sum}
+use Rattle.std.specs.Prelude.{IsSome}
+use Rattle.gd_model.specs.LogBytes.{log}
+use Rattle.gd_outside.specs.Told.{told}
+use Rattle.gd_log.specs.Stream.{stream}
+use Rattle.gd_log.specs.Turns.{Follows}
+use Rattle.gd_log.proofs.EventLemmas.{log_from}
+use Rattle.gd_log.proofs.log.read_log.Given as goal
+
+abbrev pub invariant-records : goal.invariant-records
+invariant-records g l = record {
+  was : IsSome (g.S.Source.seen l.source).left → IsSome (g.S.Source.seen l.fn.source).left;
+  follows : Follows l.reader.turns l.events;
+  exact : IsSome (g.S.Source.seen l.source).left → log (told (g.S.Source.seen l.fn.source).left) ≡ log_from l.reader.header l.events (stream l.reader.ahead (g.S.Source.seen l.source).left);
+  place : IsSome (g.S.Source.seen l.source).left → l.reader.place + length (stream l.reader.ahead (g.S.Source.seen l.source).left) ≡ length (told (g.S.Source.seen l.fn.source).left);
+  count : (g.S.Source.seen l.fn.source).faults ≤ (g.S.Source.seen l.source).faults;
+}
+
+abbrev pub decreases-records : goal.decreases-records
+decreases-records g l = 1048560 - sum l.reader.turns.counts
