@@ -1,14 +1,18 @@
 -- How a run ends, from what its calls did.
-use Rattle.std.proofs.Common.{◌≡◌, List, [], refl}
-use Rattle.std.specs.Prelude.{Result, Ok, Err, ⊤}
+use Rattle.std.proofs.Common.{◌≡◌, ℕ, ◌≤◌, List, [], refl, sym, subst, arith}
+use Rattle.std.specs.Prelude.{Result, Ok, Err, ⊤, IsSome}
+use Rattle.gd_outside.specs.Causes.{Rose}
+use Rattle.gd_outside.specs.Seen.{SeenSource, SeenSink, SeenJournal, SeenLink}
+use Rattle.gd_outside.proofs.ToldLemmas.{grows_nothing}
 use Rattle.gd_outside.specs.declared.end.End.{End}
 use Rattle.gd_outside.specs.declared.end.End.TheVariants as early
 use Rattle.gd_outside.specs.declared.status.Status.{Status}
-use Rattle.gd_outside.specs.declared.status.Status.TheVariants.{Done, Usage, BadLog, LineLimit, NotBuilt}
+use Rattle.gd_outside.specs.declared.status.Status.TheVariants.{Done, Usage, BadLog, ReadFault, WriteFault, JournalFault, LinkFault, NoMemory, LineLimit, NotBuilt}
 use Rattle.gd_model.specs.Effects.{Effect}
-use Rattle.gd_effects.specs.Outside.{Outside, IsTold}
-use Rattle.gd_effects.specs.Done.{Did, Does}
+use Rattle.gd_effects.specs.Outside.{Outside, outside, IsTold}
+use Rattle.gd_effects.specs.Done.{Did, DidFront, NoneFell, Does, DoesAll}
 use Rattle.gd_effects.specs.Endings.{Leaves, Causes, EndsAs, status_of}
+use Rattle.gd_effects.proofs.Doing.{did_then, front_then, half_then, torn_then, none_fell_then, was_then, told_before}
 
 -- a status that a run has only where nothing cuts it short
 abbrev pub IsWhole : Status → Type 0
@@ -36,3 +40,66 @@ ends_by (Err early.NoMemory) whole w h = record { counts = h.counts; cause = tt;
 ends_by (Err early.ReadFault) whole w h = record { counts = h.counts; cause = h.cause; was = h.was; leaves = h.done }
 ends_by (Err early.WriteFault) whole w h = record { counts = h.counts; cause = h.cause; was = h.was; leaves = h.done }
 ends_by (Err early.JournalFault) whole w h = record { counts = h.counts; cause = h.cause; was = h.was; leaves = h.done }
+
+-- ---- what was done before
+
+-- a count that rose at last rose in all
+causes_then : (s : Status) (a b c : Outside) → NoneFell a b → Causes s b c → Causes s a c
+causes_then Done a b c h k = k
+causes_then Usage a b c h k = k
+causes_then BadLog a b c h k = k
+causes_then ReadFault a b c h k = omega arith
+causes_then WriteFault a b c h k = omega arith
+causes_then JournalFault a b c h k = omega arith
+causes_then LinkFault a b c h k = omega arith
+causes_then NoMemory a b c h k = k
+causes_then LineLimit a b c h k = k
+causes_then NotBuilt a b c h k = k
+
+-- what was done at last was done in all, where nothing was done before
+leaves_then : (s whole : Status) (a b c : Outside) (xs : List Effect) → Did a [] b → Leaves xs whole s b c → Leaves xs whole s a c
+leaves_then Done whole a b c xs h k = (did_then h k.0, k.1)
+leaves_then Usage whole a b c xs h k = (did_then h k.0, k.1)
+leaves_then BadLog whole a b c xs h k = (did_then h k.0, k.1)
+leaves_then ReadFault whole a b c xs h k = front_then h k
+leaves_then WriteFault whole a b c xs h k = half_then h k
+leaves_then JournalFault whole a b c xs h k = torn_then h k
+leaves_then LinkFault whole a b c xs h k = did_then h k
+leaves_then NoMemory whole a b c xs h k = front_then h k
+leaves_then LineLimit whole a b c xs h k = (did_then h k.0, k.1)
+leaves_then NotBuilt whole a b c xs h k = (did_then h k.0, k.1)
+
+-- a run that first does nothing, and then what it owes, which is known only where all is told
+pub ends_after : (s : Status) {a b c : Outside} (xs ys : List Effect) (whole other : Status) → DoesAll a [] b → (IsTold c → (xs ≡ ys) × (whole ≡ other)) → EndsAs ys other s b c → EndsAs xs whole s a c
+ends_after s {a} {b} {c} xs ys whole other h same k = record {
+  counts = none_fell_then h.counts k.counts;
+  cause = causes_then s a b c h.counts k.cause;
+  was = was_then h.was k.was;
+  leaves = λ t.
+      let owed : Leaves ys other s a c = leaves_then s other a b c ys (h.done (told_before k.was t)) (k.leaves t) in
+      subst (λ z. Leaves z whole s a c) (sym (same t).0) (subst (λ z. Leaves ys z s a c) (sym (same t).1) owed);
+}
+
+-- a read does nothing outside
+pub does_read : (old new : SeenSource) (output : SeenSink) (journal : SeenJournal) (link : SeenLink) (steps : ℕ) → (IsSome new.left → IsSome old.left) → old.faults ≤ new.faults
+    → DoesAll (outside old output journal link steps) [] (outside new output journal link steps)
+does_read old new output journal link steps was count = record {
+  counts = record { input = count; output = omega arith; journal = omega arith; link = omega arith };
+  cause = tt;
+  was = record { input = was; entries = λ t. t };
+  done = λ t. record {
+    output = grows_nothing output.bytes;
+    journal = record { was = λ h. h; now = λ h. refl };
+    tried = grows_nothing link.tried;
+    steps = omega arith;
+  };
+}
+
+-- a run that does nothing and ends early by a failed read
+pub ends_by_read : {a b : Outside} (xs : List Effect) (whole : Status) → DoesAll a [] b → Rose a.input.faults b.input.faults → EndsAs xs whole ReadFault a b
+ends_by_read xs whole h rose = record {
+  counts = h.counts;
+  cause = rose;
+  was = h.was;
+  leaves = λ t. record { front = []; back = xs; split = refl; did = h.done t };
+}

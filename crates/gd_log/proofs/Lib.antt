@@ -3,3 +3,4 @@ pub mod RecordLemmas
 pub mod StepLemmas
 pub mod TurnLemmas
 pub mod EventLemmas
+pub mod ReplayLemmas

@@ -3,3 +3,4 @@ pub mod Turns
 pub mod Reader
 pub mod Steps
 pub mod Logs
+pub mod Replays

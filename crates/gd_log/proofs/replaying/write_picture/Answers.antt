@@ -1,0 +1,13 @@
+use Rattle.std.proofs.Common.{◌≡◌, List, [], sym, ◌∙◌, ap}
+use Rattle.std.specs.Prelude.{fold, map}
+use Rattle.gd_events.specs.Events.{Event}
+use Rattle.gd_model.specs.Drawing.{Drawing, applied, picture}
+use Rattle.gd_model.specs.Text.{text}
+use Rattle.gd_model.specs.Effects.{Print}
+use Rattle.gd_effects.proofs.Doing.{does_as}
+use Rattle.gd_log.proofs.replaying.write_picture.Goals as goal
+
+pub returns : goal.returns
+returns g c = λ input journal link steps.
+    let made = c.in_ok-canvas.ensures ∙ ap (λ (xs : List Event). fold applied [] xs) (c.as_slice.ensures ∙ c.in_ok-sort_by_stamp.ensures.ok) in
+    does_as (ap (λ (d : Drawing). map Print (text d)) (sym made)) (c.write_text.ensures input journal link steps)
