@@ -1,6 +1,4 @@
-use Rattle.std.proofs.Common.{◌≡◌, ◌≤◌, ◌+◌, ◌∷◌, [], List, get_or, length, ap, sym, ◌∙◌, arith}
-use Rattle.gd_model.specs.Drawing.{Drawing}
-use Rattle.gd_model.specs.Effects.{Effect, Print}
+use Rattle.std.proofs.Common.{◌≤◌, ◌+◌, length, ◌∙◌, arith}
 use Rattle.gd_effects.proofs.Doing.{along_from, along_then, along_last, along_exit}
 use Rattle.gd_canvas.proofs.TextLemmas.{text_from, text_from-all, text_from-item, text_from-last}
 use Rattle.gd_canvas.proofs.text.write.write_text.Goals as goal

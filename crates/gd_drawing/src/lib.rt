@@ -1,0 +1,4 @@
+//! What holds of drawings, over the definitions alone.
+#![tactic(auto)]
+
+pub mod laws;
