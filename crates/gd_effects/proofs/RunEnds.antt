@@ -1,12 +1,12 @@
 -- How a run ends, from what its calls did.
-use Rattle.std.proofs.Common.{◌≡◌, List, [], refl}
+use Rattle.std.proofs.Common.{List, refl}
 use Rattle.std.specs.Prelude.{Result, Ok, Err, ⊤}
 use Rattle.gd_outside.specs.declared.end.End.{End}
 use Rattle.gd_outside.specs.declared.end.End.TheVariants as early
 use Rattle.gd_outside.specs.declared.status.Status.{Status}
 use Rattle.gd_outside.specs.declared.status.Status.TheVariants.{Done, Usage, BadLog, LineLimit, NotBuilt}
 use Rattle.gd_model.specs.Effects.{Effect}
-use Rattle.gd_effects.specs.Outside.{Outside, IsTold}
+use Rattle.gd_effects.specs.Outside.{Outside}
 use Rattle.gd_effects.specs.Done.{Did, Does}
 use Rattle.gd_effects.specs.Endings.{Leaves, Causes, EndsAs, status_of}
 

@@ -1,5 +1,5 @@
 use Rattle.std.proofs.Common.{refl, arith}
-use Rattle.gd_effects.proofs.OneLine.{none_out, more_out, all_out, half_out}
+use Rattle.gd_effects.proofs.OneLine.{more_out, half_out}
 use Rattle.gd_effects.proofs.printing.print.Goals as goal
 
 pub returns-in_default : goal.returns-in_default
