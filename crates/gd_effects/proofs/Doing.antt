@@ -1,13 +1,13 @@
 -- Effects are done one list after another.
-use Rattle.std.proofs.Common.{◌≡◌, ℕ, ◌+◌, ◌≤◌, List, [], ◌∷◌, ◌++◌, refl, sym, ◌∙◌, ap, subst, append_assoc, arith}
+use Rattle.std.proofs.Common.{◌≡◌, ℕ, ◌+◌, List, [], ◌∷◌, ◌++◌, refl, sym, ◌∙◌, ap, subst, append_assoc, arith}
 use Rattle.std.proofs.lemmas.List.{append-nil}
 use Rattle.std.proofs.lemmas.Grind.{flat_map-append}
 use Rattle.std.proofs.lemmas.List.Sums.{sum_by-append}
-use Rattle.std.specs.Prelude.{Option, IsSome, Result, Ok, Err, IsErrAnd, OnOk}
-use Rattle.gd_outside.specs.Told.{told, Grows}
+use Rattle.std.specs.Prelude.{Result, Ok, Err, IsErrAnd, OnOk}
+use Rattle.gd_outside.specs.Told.{told}
 use Rattle.gd_model.specs.Effects.{Effect, Print, prints, tries, works, printed, tried, cost, journal_with, journal_after}
 use Rattle.gd_effects.specs.Outside.{Outside, IsTold, WasTold}
-use Rattle.gd_effects.specs.Done.{Journals, Did, DidFront, DidHalfPrint, DidTornRecord, IsWithOrWithout, DidUntil, HasCause, NoneFell, DidBy, Does, DoesAll, Along}
+use Rattle.gd_effects.specs.Done.{Did, DidFront, DidHalfPrint, DidTornRecord, IsWithOrWithout, DidUntil, HasCause, NoneFell, DidBy, Does, DoesAll, Along}
 use Rattle.gd_outside.specs.declared.end.End.{End}
 use Rattle.gd_outside.specs.declared.end.End.TheVariants.{NoMemory, ReadFault, WriteFault, JournalFault}
 use Rattle.gd_outside.proofs.ToldLemmas.{grows_nothing, grows_then}

@@ -4,7 +4,7 @@ use Rattle.gd_outside.specs.Causes.{Rose}
 use Rattle.gd_outside.specs.declared.end.End.{End}
 use Rattle.gd_outside.specs.declared.end.End.TheVariants as early
 use Rattle.gd_outside.specs.declared.status.Status.{Status}
-use Rattle.gd_outside.specs.declared.status.Status.TheVariants.{Done, Usage, BadLog, ReadFault, WriteFault, JournalFault, LinkFault, NoMemory, LineLimit, NotBuilt}
+use Rattle.gd_outside.specs.declared.status.Status.TheVariants.{ReadFault, WriteFault, JournalFault, LinkFault, NoMemory}
 use Rattle.gd_model.specs.Effects.{Effect}
 use Rattle.gd_effects.specs.Outside.{Outside, IsTold, WasTold}
 use Rattle.gd_effects.specs.Done.{Did, DidFront, DidHalfPrint, DidTornRecord, NoneFell}

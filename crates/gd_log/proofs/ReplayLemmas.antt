@@ -39,3 +39,11 @@ shows (Err JournalFault) whole old new xs w h = let d = h untold_source untold_j
 pub refused-other : (w : LogWhy) → (w ≡ why.NotBuilt → ⊥) → (refused w ≡ Print bad_log_line ∷ []) × (refused_end w ≡ status.BadLog)
 refused-other why.NotBuilt ne = absurd (ne refl)
 refused-other other ne = (refl, refl)
+
+-- a run that ends for want of memory, where it doesn't when nothing cuts it short, had a call that did
+pub memory_of : (r : Result ⊤ End) (whole : Status) → (whole ≡ status.NoMemory → ⊥) → status_of r whole ≡ status.NoMemory → r ≡ Err NoMemory
+memory_of (Ok x) whole ne h = absurd (ne h)
+memory_of (Err NoMemory) whole ne h = refl
+memory_of (Err ReadFault) whole ne h = absurd cc
+memory_of (Err WriteFault) whole ne h = absurd cc
+memory_of (Err JournalFault) whole ne h = absurd cc

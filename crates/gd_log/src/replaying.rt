@@ -1,8 +1,8 @@
 //! The picture of a log.
 
-ghost use Rattle.std.specs.Prelude.{◌≡◌, ℕ, map};
+ghost use Rattle.std.specs.Prelude.{◌≡◌, ℕ, map, Err, ◌⊎◌};
 ghost use Rattle.gd_outside.specs.Seen.{SeenSource, SeenJournal, SeenLink};
-ghost use Rattle.gd_outside.specs.Told.{told, Stays};
+ghost use Rattle.gd_outside.specs.Told.{told};
 ghost use Rattle.gd_model.specs.Drawing.{picture};
 ghost use Rattle.gd_model.specs.Text.{text};
 ghost use Rattle.gd_model.specs.LogBytes.{log};
@@ -26,8 +26,9 @@ use std::sync::ledger::Ledger;
 /// Reads a log to its end, and prints the drawing of its events.
 ///
 /// `Done` after the drawing's text; `BadLog` after the line `bad log` where the bytes are no log, and `NotBuilt` after
-/// nothing where the first fault is a record of an operation that isn't built yet. `ReadFault` where a read failed, after
-/// nothing, `WriteFault` where a write failed, and `NoMemory` where memory ran out. The steps stay as they are.
+/// nothing where the first fault is a record of an operation that isn't built yet. `ReadFault` where a read failed and
+/// `NoMemory` where memory ran out, both after nothing, and `WriteFault` where a write failed, with a front printed. The
+/// steps stay as they are.
 pub fn replay<S: Source, K: Sink, L: Ledger>(
     alloc: Global,
     source: &mut S,
@@ -39,7 +40,7 @@ pub fn replay<S: Source, K: Sink, L: Ledger>(
         (outside (S.seen source.old) (K.seen output.old) journal link _steps.old)
         (outside (S.seen source.new) (K.seen output.new) journal link _steps.new) }
     ensures kinds { IsReplayEnd result }
-    ensures silent { result ≡ Status.ReadFault → Stays (K.seen output.old).bytes (K.seen output.new).bytes }
+    ensures silent { (result ≡ Status.ReadFault) ⊎ (result ≡ Status.NoMemory) → K.seen output.new ≡ K.seen output.old }
 {
     match read_log(alloc, source) {
         Ok(events) => show(alloc, events, output),
@@ -54,14 +55,16 @@ fn show<K: Sink>(alloc: Global, events: EventList, output: &mut K) -> Status
     ensures ends { (input : SeenSource) (journal : SeenJournal) (link : SeenLink) (steps : ℕ)
         → EndsAs (map Print (text (picture events))) Status.Done result (outside input (K.seen output.old) journal link steps) (outside input (K.seen output.new) journal link steps) }
     ensures kinds { IsShowEnd result }
+    ensures silent { result ≡ Status.NoMemory → K.seen output.new ≡ K.seen output.old }
 {
     status_of(write_picture(alloc, events, output), Status::Done)
 }
 
 /// Prints the drawing of the events. Want of memory comes before anything is printed.
 fn write_picture<K: Sink>(alloc: Global, events: EventList, output: &mut K) -> Result<(), End>
-    ensures { (input : SeenSource) (journal : SeenJournal) (link : SeenLink) (steps : ℕ)
+    ensures does { (input : SeenSource) (journal : SeenJournal) (link : SeenLink) (steps : ℕ)
         → Does result (outside input (K.seen output.old) journal link steps) (map Print (text (picture events))) (outside input (K.seen output.new) journal link steps) }
+    ensures silent { result ≡ Err End.NoMemory → K.seen output.new ≡ K.seen output.old }
 {
     let mut events = events;
     events.sort_by_stamp()?;
@@ -74,6 +77,7 @@ fn refuse<K: Sink>(why: LogWhy, output: &mut K) -> Status
     ensures ends { (input : SeenSource) (journal : SeenJournal) (link : SeenLink) (steps : ℕ)
         → EndsAs (refused why) (refused_end why) result (outside input (K.seen output.old) journal link steps) (outside input (K.seen output.new) journal link steps) }
     ensures kinds { IsShowEnd result }
+    ensures end { result ≡ Status.NoMemory → ⊥ }
 {
     match why {
         LogWhy::NotBuilt => Status::NotBuilt,

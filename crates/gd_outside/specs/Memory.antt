@@ -1,5 +1,5 @@
 -- What the objects in memory hold, and what they tell of it.
-use Rattle.std.specs.Prelude.{◌≡◌, ℕ, ◌+◌, Bool, true, false, ◌||◌, nat_lt, if◌then◌else◌, List, ◌++◌, length, Option, None, Some}
+use Rattle.std.specs.Prelude.{ℕ, ◌+◌, Bool, true, ◌||◌, nat_lt, if◌then◌else◌, List, ◌++◌, length, Option, None, Some}
 use Rattle.gd_outside.specs.declared.fail.Fail.{Fail}
 use Rattle.gd_outside.specs.Seen.{SeenSource, SeenSink}
 

@@ -1,4 +1,4 @@
-ghost use Rattle.std.specs.Prelude.{ℕ, map};
+ghost use Rattle.std.specs.Prelude.{◌≡◌, ℕ, map, Err};
 ghost use Rattle.gd_outside.specs.Seen.{SeenSource, SeenJournal, SeenLink};
 ghost use Rattle.gd_model.specs.Text.{text};
 ghost use Rattle.gd_model.specs.Effects.{Print};
@@ -15,8 +15,9 @@ use gd_outside::{End, Sink};
 ///
 /// `WriteFault` where a write failed, with some lines written and a front of the next one; no other end comes.
 pub fn write_text<K: Sink>(canvas: &Canvas, output: &mut K) -> Result<(), End>
-    ensures { (input : SeenSource) (journal : SeenJournal) (link : SeenLink) (steps : ℕ)
+    ensures does { (input : SeenSource) (journal : SeenJournal) (link : SeenLink) (steps : ℕ)
         → Does result (outside input (K.seen output.old) journal link steps) (map Print (text canvas.now)) (outside input (K.seen output.new) journal link steps) }
+    ensures end { (e : End) → result ≡ Err e → e ≡ End.WriteFault }
 {
     let mut line = Line::new();
     for (id, object) in canvas.as_slice() {
