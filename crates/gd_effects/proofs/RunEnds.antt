@@ -1,5 +1,5 @@
 -- How a run ends, from what its calls did.
-use Rattle.std.proofs.Common.{◌≡◌, ℕ, ◌≤◌, List, [], refl, sym, subst, arith}
+use Rattle.std.proofs.Common.{◌≡◌, ℕ, ◌≤◌, List, [], refl, sym, subst, ◌⊎◌, inl, inr, arith}
 use Rattle.std.specs.Prelude.{Result, Ok, Err, ⊤, IsSome}
 use Rattle.gd_outside.specs.Causes.{Rose}
 use Rattle.gd_outside.specs.Seen.{SeenSource, SeenSink, SeenJournal, SeenLink}
@@ -103,3 +103,18 @@ ends_by_read xs whole h rose = record {
   was = h.was;
   leaves = λ t. record { front = []; back = xs; split = refl; did = h.done t };
 }
+
+-- a run that no fault and no want of memory cut short has done all
+pub completes : (s whole : Status) {a b : Outside} {xs : List Effect} → EndsAs xs whole s a b → IsTold b
+    → ¬ Rose a.input.faults b.input.faults → ¬ Rose a.output.faults b.output.faults → ¬ Rose a.journal.faults b.journal.faults → ¬ Rose a.link.faults b.link.faults
+    → (s ≡ whole) ⊎ (s ≡ NoMemory)
+completes Done whole h t i o j l = inl (h.leaves t).1
+completes Usage whole h t i o j l = inl (h.leaves t).1
+completes BadLog whole h t i o j l = inl (h.leaves t).1
+completes ReadFault whole h t i o j l = absurd (i h.cause)
+completes WriteFault whole h t i o j l = absurd (o h.cause)
+completes JournalFault whole h t i o j l = absurd (j h.cause)
+completes LinkFault whole h t i o j l = absurd (l h.cause)
+completes NoMemory whole h t i o j l = inr refl
+completes LineLimit whole h t i o j l = inl (h.leaves t).1
+completes NotBuilt whole h t i o j l = inl (h.leaves t).1
