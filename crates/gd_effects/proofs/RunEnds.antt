@@ -10,7 +10,7 @@ use Rattle.gd_outside.specs.declared.status.Status.{Status}
 use Rattle.gd_outside.specs.declared.status.Status.TheVariants.{Done, Usage, BadLog, ReadFault, WriteFault, JournalFault, LinkFault, NoMemory, LineLimit, NotBuilt}
 use Rattle.gd_model.specs.Effects.{Effect}
 use Rattle.gd_effects.specs.Outside.{Outside, outside, IsTold}
-use Rattle.gd_effects.specs.Done.{Did, DidFront, NoneFell, Does, DoesAll}
+use Rattle.gd_effects.specs.Done.{Did, NoneFell, Does, DoesAll}
 use Rattle.gd_effects.specs.Endings.{Leaves, Causes, EndsAs, status_of}
 use Rattle.gd_effects.proofs.Doing.{did_then, front_then, half_then, torn_then, none_fell_then, was_then, told_before}
 

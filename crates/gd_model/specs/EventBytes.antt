@@ -1,7 +1,7 @@
 -- The bytes of an event: its stamp, its number, a tag and the body by the tag. Numbers are big-endian, and a signed field
 -- is two's complement. A field that isn't whole is Short, and one out of its range is Field at its first byte; an id in a
 -- body that isn't before the event's stamp is FutureId at its first byte. A tag from 04 to 08 isn't built yet.
-use Rattle.std.specs.Prelude.{ℕ, ℤ, List, [], ◌∷◌, Result, Ok, Err, ◌&&◌, nat_lt, nat_le, ◌==◌, if◌then◌else◌}
+use Rattle.std.specs.Prelude.{ℕ, ℤ, List, [], ◌∷◌, Ok, Err, ◌&&◌, nat_lt, nat_le, ◌==◌, if◌then◌else◌}
 use Rattle.std.specs.Int.{w16, w32, w64, from_be_bytes, cast_signed}
 use Rattle.gd_base.specs.Stamps.{Stamp, is_before}
 use Rattle.gd_base.specs.Labels.{most_label, is_plain}
