@@ -5,6 +5,8 @@ ghost use Rattle.std.specs.Prelude.{◌≡◌, ◌<◌};
 
 mod running;
 mod standard;
+#[cfg(test)]
+mod tests;
 
 use gd_base::Steps;
 use gd_outside::{Status, Word, WordList};

@@ -66,5 +66,8 @@ fn refuse_words<K: Sink>(output: &mut K) -> Status
         → EndsAs (Print usage_line ∷ []) Status.Usage result (outside input (K.seen output.old) journal link steps) (outside input (K.seen output.new) journal link steps) }
     ensures kinds { (result ≡ Status.Usage) ⊎ (result ≡ Status.WriteFault) }
 {
-    status_of(print(output, b"usage: groupdesign COMMAND OPTIONS\n"), Status::Usage)
+    status_of(
+        print(output, b"usage: groupdesign COMMAND OPTIONS\n"),
+        Status::Usage,
+    )
 }

@@ -1,0 +1,95 @@
+use super::{TIE, TIE_TEXT, ran_over};
+use gd_outside::Status;
+use std::test::Fail;
+
+const EMPTY: [u8; 12] = [b'G', b'D', b'O', b'L', 1, 0, 0, 0, 7, 1, 2, 0];
+
+// A rect, an ellipse, a raise of the rect at clock 5, and behind it one of the ellipse at clock 4.
+const RANKS: [u8; 106] = [
+    b'G', b'D', b'O', b'L', 1, 0, 0, 0, 7, 1, 2, 0xC3, 0, 0, 0, 0, 0, 1, 1, 0, 1, 1, 1, 0, 0, 0, 0,
+    0, 0, 0, 0, 0, 0, 0, 10, 0, 0, 0, 10, 0, 0xC3, 0, 0, 0, 0, 0, 2, 1, 0, 2, 1, 2, 0, 0, 0, 0, 0,
+    0, 0, 0, 0, 0, 0, 20, 0, 0, 0, 20, 0, 0xC3, 0, 0, 0, 0, 0, 5, 1, 0, 3, 9, 0, 0, 0, 0, 0, 1, 1,
+    0xC3, 0, 0, 0, 0, 0, 4, 2, 0, 1, 9, 0, 0, 0, 0, 0, 2, 1, 0,
+];
+
+// A delete at clock 3, and behind it the create of its object at clock 1.
+const EFFECT_FIRST: [u8; 59] = [
+    b'G', b'D', b'O', b'L', 1, 0, 0, 0, 7, 1, 2, 0xC3, 0, 0, 0, 0, 0, 3, 2, 0, 1, 2, 0, 0, 0, 0, 0,
+    1, 1, 0xC3, 0, 0, 0, 0, 0, 1, 1, 0, 1, 1, 1, 0, 0, 0, 0, 0, 0, 0, 0, 0, 0, 0, 10, 0, 0, 0, 10,
+    0, 0,
+];
+
+// A record of tag 8, cut behind it.
+const UNBUILT: [u8; 22] = [
+    b'G', b'D', b'O', b'L', 1, 0, 0, 0, 7, 1, 2, 0xC3, 0, 0, 0, 0, 0, 1, 1, 0, 1, 8,
+];
+
+const RANKS_TEXT: &str =
+    "ellipse 2.1 in - at 0 0 size 20 20 stroke 000000 fill none width 1\nrect 1.1 in - at 0 0 size 10 10 stroke 000000 fill none width 1\nend 2\n";
+
+#[test]
+fn an_empty_log_ends_with_its_gate_or_its_bytes(rt: HostRuntime) -> Result<(), Fail> {
+    for bytes in [&EMPTY[..], &EMPTY[..11]] {
+        let (status, output) = ran_over(rt.alloc(), &["replay"], bytes)?;
+        assert_eq!(rt; status, Status::Done);
+        assert_eq!(rt; output.bytes(), b"end 0\n".as_slice());
+    }
+    Ok(())
+}
+
+#[test]
+fn ties_are_ordered_by_site(rt: HostRuntime) -> Result<(), Fail> {
+    let (status, output) = ran_over(rt.alloc(), &["replay"], &TIE)?;
+    assert_eq!(rt; status, Status::Done);
+    assert_eq!(rt; output.bytes(), TIE_TEXT.as_bytes());
+    Ok(())
+}
+
+#[test]
+fn the_later_raise_is_above_wherever_it_stands(rt: HostRuntime) -> Result<(), Fail> {
+    let (status, output) = ran_over(rt.alloc(), &["replay"], &RANKS)?;
+    assert_eq!(rt; status, Status::Done);
+    assert_eq!(rt; output.bytes(), RANKS_TEXT.as_bytes());
+    Ok(())
+}
+
+#[test]
+fn a_delete_before_its_create_deletes(rt: HostRuntime) -> Result<(), Fail> {
+    let (status, output) = ran_over(rt.alloc(), &["replay"], &EFFECT_FIRST)?;
+    assert_eq!(rt; status, Status::Done);
+    assert_eq!(rt; output.bytes(), b"end 0\n".as_slice());
+    Ok(())
+}
+
+#[test]
+fn what_follows_the_closed_gate_is_left(rt: HostRuntime) -> Result<(), Fail> {
+    let mut bytes = [0; 15];
+    bytes[..12].copy_from_slice(&EMPTY);
+    bytes[12..].copy_from_slice(&[0xFF, 0xC3, 0]);
+    let (status, output) = ran_over(rt.alloc(), &["replay"], &bytes)?;
+    assert_eq!(rt; status, Status::Done);
+    assert_eq!(rt; output.bytes(), b"end 0\n".as_slice());
+    Ok(())
+}
+
+#[test]
+fn a_record_that_is_not_built_yet_ends_in_silence(rt: HostRuntime) -> Result<(), Fail> {
+    let (status, output) = ran_over(rt.alloc(), &["replay"], &UNBUILT)?;
+    assert_eq!(rt; status.number(), 10);
+    assert_eq!(rt; output.bytes().len(), 0);
+    Ok(())
+}
+
+#[test]
+fn words_that_name_no_command_are_refused(rt: HostRuntime) -> Result<(), Fail> {
+    let words: [&[&str]; 4] = [&[], &["paint"], &["replay", "replay"], &["Replay"]];
+    for texts in words {
+        let (status, output) = ran_over(rt.alloc(), texts, &TIE)?;
+        assert_eq!(rt; status.number(), 2);
+        assert_eq!(rt;
+            output.bytes(),
+            b"usage: groupdesign COMMAND OPTIONS\n".as_slice()
+        );
+    }
+    Ok(())
+}
