@@ -1,0 +1,90 @@
+#!/usr/bin/env python3
+"""Writes the logs of this folder. Run again, it writes the same bytes.
+
+A log is a header, then each event behind an open gate, then a closed gate. Numbers are big-endian.
+
+    header   the letters GDOL; version 1 (1 byte); the number of the drawing, which all its sites share (4);
+             the site that keeps the log (1); how many sites there are (1)
+    gate     C3: an event follows; anything else, or the end of the file: the log ends
+    event    stamp (7); its number among the events of its site (2); tag (1); a body, which the tag tells
+    stamp    clock (6); site (1)
+
+    tag 1    create: kind (1: rect, ellipse, line or text as 1 to 4); x, y, width and height (4 each, signed);
+             the length of the label (1); the label
+    tag 2    delete: the stamp of the event that made the object, which is the object's id (7)
+    tag 3    move: id (7); x and y (4 each, signed)
+    tag 9    raise: id (7)
+"""
+
+from pathlib import Path
+from struct import pack
+
+RECT, ELLIPSE, LINE, TEXT = 1, 2, 3, 4
+OPEN, CLOSED = b"\xC3", b"\x00"
+
+
+def stamp(clock, site):
+    return clock.to_bytes(6, "big") + bytes([site])
+
+
+def create(kind, x, y, width, height, label=""):
+    text = label.encode()
+    return bytes([1, kind]) + pack(">iiii", x, y, width, height) + bytes([len(text)]) + text
+
+
+def delete(clock, site):
+    return b"\x02" + stamp(clock, site)
+
+
+def move(clock, site, x, y):
+    return b"\x03" + stamp(clock, site) + pack(">ii", x, y)
+
+
+def raise_up(clock, site):
+    return b"\x09" + stamp(clock, site)
+
+
+def header(drawing, site, sites):
+    return b"GDOL\x01" + pack(">I", drawing) + bytes([site, sites])
+
+
+def log(drawing, site, sites, events):
+    """The bytes of a log. An event is (clock, site, what it does); its number is counted here."""
+    counts, out = {}, header(drawing, site, sites)
+    for clock, by, what in events:
+        counts[by] = counts.get(by, 0) + 1
+        out += OPEN + stamp(clock, by) + pack(">H", counts[by]) + what
+    return out + CLOSED
+
+
+TWO_SHAPES = log(7, 1, 2, [
+    (1, 2, create(RECT, 5, 5, 10, 10)),
+    (1, 1, create(ELLIPSE, 0, 0, 20, 20)),
+])
+
+# Site 3 only watches. It hears all of site 2 first, and then all of site 1.
+EFFECTS_BEFORE_CAUSES = log(7, 3, 3, [
+    (4, 2, create(ELLIPSE, 160, 0, 80, 40, "End")),
+    (5, 2, move(1, 1, -20, 0)),
+    (6, 2, delete(3, 1)),
+    (7, 2, raise_up(2, 1)),
+    (1, 1, create(RECT, 0, 0, 100, 40, "Start")),
+    (2, 1, create(LINE, 100, 20, 60, 0)),
+    (3, 1, create(TEXT, 0, 60, 200, 20, "draft")),
+    (4, 1, move(1, 1, 40, 40)),
+    (8, 1, move(4, 2, 170, 0)),
+])
+
+EXAMPLES = {
+    "two-shapes": TWO_SHAPES,
+    "effects-before-causes": EFFECTS_BEFORE_CAUSES,
+    "empty": log(7, 1, 1, []),
+    # The end of the file ends a log as a closed gate does.
+    "empty-without-gate": header(7, 1, 1),
+    # Its first event has lost its end.
+    "cut": TWO_SHAPES[:32],
+}
+
+if __name__ == "__main__":
+    for name, content in EXAMPLES.items():
+        Path(__file__).with_name(name + ".log").write_bytes(content)
