@@ -50,11 +50,11 @@ def header(drawing, site, sites):
 
 def log(drawing, site, sites, events):
     """The bytes of a log. An event is (clock, site, what it does); its number is counted here."""
-    counts, out = {}, header(drawing, site, sites)
+    counts, parts = {}, [header(drawing, site, sites)]
     for clock, by, what in events:
         counts[by] = counts.get(by, 0) + 1
-        out += OPEN + stamp(clock, by) + pack(">H", counts[by]) + what
-    return out + CLOSED
+        parts.append(OPEN + stamp(clock, by) + pack(">H", counts[by]) + what)
+    return b"".join(parts) + CLOSED
 
 
 TWO_SHAPES = log(7, 1, 2, [
