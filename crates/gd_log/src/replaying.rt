@@ -41,6 +41,7 @@ pub fn replay<S: Source, K: Sink, L: Ledger>(
         (outside (S.seen source.new) (K.seen output.new) journal link _steps.new) }
     ensures kinds { IsReplayEnd result }
     ensures silent { (result ≡ Status.ReadFault) ⊎ (result ≡ Status.NoMemory) → K.seen output.new ≡ K.seen output.old }
+    ensures steps { _steps.new ≡ _steps.old }
 {
     match read_log(alloc, source) {
         Ok(events) => show(alloc, events, output),

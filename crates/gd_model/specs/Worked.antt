@@ -1,9 +1,9 @@
 -- Worked rows: logs of a few events, byte by byte, and what is printed of them.
-use Rattle.std.specs.Prelude.{ℕ, pos, List, [], ◌∷◌, ◌++◌, map, codes, Result, Err}
+use Rattle.std.specs.Prelude.{ℕ, pos, negsuc, List, [], ◌∷◌, ◌++◌, map, codes, Result, Err}
 use Rattle.gd_base.specs.Stamps.{Stamp}
 use Rattle.gd_base.specs.declared.shape.Shape.TheVariants.{Rect, Ellipse}
 use Rattle.gd_events.specs.declared.op.Op.{Op}
-use Rattle.gd_events.specs.declared.op.Op.TheVariants.{Create, Delete, Raise}
+use Rattle.gd_events.specs.declared.op.Op.TheVariants.{Create, Delete, Move, Raise}
 use Rattle.gd_events.specs.Events.{Event}
 use Rattle.gd_base.specs.declared.fault.LogWhy.{LogWhy}
 use Rattle.gd_model.specs.LogBytes.{Header, LogFault}
@@ -47,6 +47,25 @@ tie_text =
     ∷ codes "end 2\n"
     ∷ []
 
+-- a rect with a label, and a move of it; no gate stands at the end
+abbrev pub moved_log : List ℕ
+moved_log =
+    header_bytes
+    ++ 195 ∷ 0 ∷ 0 ∷ 0 ∷ 0 ∷ 0 ∷ 1 ∷ 1 ∷ 0 ∷ 1 ∷ 1 ∷ 1 ∷ 0 ∷ 0 ∷ 0 ∷ 0 ∷ 0 ∷ 0 ∷ 0 ∷ 0 ∷ 0 ∷ 0 ∷ 0 ∷ 10 ∷ 0 ∷ 0 ∷ 0 ∷ 10 ∷ 3 ∷ 97 ∷ 32 ∷ 98 ∷ []
+    ++ 195 ∷ 0 ∷ 0 ∷ 0 ∷ 0 ∷ 0 ∷ 2 ∷ 1 ∷ 0 ∷ 2 ∷ 3 ∷ 0 ∷ 0 ∷ 0 ∷ 0 ∷ 0 ∷ 1 ∷ 1 ∷ 255 ∷ 255 ∷ 255 ∷ 249 ∷ 0 ∷ 0 ∷ 0 ∷ 8 ∷ []
+
+abbrev pub moved_events : List Event
+moved_events =
+    event 1 1 1 (Create Rect (pos 0) (pos 0) (pos 10) (pos 10) (97 ∷ 32 ∷ 98 ∷ []))
+    ∷ event 2 1 2 (Move (at_stamp 1 1) (negsuc 6) (pos 8))
+    ∷ []
+
+abbrev pub moved_text : List (List ℕ)
+moved_text =
+    codes "rect 1.1 in - at -7 8 size 10 10 stroke 000000 fill none width 1 text a b\n"
+    ∷ codes "end 1\n"
+    ∷ []
+
 -- a raise whose stamp is greater comes first in the log, and lifts its object above all
 abbrev pub rank_events : List Event
 rank_events =
@@ -76,12 +95,29 @@ end_alone = codes "end 0\n" ∷ []
 abbrev pub replay_words : List (List ℕ)
 replay_words = codes "replay" ∷ []
 
+abbrev pub other_words : List (List ℕ)
+other_words = codes "paint" ∷ []
+
 abbrev pub prints_of : List (List ℕ) → List Effect
 prints_of lines = map Print lines
 
 -- a record of an operation that isn't built yet
 abbrev pub unbuilt_log : List ℕ
 unbuilt_log = header_bytes ++ 195 ∷ 0 ∷ 0 ∷ 0 ∷ 0 ∷ 0 ∷ 1 ∷ 1 ∷ 0 ∷ 1 ∷ 8 ∷ []
+
+-- a header of another format, of another version, and of a site 0
+abbrev pub no_magic : List ℕ
+no_magic = 71 ∷ 68 ∷ 79 ∷ 108 ∷ 1 ∷ 0 ∷ 0 ∷ 0 ∷ 7 ∷ 1 ∷ 2 ∷ []
+
+abbrev pub no_version : List ℕ
+no_version = 71 ∷ 68 ∷ 79 ∷ 76 ∷ 2 ∷ 0 ∷ 0 ∷ 0 ∷ 7 ∷ 1 ∷ 2 ∷ []
+
+abbrev pub no_field : List ℕ
+no_field = 71 ∷ 68 ∷ 79 ∷ 76 ∷ 1 ∷ 0 ∷ 0 ∷ 0 ∷ 7 ∷ 0 ∷ 2 ∷ []
+
+-- a delete of what its own event would have made
+abbrev pub future_log : List ℕ
+future_log = header_bytes ++ 195 ∷ 0 ∷ 0 ∷ 0 ∷ 0 ∷ 0 ∷ 2 ∷ 1 ∷ 0 ∷ 1 ∷ 2 ∷ 0 ∷ 0 ∷ 0 ∷ 0 ∷ 0 ∷ 2 ∷ 1 ∷ []
 
 -- the tie's log with an event of site 3
 abbrev pub no_site_log : List ℕ

@@ -1,13 +1,13 @@
 //! The definitions, computed on worked rows.
 
 ghost use Rattle.std.specs.Prelude.{◌≡◌, ◌++◌, ◌∷◌, [], Ok, Err, take};
-ghost use Rattle.gd_base.specs.declared.fault.LogWhy.TheVariants.{Short, NoSite, Turn, Backdated, NotBuilt};
+ghost use Rattle.gd_base.specs.declared.fault.LogWhy.TheVariants.{Short, Magic, Version, Field, FutureId, NoSite, Turn, Backdated, NotBuilt};
 ghost use Rattle.gd_outside.specs.declared.status.Status.TheVariants as status;
 ghost use Rattle.gd_model.specs.LogBytes.{log};
 ghost use Rattle.gd_model.specs.Drawing.{picture};
 ghost use Rattle.gd_model.specs.Text.{text};
-ghost use Rattle.gd_model.specs.SlowRun.{slow_effects, slow_end};
-ghost use Rattle.gd_model.specs.Worked.{header, header_bytes, empty_log, tie_log, tie_events, tie_text, rank_events, rank_text, effect_before_cause, end_alone, replay_words, prints_of, unbuilt_log, no_site_log, turn_log, backdated_log, fault_at};
+ghost use Rattle.gd_model.specs.SlowRun.{bad_log_line, slow_effects, slow_end, usage_line};
+ghost use Rattle.gd_model.specs.Worked.{header, header_bytes, empty_log, tie_log, tie_events, tie_text, rank_events, rank_text, effect_before_cause, end_alone, replay_words, other_words, prints_of, moved_log, moved_events, moved_text, unbuilt_log, no_magic, no_version, no_field, future_log, no_site_log, turn_log, backdated_log, fault_at};
 
 /// A log without events prints no object, with its closed gate and without.
 pub fn an_empty_log_prints_its_end()
@@ -22,6 +22,12 @@ pub fn a_tie_of_clocks_goes_by_sites()
     ensures end { slow_end replay_words tie_log ≡ status.Done }
 {}
 
+/// A move puts an object at another place, and a label is printed behind all else.
+pub fn a_move_and_a_label_are_shown()
+    ensures read { log moved_log ≡ Ok (header, moved_events) }
+    ensures printed { slow_effects replay_words moved_log ≡ prints_of moved_text }
+{}
+
 /// A raise lifts its object above all whose creates and raises come before it by their stamps.
 pub fn the_last_raise_is_on_top()
     ensures { text (picture rank_events) ≡ rank_text }
@@ -34,9 +40,29 @@ pub fn an_effect_before_its_cause_counts()
 
 /// The first fault of a log, with its place as the number of bytes that stand from it on.
 pub fn a_fault_has_its_place()
+    ensures magic { log no_magic ≡ fault_at Magic 11 }
+    ensures version { log no_version ≡ fault_at Version 7 }
+    ensures field { log no_field ≡ fault_at Field 2 }
+    ensures future { log future_log ≡ fault_at FutureId 7 }
     ensures cut { log (take 32 tie_log) ≡ fault_at Short 0 }
     ensures unbuilt { log unbuilt_log ≡ fault_at NotBuilt 1 }
     ensures no_site { log no_site_log ≡ fault_at NoSite 52 }
     ensures turn { log turn_log ≡ fault_at Turn 51 }
     ensures backdated { log backdated_log ≡ fault_at Backdated 29 }
+{}
+
+/// Bytes that are no log are refused with a line, and what isn't built yet in silence.
+pub fn what_is_no_log_is_refused()
+    ensures printed { slow_effects replay_words (take 32 tie_log) ≡ prints_of (bad_log_line ∷ []) }
+    ensures end { slow_end replay_words (take 32 tie_log) ≡ status.BadLog }
+    ensures silent { slow_effects replay_words unbuilt_log ≡ [] }
+    ensures not_built { slow_end replay_words unbuilt_log ≡ status.NotBuilt }
+{}
+
+/// Words that name no command are refused, whatever the input is.
+pub fn other_words_are_refused()
+    ensures printed { slow_effects other_words tie_log ≡ prints_of (usage_line ∷ []) }
+    ensures end { slow_end other_words tie_log ≡ status.Usage }
+    ensures none { slow_end [] tie_log ≡ status.Usage }
+    ensures twice { slow_end (replay_words ++ replay_words) tie_log ≡ status.Usage }
 {}

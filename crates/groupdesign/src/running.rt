@@ -39,6 +39,7 @@ pub fn run<S: Source, K: Sink, L: Ledger>(
         → (result ≡ slow_end words.now (told (S.seen input.old).left)) ⊎ (result ≡ Status.NoMemory) }
     // A failed read and want of memory come before anything is printed.
     ensures silent { (result ≡ Status.ReadFault) ⊎ (result ≡ Status.NoMemory) → K.seen output.new ≡ K.seen output.old }
+    ensures steps { steps.new ≡ steps.old }
     // Words that name no command are refused, and only these; then the input isn't touched.
     ensures usage { is_replay words.now ≡ false → (result ≡ Status.Usage) ⊎ (result ≡ Status.WriteFault) }
     ensures usage_only { result ≡ Status.Usage → is_replay words.now ≡ false }

@@ -24,3 +24,19 @@ returns-clause-turn c = refl
 pub returns-clause-backdated : goal.returns-clause-backdated
 unfolding chars is_utf8 byte_at clock_at site_at stamp_at id_at number_at signed_at shape_at label_at create_at delete_at move_at raise_at op_at event_at magic_at version_at session_at sites_at header_at turn_fault record_at step_at events_at log stamp_cmp
 returns-clause-backdated c = refl
+
+pub returns-clause-magic : goal.returns-clause-magic
+unfolding chars is_utf8 byte_at clock_at site_at stamp_at id_at number_at signed_at shape_at label_at create_at delete_at move_at raise_at op_at event_at magic_at version_at session_at sites_at header_at turn_fault record_at step_at events_at log stamp_cmp
+returns-clause-magic c = refl
+
+pub returns-clause-version : goal.returns-clause-version
+unfolding chars is_utf8 byte_at clock_at site_at stamp_at id_at number_at signed_at shape_at label_at create_at delete_at move_at raise_at op_at event_at magic_at version_at session_at sites_at header_at turn_fault record_at step_at events_at log stamp_cmp
+returns-clause-version c = refl
+
+pub returns-clause-field : goal.returns-clause-field
+unfolding chars is_utf8 byte_at clock_at site_at stamp_at id_at number_at signed_at shape_at label_at create_at delete_at move_at raise_at op_at event_at magic_at version_at session_at sites_at header_at turn_fault record_at step_at events_at log stamp_cmp
+returns-clause-field c = refl
+
+pub returns-clause-future : goal.returns-clause-future
+unfolding chars is_utf8 byte_at clock_at site_at stamp_at id_at number_at signed_at shape_at label_at create_at delete_at move_at raise_at op_at event_at magic_at version_at session_at sites_at header_at turn_fault record_at step_at events_at log stamp_cmp
+returns-clause-future c = refl
