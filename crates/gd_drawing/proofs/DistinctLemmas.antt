@@ -13,6 +13,7 @@ use Rattle.gd_events.specs.Ordered.{is_new, are_distinct}
 use Rattle.gd_model.specs.Reading.{◌>>=◌}
 use Rattle.gd_model.specs.EventBytes.{event_at}
 use Rattle.gd_model.specs.LogBytes.{Header, LogFault, in_log, last_clock, turn_fault, settled, gate, header_at, record_at, step_at, events_at, log}
+use Rattle.gd_model.proofs.EventsLemmas.{events-some, events-none, events-err}
 
 -- ---- the last clock of a site
 
@@ -118,21 +119,6 @@ step-above n seen [] x e = absurd cc
 step-above n seen (b ∷ bytes) x e = behind-above (eqb b gate) n seen bytes x e
 
 -- ---- the steps of the log
-
--- after a step with an event the other steps follow
-events-some : (k n : ℕ) (seen : List Event) (bytes : List ℕ) (x : Event × List ℕ) → step_at n seen bytes ≡ Ok (Some x) → events_at (suc k) n seen bytes ≡ events_at k n (seen ++ x.0 ∷ []) x.1
-unfolding events_at
-events-some k n seen bytes x e = rw e refl
-
--- a step without an event is the last
-events-none : (k n : ℕ) (seen : List Event) (bytes : List ℕ) → step_at n seen bytes ≡ Ok None → events_at (suc k) n seen bytes ≡ Ok seen
-unfolding events_at
-events-none k n seen bytes e = rw e refl
-
--- a step's fault is that of the steps
-events-err : (k n : ℕ) (seen : List Event) (bytes : List ℕ) (f : LogFault) → step_at n seen bytes ≡ Err f → events_at (suc k) n seen bytes ≡ Err f
-unfolding events_at
-events-err k n seen bytes f e = rw e refl
 
 -- the events that are the answer are these
 distinct-end : (seen events : List Event) (r : Result (List Event) LogFault) → r ≡ Ok seen → r ≡ Ok events → are_distinct seen ≡ true → are_distinct events ≡ true

@@ -12,6 +12,7 @@ use Rattle.gd_log.specs.declared.reader.LogFault.TheVariants.{Read, Bad}
 use Rattle.gd_log.specs.Steps.{Step, IsFault, StartIs, NextIs}
 use Rattle.gd_log.specs.Logs.{LogIs}
 use Rattle.gd_log.proofs.RecordLemmas.{event-left, record-taken, record-refused, record-faulty}
+use Rattle.gd_model.proofs.EventsLemmas.{events-some, events-none, events-err}
 
 -- ---- a step takes a byte and more
 
@@ -45,18 +46,6 @@ step-shorter n seen [] x e = absurd cc
 step-shorter n seen (b ∷ bytes) x e = omega (arith, behind-shorter (eqb b gate) n seen bytes x e)
 
 -- ---- at most so many steps
-
-events-some : (k n : ℕ) (seen : List Event) (bytes : List ℕ) (x : Event × List ℕ) → step_at n seen bytes ≡ Ok (Some x) → events_at (suc k) n seen bytes ≡ events_at k n (seen ++ x.0 ∷ []) x.1
-unfolding events_at
-events-some k n seen bytes x e = rw e refl
-
-events-none : (k n : ℕ) (seen : List Event) (bytes : List ℕ) → step_at n seen bytes ≡ Ok None → events_at (suc k) n seen bytes ≡ Ok seen
-unfolding events_at
-events-none k n seen bytes e = rw e refl
-
-events-err : (k n : ℕ) (seen : List Event) (bytes : List ℕ) (f : LogFault) → step_at n seen bytes ≡ Err f → events_at (suc k) n seen bytes ≡ Err f
-unfolding events_at
-events-err k n seen bytes f e = rw e refl
 
 events-nil : (k n : ℕ) (seen : List Event) → events_at k n seen [] ≡ Ok seen
 unfolding events_at step_at
