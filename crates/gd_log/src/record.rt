@@ -105,7 +105,11 @@ fn parse_event(n: u8, turns: &mut Turns, body: &[u8]) -> Result<(Event, usize), 
 }
 
 /// The event behind the gate at the front of these bytes, and how many bytes both take. None is the end of the log.
-fn parse_record(n: u8, turns: &mut Turns, bytes: &[u8]) -> Result<Option<(Event, usize)>, RecordFault>
+fn parse_record(
+    n: u8,
+    turns: &mut Turns,
+    bytes: &[u8],
+) -> Result<Option<(Event, usize)>, RecordFault>
     requires { n ≤ 16 }
     ensures exact { (seen : List EventValue) → Follows turns.old seen → StepIs result (step_at n seen bytes.now) bytes.now }
     ensures follows { IfOk result (λ o. IfSome o (λ x. (seen : List EventValue) → Follows turns.old seen → Follows turns.new (seen ++ x.0 ∷ []))) }
