@@ -1,5 +1,5 @@
 -- The events of a stream, one step after another.
-use Rattle.std.proofs.Common.{◌≡◌, ℕ, zero, suc, ◌+◌, ◌-◌, ◌<◌, ◌≤◌, Bool, true, false, cond, eqb, List, [], ◌∷◌, ◌++◌, length, refl, sym, ap, ◌∙◌, arith}
+use Rattle.std.proofs.Common.{◌≡◌, ℕ, zero, suc, ◌+◌, ◌<◌, ◌≤◌, Bool, true, false, cond, eqb, List, [], ◌∷◌, ◌++◌, length, refl, sym, ap, ◌∙◌, arith}
 use Rattle.std.specs.Prelude.{Option, Some, None, Result, Ok, Err}
 use Rattle.gd_base.specs.declared.fault.LogWhy.{LogWhy}
 use Rattle.gd_events.specs.Events.{Event}
@@ -9,7 +9,7 @@ use Rattle.gd_model.specs.LogBytes.{Header, LogFault, in_log, header_at, turn_fa
 use Rattle.gd_log.specs.declared.log.ReadError.TheVariants.{Log}
 use Rattle.gd_log.specs.declared.reader.LogFault as reader
 use Rattle.gd_log.specs.declared.reader.LogFault.TheVariants.{Read, Bad}
-use Rattle.gd_log.specs.Steps.{Step, IsFault, StartIs, NextIs}
+use Rattle.gd_log.specs.Steps.{Step, StartIs, NextIs}
 use Rattle.gd_log.specs.Logs.{LogIs}
 use Rattle.gd_log.proofs.RecordLemmas.{event-left, record-taken, record-refused, record-faulty}
 use Rattle.gd_model.proofs.EventsLemmas.{events-some, events-none, events-err}

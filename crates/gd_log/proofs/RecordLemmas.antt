@@ -1,20 +1,18 @@
 -- A record, and a step of a log, by what reading its event gives.
-use Rattle.std.proofs.Common.{◌≡◌, ◌≢◌, ℕ, suc, ◌+◌, ◌-◌, ◌<◌, ◌≤◌, ◌⊎◌, Bool, true, false, cond, eqb, List, [], ◌∷◌, ◌++◌, length, drop, refl, sym, ap, subst, ◌∙◌, arith, inl, inr, eq-eqb}
+use Rattle.std.proofs.Common.{◌≡◌, ℕ, ◌+◌, ◌-◌, ◌≤◌, List, [], ◌∷◌, length, drop, refl, sym, ap, ◌∙◌, arith, eq-eqb}
 use Rattle.std.proofs.lemmas.Bool.{ne_eqb}
-use Rattle.std.specs.Prelude.{Option, Some, None, Result, Ok, Err}
-use Rattle.std.proofs.lemmas.List.{length-append, length-drop, append-nil}
+use Rattle.std.specs.Prelude.{Some, None, Ok, Err}
+use Rattle.std.proofs.lemmas.List.{length-drop}
 use Rattle.gd_base.specs.declared.fault.FieldFault.{FieldFault}
-use Rattle.gd_base.specs.declared.fault.FieldWhy.TheVariants.{Short}
 use Rattle.gd_base.specs.declared.fault.LogWhy.{LogWhy}
 use Rattle.gd_base.specs.declared.fault.LogWhy.TheVariants.{NoSite, Turn}
 use Rattle.gd_events.specs.Events.{Event}
-use Rattle.gd_model.specs.Reading.{Reads, ◌>>=◌, place}
 use Rattle.gd_model.specs.EventBytes.{event_at}
-use Rattle.gd_model.specs.LogBytes.{Header, LogFault, log_why, in_log, turn_fault, left_of, settled, gate, header_at, record_at, step_at}
-use Rattle.gd_wire.proofs.Steady.{Steady, farther, IsEnd}
+use Rattle.gd_model.specs.LogBytes.{Header, LogFault, log_why, in_log, turn_fault, left_of, gate, header_at, record_at, step_at}
+use Rattle.gd_wire.proofs.Steady.{IsEnd}
 use Rattle.gd_wire.proofs.SteadyFields.{Steady-event, Steady-header, event-long}
 use Rattle.gd_log.specs.Turns.{turn_place}
-use Rattle.gd_log.specs.Steps.{Step, IsFault}
+use Rattle.gd_log.specs.Steps.{IsFault}
 
 -- ---- the record of an event
 

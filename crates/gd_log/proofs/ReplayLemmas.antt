@@ -1,6 +1,6 @@
 -- What `replay` ends with, by what it read and what it printed.
 use Rattle.std.proofs.Common.{◌≡◌, ℕ, List, [], ◌∷◌, refl, arith}
-use Rattle.std.specs.Prelude.{Result, Ok, Err, Option, None, ⊤}
+use Rattle.std.specs.Prelude.{Result, Ok, Err, None, ⊤}
 use Rattle.gd_base.specs.declared.fault.LogWhy.{LogWhy}
 use Rattle.gd_base.specs.declared.fault.LogWhy.TheVariants as why
 use Rattle.gd_outside.specs.Seen.{SeenSource, SeenSink, SeenJournal, SeenLink}

@@ -1,5 +1,5 @@
 -- A step over what was read ahead is the step over the whole stream, where enough was read ahead.
-use Rattle.std.proofs.Common.{◌≡◌, ◌≢◌, ℕ, suc, ◌+◌, ◌-◌, ◌<◌, ◌≤◌, ◌⊎◌, Bool, true, false, cond, eqb, List, [], ◌∷◌, ◌++◌, length, drop, refl, sym, ap, subst, ◌∙◌, append_assoc, arith, inl, inr}
+use Rattle.std.proofs.Common.{◌≡◌, ℕ, ◌+◌, ◌<◌, ◌≤◌, ◌⊎◌, Bool, true, false, cond, eqb, List, [], ◌∷◌, ◌++◌, length, drop, refl, sym, ap, ◌∙◌, arith, inl, inr}
 use Rattle.std.specs.Prelude.{Option, Some, None, Result, Ok, Err}
 use Rattle.std.proofs.lemmas.List.{length-append, length-drop, append-nil}
 use Rattle.std.proofs.Common.{ltb}
@@ -9,9 +9,9 @@ use Rattle.gd_base.specs.declared.fault.FieldWhy.TheVariants.{Short}
 use Rattle.gd_base.specs.declared.fault.LogWhy.{LogWhy}
 use Rattle.gd_base.specs.declared.fault.LogWhy.TheVariants.{NoSite, Turn}
 use Rattle.gd_events.specs.Events.{Event}
-use Rattle.gd_model.specs.Reading.{Reads, ◌>>=◌, place}
+use Rattle.gd_model.specs.Reading.{Reads, ◌>>=◌}
 use Rattle.gd_model.specs.EventBytes.{event_at}
-use Rattle.gd_model.specs.LogBytes.{Header, LogFault, log_why, in_log, turn_fault, left_of, settled, gate, header_at, record_at, step_at}
+use Rattle.gd_model.specs.LogBytes.{Header, LogFault, log_why, in_log, turn_fault, left_of, gate, header_at, record_at, step_at}
 use Rattle.gd_wire.proofs.Steady.{Steady, farther}
 use Rattle.gd_wire.proofs.SteadyFields.{Steady-event, Steady-header}
 use Rattle.gd_log.specs.Steps.{Step, IsFault}

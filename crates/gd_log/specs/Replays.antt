@@ -2,7 +2,7 @@
 use Rattle.gd_outside.specs.declared.status.Status.{Status}
 use Rattle.gd_outside.specs.declared.status.Status.TheVariants.{Done, BadLog, ReadFault, WriteFault, NoMemory, NotBuilt}
 
--- once its log was read
+-- once its log was read, or refused
 abbrev pub IsShowEnd : Status → Type 0
 IsShowEnd Done = Unit {0}
 IsShowEnd BadLog = Unit {0}

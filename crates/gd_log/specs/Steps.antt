@@ -40,7 +40,6 @@ StreamStepIs (Ok (Some x)) step all rest = (step ≡ Ok (Some (x.0, rest))) × (
 StreamStepIs (Err stop.Read) step all rest = rest ≡ all
 StreamStepIs (Err (stop.Bad f)) step all rest = IsFault step all f.at f.why × (rest ≡ all)
 
-
 -- a fault stands within the bytes that are read ahead at once
 abbrev pub IsNear : {A : Type 0} → Result A Stop → Type 0
 IsNear (Ok x) = Unit {0}

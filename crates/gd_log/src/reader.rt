@@ -1,4 +1,4 @@
-ghost use Rattle.std.specs.Prelude.{◌≡◌, ℕ, ◌+◌, ◌≤◌, [], ◌∷◌, ◌++◌, List, sum, Ok, None, IfOk, IfSome, IsSome, OnErr};
+ghost use Rattle.std.specs.Prelude.{◌≡◌, ℕ, ◌+◌, ◌≤◌, [], ◌∷◌, ◌++◌, List, sum, IfOk, IfSome, IsSome, OnErr};
 ghost use Rattle.gd_events.specs.Events.{Event as EventValue};
 ghost use Rattle.gd_model.specs.LogBytes.{header_at, in_log, step_at};
 ghost use Rattle.gd_outside.specs.Told.{told};
@@ -105,7 +105,7 @@ impl LogReader {
         ensures follows { IfOk result (λ o. IfSome o (λ e. (seen : List EventValue) → Follows self.old.turns seen → Follows self.new.turns (seen ++ e ∷ []))) }
         ensures one_more { IfOk result (λ o. IfSome o (λ e. OneMore self.old.turns self.new.turns)) }
         ensures header { self.new.header ≡ self.old.header }
-        ensures none { result ≡ Ok None → (self.new.turns ≡ self.old.turns) × (self.new.place ≡ self.old.place) }
+        ensures ended { result ≡ Ok None → (self.new.turns ≡ self.old.turns) × (self.new.place ≡ self.old.place) }
         ensures err { OnErr result ((self.new.turns ≡ self.old.turns) × (self.new.place ≡ self.old.place)) }
         ensures count { (S.seen source.old).faults ≤ (S.seen source.new).faults }
         ensures cause { result ≡ Err LogFault.Read → Rose (S.seen source.old).faults (S.seen source.new).faults }

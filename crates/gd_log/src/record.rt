@@ -22,7 +22,8 @@ const GATE: u8 = 0xC3;
 /// The most bytes that a gate and an event take.
 pub const RECORD: usize = 93;
 
-/// The first fault of a record, with its place counted from the first byte that was read.
+/// The first fault, with its place counted from the first of the bytes that are handed in: those of a header, of an event,
+/// or of a gate and an event.
 #[derive(Clone, Copy, Debug, PartialEq, Eq)]
 pub struct RecordFault {
     pub at: usize,
@@ -105,7 +106,11 @@ fn parse_event(n: u8, turns: &mut Turns, body: &[u8]) -> Result<(Event, usize), 
 }
 
 /// The event behind the gate at the front of these bytes, and how many bytes both take. None is the end of the log.
-fn parse_record(n: u8, turns: &mut Turns, bytes: &[u8]) -> Result<Option<(Event, usize)>, RecordFault>
+fn parse_record(
+    n: u8,
+    turns: &mut Turns,
+    bytes: &[u8],
+) -> Result<Option<(Event, usize)>, RecordFault>
     requires { n ≤ 16 }
     ensures exact { (seen : List EventValue) → Follows turns.old seen → StepIs result (step_at n seen bytes.now) bytes.now }
     ensures follows { IfOk result (λ o. IfSome o (λ x. (seen : List EventValue) → Follows turns.old seen → Follows turns.new (seen ++ x.0 ∷ []))) }

@@ -1,4 +1,4 @@
-use Rattle.std.proofs.Common.{sym, ◌∙◌, ap, arith}
+use Rattle.std.proofs.Common.{sym, ◌∙◌, arith}
 use Rattle.std.proofs.lemmas.Result.{err_from_is_err_and}
 use Rattle.gd_log.proofs.EventLemmas.{log-start, from-some, from-none, log-refused, log-stopped}
 use Rattle.gd_log.proofs.log.read_log.Goals as goal
@@ -23,7 +23,7 @@ returns-in_err-event-clause-exact g c = λ is_told.
     let p = err_from_is_err_and c.from_residual-in_err-event.result c.from_residual-in_err-event.ensures.1 in
     let was = c.in_err-event.ensures.was is_told in
     rw (p.1, p.2) (log-stopped c.in_err-event.field-0.0 c.records.reader.header c.records.events _ _ _ c.records.reader.place _ (c.records.invariant.exact was) (c.records.invariant.place was)
-      (c.in_err-event.ensures.exact c.records.events c.records.invariant.follows is_told))
+    (c.in_err-event.ensures.exact c.records.events c.records.invariant.follows is_told))
 
 pub records-preserved : goal.records-preserved
 records-preserved g c =

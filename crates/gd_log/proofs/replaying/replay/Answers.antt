@@ -12,8 +12,8 @@ pub returns-in-Ok-clause-ends : goal.returns-in-Ok-clause-ends
 returns-in-Ok-clause-ends g c = λ journal link.
     let nothing = does_read (g.S.Source.seen c.args.source.now) (g.S.Source.seen c.read_log.new.source) (g.K.Sink.seen c.args.output.now) journal link c.args._steps.now c.in-Ok.ensures.was c.in-Ok.ensures.count in
     ends_after c.show.result _ _ _ _ nothing
-        (λ t. let h = c.in-Ok.ensures.exact t.input in (ap replayed h.1, ap replayed_end h.1))
-        (c.show.ensures.ends (g.S.Source.seen c.read_log.new.source) journal link c.args._steps.now)
+    (λ t. let h = c.in-Ok.ensures.exact t.input in (ap replayed h.1, ap replayed_end h.1))
+    (c.show.ensures.ends (g.S.Source.seen c.read_log.new.source) journal link c.args._steps.now)
 
 pub returns-in-Err-Log-Read-clause-ends : goal.returns-in-Err-Log-Read-clause-ends
 returns-in-Err-Log-Read-clause-ends g c = λ journal link.
@@ -25,7 +25,7 @@ returns-in-Err-Log-Bad-clause-ends g c = λ journal link.
     let nothing = does_read (g.S.Source.seen c.args.source.now) (g.S.Source.seen c.read_log.new.source) (g.K.Sink.seen c.args.output.now) journal link c.args._steps.now c.in-Err-Log-Bad.ensures.was c.in-Err-Log-Bad.ensures.count in
     let bad : c.in-Err-Log-Bad.field-0 ≡ Log (Bad c.in-Err-Log-Bad.field-0-0-0 c.in-Err-Log-Bad.why) = c.in-Err-Log-Bad.field-0-is ∙ ap Log (rw c.in-Err-Log-Bad.field-0-is at c.in-Err-Log-Bad.field-0-0-is) in
     ends_after c.refuse.result _ (refused c.in-Err-Log-Bad.why) _ (refused_end c.in-Err-Log-Bad.why) nothing
-        (λ t.
-            let h = subst (λ e. LogIs (Err e) (told (g.S.Source.seen c.args.source.now).left)) bad (c.in-Err-Log-Bad.ensures.exact t.input) in
-            (ap replayed h.is, ap replayed_end h.is))
-        (rw c.in-Err-Log-Bad.why-is at (c.refuse.ensures.ends (g.S.Source.seen c.read_log.new.source) journal link c.args._steps.now))
+    (λ t.
+    let h = subst (λ e. LogIs (Err e) (told (g.S.Source.seen c.args.source.now).left)) bad (c.in-Err-Log-Bad.ensures.exact t.input) in
+    (ap replayed h.is, ap replayed_end h.is))
+    (rw c.in-Err-Log-Bad.why-is at (c.refuse.ensures.ends (g.S.Source.seen c.read_log.new.source) journal link c.args._steps.now))

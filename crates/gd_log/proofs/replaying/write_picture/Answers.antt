@@ -1,7 +1,7 @@
-use Rattle.std.proofs.Common.{◌≡◌, List, [], sym, ◌∙◌, ap}
+use Rattle.std.proofs.Common.{List, [], sym, ◌∙◌, ap}
 use Rattle.std.specs.Prelude.{fold, map}
 use Rattle.gd_events.specs.Events.{Event}
-use Rattle.gd_model.specs.Drawing.{Drawing, applied, picture}
+use Rattle.gd_model.specs.Drawing.{Drawing, applied}
 use Rattle.gd_model.specs.Text.{text}
 use Rattle.gd_model.specs.Effects.{Print}
 use Rattle.gd_effects.proofs.Doing.{does_as}
