@@ -1,5 +1,5 @@
 -- What the slow run is, by what the words name.
-use Rattle.std.proofs.Common.{◌≡◌, ℕ, Bool, true, false, List, [], ◌∷◌, refl}
+use Rattle.std.proofs.Common.{◌≡◌, ℕ, true, false, List, [], ◌∷◌, refl}
 use Rattle.std.specs.Prelude.{None, Some}
 use Rattle.gd_outside.specs.Seen.{SeenJournal, SeenLink}
 use Rattle.gd_outside.specs.declared.status.Status.TheVariants.{Usage}
