@@ -3,7 +3,7 @@
 
 A log is a header, then each event behind an open gate, then a closed gate. Numbers are big-endian.
 
-    header   the letters GDOL; version 1 (1 byte); the number of the drawing, which all its sites share (4);
+    header   the letters GDOL; version 1 (1 byte); the number of the session, which all its sites share (4);
              the site that keeps the log (1); how many sites there are (1)
     gate     C3: an event follows; anything else, or the end of the file: the log ends
     event    stamp (7); its number among the events of its site (2); tag (1); a body, which the tag tells
