@@ -19,7 +19,7 @@ pub use label::{Label, LabelFault};
 pub use member::{Member, Members};
 pub use name::Name;
 pub use place::Place;
-pub use ranges::{PLACE_LIMIT, SIZE_LIMIT};
+pub use ranges::{COLOUR_LIMIT, PLACE_LIMIT, SIZE_LIMIT, WIDTH_LIMIT};
 pub use shape::Shape;
 pub use stamp::Stamp;
 pub use steps::Steps;

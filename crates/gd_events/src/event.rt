@@ -12,7 +12,7 @@ use std::marker::Model;
 pub enum EventFault {
     /// The number is 0.
     Seq,
-    /// A place or a size is out of its range.
+    /// A place, a size, a colour or a width is out of its range.
     Range,
     /// An id that the operation names isn't before the event's stamp.
     FutureId,
@@ -110,7 +110,9 @@ fn is_in_range(op: &Op) -> bool
                 && is_within(SIZE_LIMIT, *h)
         }
         Op::Move { x, y, .. } => is_within(PLACE_LIMIT, *x) && is_within(PLACE_LIMIT, *y),
-        Op::Delete { .. } | Op::Raise { .. } => true,
+        Op::Resize { w, h, .. } => is_within(SIZE_LIMIT, *w) && is_within(SIZE_LIMIT, *h),
+        Op::Restyle { style, .. } => style.is_in_range(),
+        Op::Delete { .. } | Op::Retext { .. } | Op::Raise { .. } => true,
     }
 }
 
@@ -119,6 +121,11 @@ fn names_before(stamp: Stamp, op: &Op) -> bool
 {
     match op {
         Op::Create { .. } => true,
-        Op::Delete { id } | Op::Move { id, .. } | Op::Raise { id } => id.is_before(stamp),
+        Op::Delete { id }
+        | Op::Move { id, .. }
+        | Op::Resize { id, .. }
+        | Op::Restyle { id, .. }
+        | Op::Retext { id, .. }
+        | Op::Raise { id } => id.is_before(stamp),
     }
 }

@@ -1,6 +1,6 @@
 ghost use Rattle.std.specs.Prelude.{◌≡◌};
 
-use gd_base::{Label, Shape, Stamp};
+use gd_base::{Label, Shape, Stamp, Style};
 
 /// An operation on a drawing. Places are from `-PLACE_LIMIT` to `PLACE_LIMIT`, sizes from `-SIZE_LIMIT` to `SIZE_LIMIT`.
 #[derive(Drop)]
@@ -21,6 +21,22 @@ pub enum Op {
         id: Stamp,
         x: i32,
         y: i32,
+    },
+    /// Sets the size of a shape.
+    Resize {
+        id: Stamp,
+        w: i32,
+        h: i32,
+    },
+    /// Sets one part of a shape's look.
+    Restyle {
+        id: Stamp,
+        style: Style,
+    },
+    /// Sets the label of a shape.
+    Retext {
+        id: Stamp,
+        label: Label,
     },
     /// Moves the object to the top.
     Raise {
@@ -57,6 +73,19 @@ impl Op {
                 x: *x,
                 y: *y,
             },
+            Op::Resize { id, w, h } => Op::Resize {
+                id: *id,
+                w: *w,
+                h: *h,
+            },
+            Op::Restyle { id, style } => Op::Restyle {
+                id: *id,
+                style: *style,
+            },
+            Op::Retext { id, label } => {
+                let label = label.copy();
+                Op::Retext { id: *id, label }
+            }
             Op::Raise { id } => Op::Raise { id: *id },
         }
     }

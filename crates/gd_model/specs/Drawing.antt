@@ -6,7 +6,8 @@ use Rattle.gd_base.specs.Stamps.{Stamp, is_same}
 use Rattle.gd_events.specs.Events.{Event}
 use Rattle.gd_events.specs.Ordered.{ordered}
 use Rattle.gd_model.specs.declared.object.Object.{Object}
-use Rattle.gd_model.specs.Forms.{Form, Sets, Creates, Deletes, Content, ToPlace, ToTop, form}
+use Rattle.gd_model.specs.Forms.{Form, Sets, Creates, Deletes, set, form}
+use Rattle.gd_model.specs.declared.content.Content.TheVariants.{ToTop}
 
 abbrev pub Drawing : Type 0
 Drawing = List (Stamp × Object)
@@ -16,11 +17,6 @@ has_id id e = is_same id e.0
 
 abbrev pub is_there : Stamp → Drawing → Bool
 is_there id d = list_any (has_id id) d
-
--- the object with this content, which isn't the top
-abbrev pub put : Content → Object → Object
-put (ToPlace x y) o = record o { x = x; y = y }
-put ToTop o = o
 
 -- the object of that id changed by f
 abbrev pub at_id : Stamp → (Object → Object) → Drawing → Drawing
@@ -38,7 +34,7 @@ abbrev pub draw : Stamp → Form → Drawing → Drawing
 draw stamp (Creates o) d = if is_there stamp d then d else d ++ (stamp, o) ∷ []
 draw stamp (Deletes id) d = without id d
 draw stamp (Sets id ToTop) d = to_top id d
-draw stamp (Sets id c) d = at_id id (put c) d
+draw stamp (Sets id c) d = at_id id (set c) d
 
 -- the drawing after an event
 abbrev pub applied : Drawing → Event → Drawing

@@ -1,16 +1,18 @@
 -- The bytes of an event: its stamp, its number, a tag and the body by the tag. Numbers are big-endian, and a signed field
 -- is two's complement. A field that isn't whole is Short, and one out of its range is Field at its first byte; an id in a
--- body that isn't before the event's stamp is FutureId at its first byte. A tag from 04 to 08 isn't built yet.
-use Rattle.std.specs.Prelude.{ℕ, ℤ, List, [], ◌∷◌, Ok, Err, ◌&&◌, nat_lt, nat_le, ◌==◌, if◌then◌else◌}
+-- body that isn't before the event's stamp is FutureId at its first byte, and is judged before the fields behind it. The tags 07 and 08 aren't built yet.
+use Rattle.std.specs.Prelude.{ℕ, ℤ, Option, Some, None, List, [], ◌∷◌, Ok, Err, ◌&&◌, nat_lt, nat_le, ◌==◌, if◌then◌else◌}
 use Rattle.std.specs.Int.{w16, w32, w64, from_be_bytes, cast_signed}
 use Rattle.gd_base.specs.Stamps.{Stamp, is_before}
 use Rattle.gd_base.specs.Labels.{most_label, is_plain}
-use Rattle.gd_base.specs.Ranges.{place_limit, size_limit, is_within}
+use Rattle.gd_base.specs.Ranges.{place_limit, size_limit, is_within, is_colour, is_width}
 use Rattle.gd_base.specs.declared.fault.FieldWhy.TheVariants.{Field, FutureId, NotBuilt}
 use Rattle.gd_base.specs.declared.shape.Shape.{Shape}
 use Rattle.gd_base.specs.declared.shape.Shape.TheVariants.{Rect, Ellipse, Line, Text}
+use Rattle.gd_base.specs.declared.style.Style.{Style}
+use Rattle.gd_base.specs.declared.style.Style.TheVariants.{Stroke, Fill, Width}
 use Rattle.gd_events.specs.declared.op.Op.{Op}
-use Rattle.gd_events.specs.declared.op.Op.TheVariants.{Create, Delete, Move, Raise}
+use Rattle.gd_events.specs.declared.op.Op.TheVariants.{Create, Delete, Move, Resize, Restyle, Retext, Raise}
 use Rattle.gd_events.specs.Events.{Event}
 use Rattle.gd_model.specs.Reading.{Reads, ◌>>=◌, fault_at, short, bytes_at, ranged}
 
@@ -71,6 +73,52 @@ label_at bytes = do
     text ← bytes_at len.0 len.1
     ranged (is_plain text.0) text.0 len.1 text.1)
 
+-- a number of four bytes
+unfoldable pub word_at : List ℕ → Reads ℕ
+word_at bytes = do
+  four ← bytes_at 4 bytes
+  Ok (from_be_bytes w32 four.0, four.1)
+
+unfoldable pub colour_at : List ℕ → Reads ℕ
+colour_at bytes = do
+  word ← word_at bytes
+  ranged (is_colour word.0) word.0 bytes word.1
+
+-- FFFFFFFF is none
+unfoldable pub fill_at : List ℕ → Reads (Option ℕ)
+fill_at bytes = do
+  word ← word_at bytes
+  if word.0 == 0xFFFFFFFF then Ok (None, word.1) else ranged (is_colour word.0) (Some word.0) bytes word.1
+
+unfoldable pub width_at : List ℕ → Reads ℕ
+width_at bytes = do
+  word ← word_at bytes
+  ranged (is_width word.0) word.0 bytes word.1
+
+unfoldable pub stroke_style_at : List ℕ → Reads Style
+stroke_style_at bytes = do
+  colour ← colour_at bytes
+  Ok (Stroke colour.0, colour.1)
+
+unfoldable pub fill_style_at : List ℕ → Reads Style
+fill_style_at bytes = do
+  fill ← fill_at bytes
+  Ok (Fill fill.0, fill.1)
+
+unfoldable pub width_style_at : List ℕ → Reads Style
+width_style_at bytes = do
+  width ← width_at bytes
+  Ok (Width width.0, width.1)
+
+-- which part of the look, and its value
+unfoldable pub style_at : List ℕ → Reads Style
+style_at bytes = do
+  what ← byte_at bytes
+  if what.0 == 1 then stroke_style_at what.1
+      else if what.0 == 2 then fill_style_at what.1
+      else if what.0 == 3 then width_style_at what.1
+      else Err (fault_at Field bytes)
+
 unfoldable pub create_at : List ℕ → Reads Op
 create_at bytes = do
   kind ← shape_at bytes
@@ -93,6 +141,25 @@ move_at stamp bytes = do
   y ← signed_at place_limit x.1
   Ok (Move id.0 x.0 y.0, y.1)
 
+unfoldable pub resize_at : Stamp → List ℕ → Reads Op
+resize_at stamp bytes = do
+  id ← id_at stamp bytes
+  w ← signed_at size_limit id.1
+  h ← signed_at size_limit w.1
+  Ok (Resize id.0 w.0 h.0, h.1)
+
+unfoldable pub restyle_at : Stamp → List ℕ → Reads Op
+restyle_at stamp bytes = do
+  id ← id_at stamp bytes
+  style ← style_at id.1
+  Ok (Restyle id.0 style.0, style.1)
+
+unfoldable pub retext_at : Stamp → List ℕ → Reads Op
+retext_at stamp bytes = do
+  id ← id_at stamp bytes
+  label ← label_at id.1
+  Ok (Retext id.0 label.0, label.1)
+
 unfoldable pub raise_at : Stamp → List ℕ → Reads Op
 raise_at stamp bytes = do
   id ← id_at stamp bytes
@@ -105,8 +172,11 @@ op_at stamp bytes = do
   if tag.0 == 1 then create_at tag.1
       else if tag.0 == 2 then delete_at stamp tag.1
       else if tag.0 == 3 then move_at stamp tag.1
+      else if tag.0 == 4 then resize_at stamp tag.1
+      else if tag.0 == 5 then restyle_at stamp tag.1
+      else if tag.0 == 6 then retext_at stamp tag.1
       else if tag.0 == 9 then raise_at stamp tag.1
-      else if nat_le 4 tag.0 && nat_le tag.0 8 then Err (fault_at NotBuilt bytes)
+      else if nat_le 7 tag.0 && nat_le tag.0 8 then Err (fault_at NotBuilt bytes)
       else Err (fault_at Field bytes)
 
 unfoldable pub event_at : List ℕ → Reads Event

@@ -1,7 +1,9 @@
 //! The definitions that contracts cite, and the plain data that they share with the code.
 #![tactic(auto)]
 
+mod content;
 mod object;
 pub mod rows;
 
+pub use content::Content;
 pub use object::{Kind, Link, Object};
