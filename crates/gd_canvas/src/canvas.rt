@@ -2,10 +2,10 @@ ghost use Rattle.std.specs.Prelude.{◌≡◌, ◌≤◌, ◌<◌, [], Some, len
 ghost use Rattle.gd_model.specs.Drawing.{applied};
 ghost use Rattle.gd_canvas.specs.Found.{found};
 
-use crate::edits;
+use crate::{contents, edits};
 use gd_base::Stamp;
 use gd_events::{Event, Op};
-use gd_model::Object;
+use gd_model::{Content, Object};
 use std::alloc::{AllocError, Global};
 use std::marker::Model;
 
@@ -33,8 +33,8 @@ impl Canvas {
         })
     }
 
-    /// Carries out an event: a new object goes to the top, and a label is copied for it alone. An event that names an
-    /// object that isn't there changes nothing, and a `Create` of an id that is there changes nothing either.
+    /// Carries out an event: a new object goes to the top. An event that names an object that isn't there, or that has no
+    /// such part, changes nothing, and a `Create` of an id that is there changes nothing either.
     /// `AllocError` where memory for a new object runs out: the drawing then stays as it was.
     pub fn apply(&mut self, event: &Event) -> Result<(), AllocError>
         ensures ok { OnOk result (self.new ≡ applied self.old event.now) }
@@ -55,7 +55,18 @@ impl Canvas {
                 }
             }
             Op::Delete { id } => edits::delete(&mut self.objects, *id),
-            Op::Move { id, x, y } => edits::set_place(&mut self.objects, *id, *x, *y),
+            Op::Move { id, x, y } => {
+                contents::set(&mut self.objects, *id, &Content::ToPlace { x: *x, y: *y });
+            }
+            Op::Resize { id, w, h } => {
+                contents::set(&mut self.objects, *id, &Content::ToSize { w: *w, h: *h });
+            }
+            Op::Restyle { id, style } => {
+                contents::set(&mut self.objects, *id, &contents::content_of(*style));
+            }
+            Op::Retext { id, label } => {
+                contents::set(&mut self.objects, *id, &Content::ToText(label.copy()));
+            }
             Op::Raise { id } => edits::raise(&mut self.objects, *id),
         }
         Ok(())

@@ -1,10 +1,10 @@
 //! The operations, on a list of objects with their ids.
 ghost use Rattle.std.specs.Prelude.{◌≡◌, ◌<◌, [], ◌∷◌, ◌++◌, length, remove, slice_index_or, option_copied, IfSome, IfNone};
-ghost use Rattle.gd_model.specs.Forms.{new_shape, ToPlace};
+ghost use Rattle.gd_model.specs.Forms.{new_shape};
 ghost use Rattle.gd_model.specs.declared.object.Object.{Object as ObjectValue};
-ghost use Rattle.gd_model.specs.Drawing.{is_there, without, at_id, put, to_top};
+ghost use Rattle.gd_model.specs.Drawing.{is_there, without, to_top};
 ghost use Rattle.gd_base.specs.Stamps.{Stamp as StampValue};
-ghost use Rattle.gd_canvas.specs.Found.{found, changed};
+ghost use Rattle.gd_canvas.specs.Found.{found};
 
 use gd_base::{Label, Shape, Stamp};
 use gd_model::{Kind, Object};
@@ -54,35 +54,11 @@ pub fn delete(objects: &mut Vec<(Stamp, Object)>, id: Stamp)
     objects.retain(|e| !id.is_same(e.0));
 }
 
-/// Sets the place of the object of that id, if it is there.
-pub fn set_place(objects: &mut Vec<(Stamp, Object)>, id: Stamp, x: i32, y: i32)
-    ensures { objects.new.items ≡ at_id id (put (ToPlace x y)) objects.old.items }
-{
-    place_each(objects, id, x, y);
-}
-
 /// Moves the object of that id to the end, if it is there.
 pub fn raise(objects: &mut Vec<(Stamp, Object)>, id: Stamp)
     ensures { objects.new.items ≡ to_top id objects.old.items }
 {
     rotate_to_end(objects, id);
-}
-
-fn place_each(objects: &mut [(Stamp, Object)], id: Stamp, x: i32, y: i32)
-    ensures { objects.new ≡ at_id id (put (ToPlace x y)) objects.old }
-{
-    for e in objects.iter_mut() {
-        place(e, id, x, y);
-    }
-}
-
-fn place(entry: &mut (Stamp, Object), id: Stamp, x: i32, y: i32)
-    ensures { entry.new ≡ changed id (put (ToPlace x y)) entry.old }
-{
-    if id.is_same(entry.0) {
-        entry.1.x = x;
-        entry.1.y = y;
-    }
 }
 
 fn rotate_to_end(objects: &mut [(Stamp, Object)], id: Stamp)

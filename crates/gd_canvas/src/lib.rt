@@ -2,6 +2,7 @@
 #![tactic(auto)]
 
 mod canvas;
+mod contents;
 mod drawing;
 mod edits;
 mod text;

@@ -19,6 +19,14 @@ pub returns-in-Move-clause-ok : goal.returns-in-Move-clause-ok
 returns-in-Move-clause-ok c =
     let fx : FitsSigned w32 c.in-Move.x = search rules in
     let fy : FitsSigned w32 c.in-Move.y = search rules in
-    let moved = simp to_z-of_z at c.set_place.ensures in
+    let moved = simp to_z-of_z at c.set.ensures in
     let op = sym c.op.ensures.op ∙ c.in-Move.is in
     rw (← c.self.view_is, op) moved
+
+pub returns-in-Resize-clause-ok : goal.returns-in-Resize-clause-ok
+returns-in-Resize-clause-ok c =
+    let fw : FitsSigned w32 c.in-Resize.w = search rules in
+    let fh : FitsSigned w32 c.in-Resize.h = search rules in
+    let resized = simp to_z-of_z at c.set-in-Resize.ensures in
+    let op = sym c.op.ensures.op ∙ c.in-Resize.is in
+    rw (← c.self.view_is, op) resized
