@@ -1,20 +1,21 @@
 -- Each field of an event or of a header is read alike whatever follows it. An event takes at most 92 bytes: 7 for the
 -- stamp, 2 for the number, 1 for the tag, and at most 82 for the body: 1 for the kind, 16 for the place and the size, 65
 -- for the label.
-use Rattle.std.proofs.Common.{◌≡◌, ◌≢◌, ℕ, ◌+◌, ◌≤◌, Bool, true, false, cond, ltb, List, [], ◌∷◌, ◌++◌, length, take, drop, Ok, Err, refl, arith, inl}
-use Rattle.std.specs.Prelude.{◌&&◌, nat_lt, nat_le, ◌==◌}
+use Rattle.std.proofs.Common.{◌≡◌, ◌≢◌, ℕ, ◌+◌, ◌≤◌, Bool, true, false, cond, ltb, List, [], ◌∷◌, ◌++◌, length, take, drop, None, Ok, Err, refl, arith, inl}
+use Rattle.std.specs.Prelude.{Some, ◌&&◌, nat_lt, nat_le, ◌==◌}
 use Rattle.std.proofs.lemmas.Bool.{ltb-false}
 use Rattle.std.proofs.lemmas.List.{length-drop}
 use Rattle.std.specs.Int.{w16, w32, w64, from_be_bytes, cast_signed}
 use Rattle.gd_base.specs.declared.fault.FieldFault.{FieldFault}
 use Rattle.gd_base.specs.declared.fault.FieldWhy.TheVariants.{Short, Magic, Version, Field, FutureId, NotBuilt}
 use Rattle.gd_base.specs.declared.shape.Shape.TheVariants.{Rect, Ellipse, Line, Text}
+use Rattle.gd_base.specs.declared.style.Style.TheVariants.{Stroke, Fill, Width}
 use Rattle.gd_base.specs.Stamps.{Stamp, is_before}
 use Rattle.gd_base.specs.Labels.{most_label, is_plain}
-use Rattle.gd_events.specs.declared.op.Op.TheVariants.{Create, Delete, Move, Raise}
+use Rattle.gd_events.specs.declared.op.Op.TheVariants.{Create, Delete, Move, Resize, Restyle, Retext, Raise}
 use Rattle.gd_model.specs.Reading.{Reads, ◌>>=◌, fault_at, short, bytes_at, ranged}
-use Rattle.gd_model.specs.EventBytes.{byte_at, clock_at, site_at, stamp_at, id_at, number_at, signed_at, shape_at, label_at, create_at, delete_at, move_at, raise_at, op_at, event_at}
-use Rattle.gd_base.specs.Ranges.{place_limit, size_limit, is_within}
+use Rattle.gd_model.specs.EventBytes.{byte_at, clock_at, site_at, stamp_at, id_at, number_at, signed_at, shape_at, label_at, word_at, colour_at, fill_at, width_at, stroke_style_at, fill_style_at, width_style_at, style_at, create_at, delete_at, move_at, resize_at, restyle_at, retext_at, raise_at, op_at, event_at}
+use Rattle.gd_base.specs.Ranges.{place_limit, size_limit, is_within, is_colour, is_width}
 use Rattle.gd_model.specs.LogBytes.{magic, magic_at, version_at, session_at, sites_at, header_at}
 use Rattle.gd_events.specs.Events.{Event}
 use Rattle.gd_wire.proofs.Steady.{Steady, IsEnd, IsEnd-shorter, Follows, Steady-then, Steady-weaken, Steady-bytes, guard_ok, bind_ok, done, behind, fault_there, either}
@@ -97,6 +98,42 @@ Steady-label = Steady-then 1 64 byte_at (λ len bytes rest. cond (nat_lt most_la
     (λ len. either _ (λ _. fault_there 64 Field field_ne) (λ h. let le : len ≤ 64 = ltb-false _ _ h in
     behind 64 _ (Steady-weaken (len + 0) 64 _ (omega arith) (Steady-then len 0 (bytes_at len) (λ text bytes rest. ranged (is_plain text) text bytes rest) (Steady-bytes len) (λ text. in_range 0 _ _)))))
 
+pub Steady-word : Steady 4 word_at
+unfolding word_at
+Steady-word = Steady-then 4 0 (bytes_at 4) (λ four _ rest. Ok (from_be_bytes w32 four, rest)) (Steady-bytes 4) (λ four. done 0 _)
+
+pub Steady-colour : Steady 4 colour_at
+unfolding colour_at
+Steady-colour = Steady-then 4 0 word_at (λ word bytes rest. ranged (is_colour word) word bytes rest) Steady-word (λ word. in_range 0 _ _)
+
+pub Steady-fill : Steady 4 fill_at
+unfolding fill_at
+Steady-fill = Steady-then 4 0 word_at (λ word bytes rest. cond (word == 0xFFFFFFFF) (Ok (None, rest)) (ranged (is_colour word) (Some word) bytes rest)) Steady-word
+    (λ word. either (word == 0xFFFFFFFF) (λ _. done 0 None) (λ _. in_range 0 _ _))
+
+pub Steady-width : Steady 4 width_at
+unfolding width_at
+Steady-width = Steady-then 4 0 word_at (λ word bytes rest. ranged (is_width word) word bytes rest) Steady-word (λ word. in_range 0 _ _)
+
+pub Steady-stroke-style : Steady 4 stroke_style_at
+unfolding stroke_style_at
+Steady-stroke-style = Steady-then 4 0 colour_at (λ colour _ rest. Ok (Stroke colour, rest)) Steady-colour (λ colour. done 0 _)
+
+pub Steady-fill-style : Steady 4 fill_style_at
+unfolding fill_style_at
+Steady-fill-style = Steady-then 4 0 fill_at (λ fill _ rest. Ok (Fill fill, rest)) Steady-fill (λ fill. done 0 _)
+
+pub Steady-width-style : Steady 4 width_style_at
+unfolding width_style_at
+Steady-width-style = Steady-then 4 0 width_at (λ width _ rest. Ok (Width width, rest)) Steady-width (λ width. done 0 _)
+
+pub Steady-style : Steady 5 style_at
+unfolding style_at
+Steady-style = Steady-then 1 4 byte_at (λ what bytes rest. cond (what == 1) (stroke_style_at rest) (cond (what == 2) (fill_style_at rest) (cond (what == 3) (width_style_at rest) (Err (fault_at Field bytes))))) Steady-byte
+    (λ what. either (what == 1) (λ _. behind 4 _ Steady-stroke-style) (λ _. either (what == 2) (λ _. behind 4 _ Steady-fill-style) (λ _. either (what == 3) (λ _. behind 4 _ Steady-width-style) (λ _. fault_there 4 Field field_ne))))
+
+-- ---- operations and events
+
 pub Steady-create : Steady 82 create_at
 unfolding create_at
 Steady-create = Steady-then 1 81 shape_at (λ kind _ b0. signed_at place_limit b0 >>= λ x. signed_at place_limit x.1 >>= λ y. signed_at size_limit y.1 >>= λ w. signed_at size_limit w.1 >>= λ h. label_at h.1 >>= λ label. Ok (Create kind x.0 y.0 w.0 h.0 label.0, label.1)) Steady-shape (λ kind. behind 81 _
@@ -120,11 +157,28 @@ Steady-move stamp = Steady-then 7 8 (id_at stamp) (λ id _ b0. signed_at place_l
     (Steady-then 4 4 (signed_at place_limit) (λ x _ b1. signed_at place_limit b1 >>= λ y. Ok (Move id x y.0, y.1)) (Steady-signed place_limit) (λ x. behind 4 _
     (Steady-then 4 0 (signed_at place_limit) (λ y _ b2. Ok (Move id x y, b2)) (Steady-signed place_limit) (λ y. done 0 _)))))
 
+pub Steady-resize : (stamp : Stamp) → Steady 15 (resize_at stamp)
+unfolding resize_at
+Steady-resize stamp = Steady-then 7 8 (id_at stamp) (λ id _ b0. signed_at size_limit b0 >>= λ w. signed_at size_limit w.1 >>= λ h. Ok (Resize id w.0 h.0, h.1)) (Steady-id stamp) (λ id. behind 8 _
+    (Steady-then 4 4 (signed_at size_limit) (λ w _ b1. signed_at size_limit b1 >>= λ h. Ok (Resize id w h.0, h.1)) (Steady-signed size_limit) (λ w. behind 4 _
+    (Steady-then 4 0 (signed_at size_limit) (λ h _ b2. Ok (Resize id w h, b2)) (Steady-signed size_limit) (λ h. done 0 _)))))
+
+pub Steady-restyle : (stamp : Stamp) → Steady 12 (restyle_at stamp)
+unfolding restyle_at
+Steady-restyle stamp = Steady-then 7 5 (id_at stamp) (λ id _ b0. style_at b0 >>= λ style. Ok (Restyle id style.0, style.1)) (Steady-id stamp) (λ id. behind 5 _
+    (Steady-then 5 0 style_at (λ style _ b1. Ok (Restyle id style, b1)) Steady-style (λ style. done 0 _)))
+
+pub Steady-retext : (stamp : Stamp) → Steady 72 (retext_at stamp)
+unfolding retext_at
+Steady-retext stamp = Steady-then 7 65 (id_at stamp) (λ id _ b0. label_at b0 >>= λ label. Ok (Retext id label.0, label.1)) (Steady-id stamp) (λ id. behind 65 _
+    (Steady-then 65 0 label_at (λ label _ b1. Ok (Retext id label, b1)) Steady-label (λ label. done 0 _)))
+
 pub Steady-op : (stamp : Stamp) → Steady 83 (op_at stamp)
 unfolding op_at
-Steady-op stamp = Steady-then 1 82 byte_at (λ tag bytes rest. cond (tag == 1) (create_at rest) (cond (tag == 2) (delete_at stamp rest) (cond (tag == 3) (move_at stamp rest) (cond (tag == 9) (raise_at stamp rest) (cond (nat_le 4 tag && nat_le tag 8) (Err (fault_at NotBuilt bytes)) (Err (fault_at Field bytes))))))) Steady-byte
+Steady-op stamp = Steady-then 1 82 byte_at (λ tag bytes rest. cond (tag == 1) (create_at rest) (cond (tag == 2) (delete_at stamp rest) (cond (tag == 3) (move_at stamp rest) (cond (tag == 4) (resize_at stamp rest) (cond (tag == 5) (restyle_at stamp rest) (cond (tag == 6) (retext_at stamp rest) (cond (tag == 9) (raise_at stamp rest) (cond (nat_le 7 tag && nat_le tag 8) (Err (fault_at NotBuilt bytes)) (Err (fault_at Field bytes)))))))))) Steady-byte
     (λ tag. either (tag == 1) (λ _. behind 82 _ Steady-create) (λ _. either (tag == 2) (λ _. behind 82 _ (Steady-weaken 7 82 _ (omega arith) (Steady-delete stamp))) (λ _. either (tag == 3) (λ _. behind 82 _ (Steady-weaken 15 82 _ (omega arith) (Steady-move stamp)))
-    (λ _. either (tag == 9) (λ _. behind 82 _ (Steady-weaken 7 82 _ (omega arith) (Steady-raise stamp))) (λ _. either (nat_le 4 tag && nat_le tag 8) (λ _. fault_there 82 NotBuilt (λ e. cc)) (λ _. fault_there 82 Field field_ne))))))
+    (λ _. either (tag == 4) (λ _. behind 82 _ (Steady-weaken 15 82 _ (omega arith) (Steady-resize stamp))) (λ _. either (tag == 5) (λ _. behind 82 _ (Steady-weaken 12 82 _ (omega arith) (Steady-restyle stamp))) (λ _. either (tag == 6) (λ _. behind 82 _ (Steady-weaken 72 82 _ (omega arith) (Steady-retext stamp)))
+    (λ _. either (tag == 9) (λ _. behind 82 _ (Steady-weaken 7 82 _ (omega arith) (Steady-raise stamp))) (λ _. either (nat_le 7 tag && nat_le tag 8) (λ _. fault_there 82 NotBuilt (λ e. cc)) (λ _. fault_there 82 Field field_ne)))))))))
 
 pub Steady-event : Steady 92 event_at
 unfolding event_at

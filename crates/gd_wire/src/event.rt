@@ -2,7 +2,7 @@ ghost use Rattle.std.specs.Prelude.{◌≡◌, true, IfOk};
 ghost use Rattle.gd_base.specs.Stamps as stamps;
 ghost use Rattle.gd_events.specs.Sound.{is_in_range, names_before};
 ghost use Rattle.gd_model.specs.Reading.{Gives};
-ghost use Rattle.gd_model.specs.EventBytes.{create_at, delete_at, move_at, raise_at, op_at, event_at};
+ghost use Rattle.gd_model.specs.EventBytes.{create_at, delete_at, move_at, resize_at, restyle_at, retext_at, raise_at, op_at, event_at};
 
 use crate::bytes::Bytes;
 use gd_base::{FieldFault, FieldWhy, PLACE_LIMIT, SIZE_LIMIT, Stamp};
@@ -11,7 +11,7 @@ use gd_events::{Event, Op};
 impl<'a> Bytes<'a> {
     /// Reads the event at the front, of 17 to 92 bytes: its stamp, its number, a tag and the operation by the tag.
     /// The first fault is the answer: `Short` at the end of all bytes where a field isn't whole, `FutureId` at an id
-    /// in the body that isn't before the event's stamp, `NotBuilt` at a tag from 4 to 8, and `Field` at the first byte
+    /// in the body that isn't before the event's stamp, `NotBuilt` at the tag 7 or 8, and `Field` at the first byte
     /// of any other field that is out of its range.
     #[tactic(auto, using(crate::proofs::Whole::soundness), unfolding(gd_model::specs::EventBytes::event_at))]
     pub fn event(&mut self) -> Result<Event, FieldFault>
@@ -39,8 +39,11 @@ impl<'a> Bytes<'a> {
             1 => self.create(),
             2 => self.delete(stamp),
             3 => self.shift(stamp),
+            4 => self.resize(stamp),
+            5 => self.restyle(stamp),
+            6 => self.retext(stamp),
             9 => self.raise(stamp),
-            4..=8 => Err(unbuilt),
+            7..=8 => Err(unbuilt),
             _ => Err(unknown),
         }
     }
@@ -87,6 +90,40 @@ impl<'a> Bytes<'a> {
         let x = self.signed(PLACE_LIMIT)?;
         let y = self.signed(PLACE_LIMIT)?;
         Ok(Op::Move { id, x, y })
+    }
+
+    #[tactic(auto, unfolding(gd_model::specs::EventBytes::resize_at))]
+    fn resize(&mut self, stamp: Stamp) -> Result<Op, FieldFault>
+        ensures read { Gives (λ x. (x, self.new)) result (resize_at stamp self.old) }
+        ensures ranges { IfOk result (λ op. is_in_range op ≡ true) }
+        ensures before { IfOk result (λ op. names_before stamp op ≡ true) }
+    {
+        let id = self.id(stamp)?;
+        let w = self.signed(SIZE_LIMIT)?;
+        let h = self.signed(SIZE_LIMIT)?;
+        Ok(Op::Resize { id, w, h })
+    }
+
+    #[tactic(auto, unfolding(gd_model::specs::EventBytes::restyle_at))]
+    fn restyle(&mut self, stamp: Stamp) -> Result<Op, FieldFault>
+        ensures read { Gives (λ x. (x, self.new)) result (restyle_at stamp self.old) }
+        ensures ranges { IfOk result (λ op. is_in_range op ≡ true) }
+        ensures before { IfOk result (λ op. names_before stamp op ≡ true) }
+    {
+        let id = self.id(stamp)?;
+        let style = self.style()?;
+        Ok(Op::Restyle { id, style })
+    }
+
+    #[tactic(auto, unfolding(gd_model::specs::EventBytes::retext_at))]
+    fn retext(&mut self, stamp: Stamp) -> Result<Op, FieldFault>
+        ensures read { Gives (λ x. (x, self.new)) result (retext_at stamp self.old) }
+        ensures ranges { IfOk result (λ op. is_in_range op ≡ true) }
+        ensures before { IfOk result (λ op. names_before stamp op ≡ true) }
+    {
+        let id = self.id(stamp)?;
+        let label = self.label()?;
+        Ok(Op::Retext { id, label })
     }
 
     #[tactic(auto, unfolding(gd_model::specs::EventBytes::raise_at))]

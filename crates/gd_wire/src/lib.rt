@@ -5,6 +5,7 @@ mod bytes;
 mod event;
 mod header;
 mod read;
+mod style;
 
 pub use bytes::Bytes;
 pub use gd_base::{WireFault, WireWhy};
