@@ -103,7 +103,9 @@ fn a_field_out_of_range_is_bad(rt: HostRuntime) -> Result<(), Fail> {
         (181, 0xFE),
     ] {
         let mut bytes = LOOK;
-        bytes[at] = value;
+        if let Some(byte) = bytes.get_mut(at) {
+            *byte = value;
+        }
         let (status, output) = ran_over(rt.alloc(), &["replay"], &bytes)?;
         assert_eq!(rt; status.number(), 3, "at {at}");
         assert_eq!(rt; output.bytes(), b"bad log\n".as_slice(), "at {at}");
