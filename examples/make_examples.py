@@ -13,6 +13,10 @@ A log is a header, then each event behind an open gate, then a closed gate. Numb
              the length of the label (1); the label
     tag 2    delete: the stamp of the event that made the object, which is the object's id (7)
     tag 3    move: id (7); x and y (4 each, signed)
+    tag 4    resize: id (7); width and height (4 each, signed)
+    tag 5    restyle: id (7); what is set (1: stroke, fill or width as 1 to 3); its value (4: a colour, a fill of none
+             as FFFFFFFF, or a width)
+    tag 6    retext: id (7); the length of the label (1); the label
     tag 9    raise: id (7)
 """
 
@@ -20,6 +24,8 @@ from pathlib import Path
 from struct import pack
 
 RECT, ELLIPSE, LINE, TEXT = 1, 2, 3, 4
+STROKE, FILL, WIDTH = 1, 2, 3
+NONE = 0xFFFFFFFF
 OPEN, CLOSED = b"\xC3", b"\x00"
 
 
@@ -27,9 +33,13 @@ def stamp(clock, site):
     return clock.to_bytes(6, "big") + bytes([site])
 
 
-def create(kind, x, y, width, height, label=""):
+def labelled(label):
     text = label.encode()
-    return bytes([1, kind]) + pack(">iiii", x, y, width, height) + bytes([len(text)]) + text
+    return bytes([len(text)]) + text
+
+
+def create(kind, x, y, width, height, label=""):
+    return bytes([1, kind]) + pack(">iiii", x, y, width, height) + labelled(label)
 
 
 def delete(clock, site):
@@ -38,6 +48,18 @@ def delete(clock, site):
 
 def move(clock, site, x, y):
     return b"\x03" + stamp(clock, site) + pack(">ii", x, y)
+
+
+def resize(clock, site, width, height):
+    return b"\x04" + stamp(clock, site) + pack(">ii", width, height)
+
+
+def restyle(clock, site, what, value):
+    return b"\x05" + stamp(clock, site) + pack(">BI", what, value)
+
+
+def retext(clock, site, label):
+    return b"\x06" + stamp(clock, site) + labelled(label)
 
 
 def raise_up(clock, site):
@@ -75,9 +97,29 @@ EFFECTS_BEFORE_CAUSES = log(7, 3, 3, [
     (8, 1, move(4, 2, 170, 0)),
 ])
 
+# Site 1 keeps the log, and hears site 2 late.
+LOOKS = log(7, 1, 2, [
+    (1, 1, create(RECT, 0, 0, 120, 60, "Plan")),
+    (2, 1, create(LINE, 0, 80, 120, 0)),
+    (3, 1, restyle(1, 1, STROKE, 0x00AB0C)),
+    (4, 1, restyle(1, 1, FILL, 0x336699)),
+    (5, 1, create(ELLIPSE, 140, 0, 60, 60)),
+    (6, 1, retext(1, 1, "Café")),
+    (4, 2, restyle(1, 1, FILL, 0xFFE0A0)),
+    (5, 2, restyle(2, 1, WIDTH, 64)),
+    (6, 2, resize(2, 1, -120, 40)),
+    (7, 2, create(TEXT, 0, 140, 200, 20, "draft")),
+    (8, 1, delete(7, 2)),
+    (8, 2, restyle(5, 1, FILL, 0x336699)),
+    (9, 2, resize(7, 2, 300, 20)),
+    (10, 1, restyle(5, 1, FILL, NONE)),
+    (10, 2, restyle(5, 1, WIDTH, 3)),
+])
+
 EXAMPLES = {
     "two-shapes": TWO_SHAPES,
     "effects-before-causes": EFFECTS_BEFORE_CAUSES,
+    "looks": LOOKS,
     "empty": log(7, 1, 1, []),
     # The end of the file ends a log as a closed gate does.
     "empty-without-gate": header(7, 1, 1),

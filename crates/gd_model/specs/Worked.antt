@@ -1,9 +1,10 @@
 -- Worked rows: logs of a few events, byte by byte, and what is printed of them.
-use Rattle.std.specs.Prelude.{ℕ, pos, negsuc, List, [], ◌∷◌, ◌++◌, map, codes, Result, Err}
+use Rattle.std.specs.Prelude.{ℕ, pos, negsuc, List, [], ◌∷◌, ◌++◌, map, codes, Some, None, Result, Err}
 use Rattle.gd_base.specs.Stamps.{Stamp}
 use Rattle.gd_base.specs.declared.shape.Shape.TheVariants.{Rect, Ellipse}
+use Rattle.gd_base.specs.declared.style.Style.TheVariants.{Stroke, Fill, Width}
 use Rattle.gd_events.specs.declared.op.Op.{Op}
-use Rattle.gd_events.specs.declared.op.Op.TheVariants.{Create, Delete, Move, Raise}
+use Rattle.gd_events.specs.declared.op.Op.TheVariants.{Create, Delete, Move, Resize, Restyle, Retext, Raise}
 use Rattle.gd_events.specs.Events.{Event}
 use Rattle.gd_base.specs.declared.fault.LogWhy.{LogWhy}
 use Rattle.gd_model.specs.LogBytes.{Header, LogFault}
@@ -66,6 +67,37 @@ moved_text =
     ∷ codes "end 1\n"
     ∷ []
 
+-- an ellipse, its size, its look and its label, and the fill of an object that isn't there. The label has a character of
+-- two bytes
+abbrev pub styled_log : List ℕ
+styled_log =
+    header_bytes
+    ++ 195 ∷ 0 ∷ 0 ∷ 0 ∷ 0 ∷ 0 ∷ 1 ∷ 1 ∷ 0 ∷ 1 ∷ 1 ∷ 2 ∷ 0 ∷ 0 ∷ 0 ∷ 0 ∷ 0 ∷ 0 ∷ 0 ∷ 0 ∷ 0 ∷ 0 ∷ 0 ∷ 20 ∷ 0 ∷ 0 ∷ 0 ∷ 20 ∷ 0 ∷ []
+    ++ 195 ∷ 0 ∷ 0 ∷ 0 ∷ 0 ∷ 0 ∷ 2 ∷ 1 ∷ 0 ∷ 2 ∷ 4 ∷ 0 ∷ 0 ∷ 0 ∷ 0 ∷ 0 ∷ 1 ∷ 1 ∷ 255 ∷ 255 ∷ 255 ∷ 251 ∷ 0 ∷ 0 ∷ 0 ∷ 30 ∷ []
+    ++ 195 ∷ 0 ∷ 0 ∷ 0 ∷ 0 ∷ 0 ∷ 3 ∷ 1 ∷ 0 ∷ 3 ∷ 5 ∷ 0 ∷ 0 ∷ 0 ∷ 0 ∷ 0 ∷ 1 ∷ 1 ∷ 1 ∷ 0 ∷ 0 ∷ 171 ∷ 12 ∷ []
+    ++ 195 ∷ 0 ∷ 0 ∷ 0 ∷ 0 ∷ 0 ∷ 4 ∷ 1 ∷ 0 ∷ 4 ∷ 5 ∷ 0 ∷ 0 ∷ 0 ∷ 0 ∷ 0 ∷ 1 ∷ 1 ∷ 2 ∷ 0 ∷ 255 ∷ 128 ∷ 0 ∷ []
+    ++ 195 ∷ 0 ∷ 0 ∷ 0 ∷ 0 ∷ 0 ∷ 5 ∷ 1 ∷ 0 ∷ 5 ∷ 5 ∷ 0 ∷ 0 ∷ 0 ∷ 0 ∷ 0 ∷ 1 ∷ 1 ∷ 3 ∷ 0 ∷ 0 ∷ 0 ∷ 64 ∷ []
+    ++ 195 ∷ 0 ∷ 0 ∷ 0 ∷ 0 ∷ 0 ∷ 6 ∷ 1 ∷ 0 ∷ 6 ∷ 6 ∷ 0 ∷ 0 ∷ 0 ∷ 0 ∷ 0 ∷ 1 ∷ 1 ∷ 5 ∷ 99 ∷ 97 ∷ 102 ∷ 195 ∷ 169 ∷ []
+    ++ 195 ∷ 0 ∷ 0 ∷ 0 ∷ 0 ∷ 0 ∷ 7 ∷ 1 ∷ 0 ∷ 7 ∷ 5 ∷ 0 ∷ 0 ∷ 0 ∷ 0 ∷ 0 ∷ 1 ∷ 2 ∷ 2 ∷ 255 ∷ 255 ∷ 255 ∷ 255 ∷ []
+    ++ 0 ∷ []
+
+abbrev pub styled_events : List Event
+styled_events =
+    event 1 1 1 (Create Ellipse (pos 0) (pos 0) (pos 20) (pos 20) [])
+    ∷ event 2 1 2 (Resize (at_stamp 1 1) (negsuc 4) (pos 30))
+    ∷ event 3 1 3 (Restyle (at_stamp 1 1) (Stroke 0x00AB0C))
+    ∷ event 4 1 4 (Restyle (at_stamp 1 1) (Fill (Some 0xFF8000)))
+    ∷ event 5 1 5 (Restyle (at_stamp 1 1) (Width 64))
+    ∷ event 6 1 6 (Retext (at_stamp 1 1) (99 ∷ 97 ∷ 102 ∷ 195 ∷ 169 ∷ []))
+    ∷ event 7 1 7 (Restyle (at_stamp 1 2) (Fill None))
+    ∷ []
+
+abbrev pub styled_text : List (List ℕ)
+styled_text =
+    (codes "ellipse 1.1 in - at 0 0 size -5 30 stroke 00AB0C fill FF8000 width 64 text caf" ++ 195 ∷ 169 ∷ 10 ∷ [])
+    ∷ codes "end 1\n"
+    ∷ []
+
 -- a raise whose stamp is greater comes first in the log, and lifts its object above all
 abbrev pub rank_events : List Event
 rank_events =
@@ -118,6 +150,14 @@ no_field = 71 ∷ 68 ∷ 79 ∷ 76 ∷ 1 ∷ 0 ∷ 0 ∷ 0 ∷ 7 ∷ 0 ∷ 2 ∷
 -- a delete of what its own event would have made
 abbrev pub future_log : List ℕ
 future_log = header_bytes ++ 195 ∷ 0 ∷ 0 ∷ 0 ∷ 0 ∷ 0 ∷ 2 ∷ 1 ∷ 0 ∷ 1 ∷ 2 ∷ 0 ∷ 0 ∷ 0 ∷ 0 ∷ 0 ∷ 2 ∷ 1 ∷ []
+
+-- a resize of what its own event would have made, to a width that is out of range too
+abbrev pub future_resize_log : List ℕ
+future_resize_log = header_bytes ++ 195 ∷ 0 ∷ 0 ∷ 0 ∷ 0 ∷ 0 ∷ 2 ∷ 1 ∷ 0 ∷ 1 ∷ 4 ∷ 0 ∷ 0 ∷ 0 ∷ 0 ∷ 0 ∷ 2 ∷ 1 ∷ 127 ∷ 0 ∷ 0 ∷ 0 ∷ 0 ∷ 0 ∷ 0 ∷ 0 ∷ []
+
+-- a stroke one above the last colour
+abbrev pub no_colour_log : List ℕ
+no_colour_log = header_bytes ++ 195 ∷ 0 ∷ 0 ∷ 0 ∷ 0 ∷ 0 ∷ 2 ∷ 1 ∷ 0 ∷ 1 ∷ 5 ∷ 0 ∷ 0 ∷ 0 ∷ 0 ∷ 0 ∷ 1 ∷ 1 ∷ 1 ∷ 1 ∷ 0 ∷ 0 ∷ 0 ∷ []
 
 -- the tie's log with an event of site 3
 abbrev pub no_site_log : List ℕ

@@ -7,7 +7,7 @@ ghost use Rattle.gd_model.specs.LogBytes.{log};
 ghost use Rattle.gd_model.specs.Drawing.{picture};
 ghost use Rattle.gd_model.specs.Text.{text};
 ghost use Rattle.gd_model.specs.SlowRun.{bad_log_line, slow_effects, slow_end, usage_line};
-ghost use Rattle.gd_model.specs.Worked.{header, header_bytes, empty_log, tie_log, tie_events, tie_text, rank_events, rank_text, effect_before_cause, end_alone, replay_words, other_words, prints_of, moved_log, moved_events, moved_text, unbuilt_log, no_magic, no_version, no_field, future_log, no_site_log, turn_log, backdated_log, fault_at};
+ghost use Rattle.gd_model.specs.Worked.{header, header_bytes, empty_log, tie_log, tie_events, tie_text, rank_events, rank_text, effect_before_cause, end_alone, replay_words, other_words, prints_of, moved_log, moved_events, moved_text, styled_log, styled_events, styled_text, unbuilt_log, no_magic, no_version, no_field, future_log, future_resize_log, no_colour_log, no_site_log, turn_log, backdated_log, fault_at};
 
 /// A log without events prints no object, with its closed gate and without.
 pub fn an_empty_log_prints_its_end()
@@ -28,6 +28,12 @@ pub fn a_move_and_a_label_are_shown()
     ensures printed { slow_effects replay_words moved_log ≡ prints_of moved_text }
 {}
 
+/// A size, both colours, the width and a label are those that were set last, and what is set of no object changes nothing.
+pub fn a_look_is_set()
+    ensures read { log styled_log ≡ Ok (header, styled_events) }
+    ensures printed { slow_effects replay_words styled_log ≡ prints_of styled_text }
+{}
+
 /// A raise lifts its object above all whose creates and raises come before it by their stamps.
 pub fn the_last_raise_is_on_top()
     ensures { text (picture rank_events) ≡ rank_text }
@@ -44,6 +50,8 @@ pub fn a_fault_has_its_place()
     ensures version { log no_version ≡ fault_at Version 7 }
     ensures field { log no_field ≡ fault_at Field 2 }
     ensures future { log future_log ≡ fault_at FutureId 7 }
+    ensures future_resize { log future_resize_log ≡ fault_at FutureId 15 }
+    ensures no_colour { log no_colour_log ≡ fault_at Field 4 }
     ensures cut { log (take 32 tie_log) ≡ fault_at Short 0 }
     ensures unbuilt { log unbuilt_log ≡ fault_at NotBuilt 1 }
     ensures no_site { log no_site_log ≡ fault_at NoSite 52 }

@@ -19,6 +19,17 @@ const EFFECT_FIRST: [u8; 59] = [
     0, 0,
 ];
 
+// An ellipse, its size, its stroke, fill, width and label, and the fill of an object that isn't there.
+const LOOK: [u8; 183] = [
+    b'G', b'D', b'O', b'L', 1, 0, 0, 0, 7, 1, 2, 0xC3, 0, 0, 0, 0, 0, 1, 1, 0, 1, 1, 2, 0, 0, 0, 0,
+    0, 0, 0, 0, 0, 0, 0, 20, 0, 0, 0, 20, 0, 0xC3, 0, 0, 0, 0, 0, 2, 1, 0, 2, 4, 0, 0, 0, 0, 0, 1,
+    1, 0xFF, 0xFF, 0xFF, 0xFB, 0, 0, 0, 30, 0xC3, 0, 0, 0, 0, 0, 3, 1, 0, 3, 5, 0, 0, 0, 0, 0, 1,
+    1, 1, 0, 0, 0xAB, 12, 0xC3, 0, 0, 0, 0, 0, 4, 1, 0, 4, 5, 0, 0, 0, 0, 0, 1, 1, 2, 0, 0xFF,
+    0x80, 0, 0xC3, 0, 0, 0, 0, 0, 5, 1, 0, 5, 5, 0, 0, 0, 0, 0, 1, 1, 3, 0, 0, 0, 64, 0xC3, 0, 0,
+    0, 0, 0, 6, 1, 0, 6, 6, 0, 0, 0, 0, 0, 1, 1, 5, b'c', b'a', b'f', 0xC3, 0xA9, 0xC3, 0, 0, 0, 0,
+    0, 7, 1, 0, 7, 5, 0, 0, 0, 0, 0, 1, 2, 2, 0xFF, 0xFF, 0xFF, 0xFF, 0,
+];
+
 // A record of tag 8, cut behind it.
 const UNBUILT: [u8; 22] = [
     b'G', b'D', b'O', b'L', 1, 0, 0, 0, 7, 1, 2, 0xC3, 0, 0, 0, 0, 0, 1, 1, 0, 1, 8,
@@ -26,6 +37,9 @@ const UNBUILT: [u8; 22] = [
 
 const RANKS_TEXT: &str =
     "ellipse 2.1 in - at 0 0 size 20 20 stroke 000000 fill none width 1\nrect 1.1 in - at 0 0 size 10 10 stroke 000000 fill none width 1\nend 2\n";
+
+const LOOK_TEXT: &str =
+    "ellipse 1.1 in - at 0 0 size -5 30 stroke 00AB0C fill FF8000 width 64 text café\nend 1\n";
 
 #[test]
 fn an_empty_log_ends_with_its_gate_or_its_bytes(rt: HostRuntime) -> Result<(), Fail> {
@@ -58,6 +72,44 @@ fn a_delete_before_its_create_deletes(rt: HostRuntime) -> Result<(), Fail> {
     let (status, output) = ran_over(rt.alloc(), &["replay"], &EFFECT_FIRST)?;
     assert_eq!(rt; status, Status::Done);
     assert_eq!(rt; output.bytes(), b"end 0\n".as_slice());
+    Ok(())
+}
+
+#[test]
+fn a_look_is_set(rt: HostRuntime) -> Result<(), Fail> {
+    let (status, output) = ran_over(rt.alloc(), &["replay"], &LOOK)?;
+    assert_eq!(rt; status, Status::Done);
+    assert_eq!(rt; output.bytes(), LOOK_TEXT.as_bytes());
+    Ok(())
+}
+
+// The resize's width and height; what is set of the look; the stroke; the fill; the width; the label's length and its
+// text, in which é loses its second byte; and a fill that is none but for its last byte.
+#[test]
+fn a_field_out_of_range_is_bad(rt: HostRuntime) -> Result<(), Fail> {
+    for (at, value) in [
+        (58, 0x7F),
+        (62, 1),
+        (84, 0),
+        (84, 4),
+        (85, 1),
+        (108, 1),
+        (131, 1),
+        (134, 0),
+        (134, 65),
+        (153, 65),
+        (154, 0x1F),
+        (158, b'e'),
+        (181, 0xFE),
+    ] {
+        let mut bytes = LOOK;
+        if let Some(byte) = bytes.get_mut(at) {
+            *byte = value;
+        }
+        let (status, output) = ran_over(rt.alloc(), &["replay"], &bytes)?;
+        assert_eq!(rt; status.number(), 3, "at {at}");
+        assert_eq!(rt; output.bytes(), b"bad log\n".as_slice(), "at {at}");
+    }
     Ok(())
 }
 

@@ -1,6 +1,6 @@
 use Rattle.std.proofs.Common.{refl}
 use Rattle.std.specs.Str.{chars, is_utf8}
-use Rattle.gd_model.specs.EventBytes.{byte_at, clock_at, site_at, stamp_at, id_at, number_at, signed_at, shape_at, label_at, create_at, delete_at, move_at, raise_at, op_at, event_at}
+use Rattle.gd_model.specs.EventBytes.{byte_at, clock_at, site_at, stamp_at, id_at, number_at, signed_at, shape_at, label_at, word_at, colour_at, fill_at, width_at, stroke_style_at, fill_style_at, width_style_at, style_at, create_at, delete_at, move_at, resize_at, restyle_at, retext_at, raise_at, op_at, event_at}
 use Rattle.gd_model.specs.LogBytes.{magic_at, version_at, session_at, sites_at, header_at, turn_fault, record_at, step_at, events_at, log}
 use Rattle.gd_base.specs.Stamps.{stamp_cmp}
 use Rattle.gd_model.proofs.rows.a_fault_has_its_place.Goals as goal
@@ -40,3 +40,11 @@ returns-clause-field c = refl
 pub returns-clause-future : goal.returns-clause-future
 unfolding chars is_utf8 byte_at clock_at site_at stamp_at id_at number_at signed_at shape_at label_at create_at delete_at move_at raise_at op_at event_at magic_at version_at session_at sites_at header_at turn_fault record_at step_at events_at log stamp_cmp
 returns-clause-future c = refl
+
+pub returns-clause-future_resize : goal.returns-clause-future_resize
+unfolding chars is_utf8 byte_at clock_at site_at stamp_at id_at number_at signed_at shape_at label_at word_at colour_at fill_at width_at stroke_style_at fill_style_at width_style_at style_at create_at delete_at move_at resize_at restyle_at retext_at raise_at op_at event_at magic_at version_at session_at sites_at header_at turn_fault record_at step_at events_at log stamp_cmp
+returns-clause-future_resize c = refl
+
+pub returns-clause-no_colour : goal.returns-clause-no_colour
+unfolding chars is_utf8 byte_at clock_at site_at stamp_at id_at number_at signed_at shape_at label_at word_at colour_at fill_at width_at stroke_style_at fill_style_at width_style_at style_at create_at delete_at move_at resize_at restyle_at retext_at raise_at op_at event_at magic_at version_at session_at sites_at header_at turn_fault record_at step_at events_at log stamp_cmp
+returns-clause-no_colour c = refl
