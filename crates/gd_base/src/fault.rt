@@ -8,8 +8,7 @@ pub enum FieldWhy {
     Version,
     Field,
     FutureId,
-    /// An operation that isn't built yet.
-    NotBuilt,
+    MemberOrder,
 }
 
 /// The first fault of fields that are read from left to right.
@@ -28,8 +27,7 @@ pub enum WireWhy {
     Version,
     Field,
     FutureId,
-    /// An operation that isn't built yet.
-    NotBuilt,
+    MemberOrder,
 }
 
 /// The first fault, and its place, counted from the first byte.
@@ -47,9 +45,8 @@ pub enum LogWhy {
     Version,
     Field,
     FutureId,
+    MemberOrder,
     NoSite,
     Turn,
     Backdated,
-    /// An operation that isn't built yet.
-    NotBuilt,
 }

@@ -1,8 +1,9 @@
-//! What every crate speaks of: stamps, labels, names, shapes, styles, short lists, faults of reading, and steps.
+//! What every crate speaks of: stamps, labels, names, shapes, styles, items, short lists, faults of reading, and steps.
 #![tactic(auto)]
 
 mod fault;
 mod ids;
+mod item;
 mod label;
 mod member;
 mod name;
@@ -15,6 +16,7 @@ mod style;
 
 pub use fault::{FieldFault, FieldWhy, LogWhy, WireFault, WireWhy};
 pub use ids::Ids;
+pub use item::{Item, ShapeItem};
 pub use label::{Label, LabelFault};
 pub use member::{Member, Members};
 pub use name::Name;

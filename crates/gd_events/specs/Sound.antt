@@ -1,14 +1,20 @@
--- Which events are sound: the number is at least 1, the fields are in their ranges, and every id that the operation
--- names is before the event's own stamp.
-use Rattle.std.specs.Prelude.{◌≡◌, Bool, true, ◌&&◌, not, ◌==◌, if◌then◌else◌, Option, Some, None, ◌≤◌}
+-- Which events are sound: the number is at least 1, the fields are in their ranges, a group has at least 2 members, every
+-- id that the operation names is before the event's own stamp, and the ids of a group's members rise.
+use Rattle.std.specs.Prelude.{◌≡◌, ℕ, Bool, true, ◌&&◌, not, ◌==◌, nat_le, if◌then◌else◌, Option, Some, None, ◌≤◌, List, [], ◌∷◌, length}
+use Rattle.std.specs.List.{list_all}
 use Rattle.gd_base.specs.Stamps.{Stamp, IsStamp, is_before}
 use Rattle.gd_base.specs.Labels.{IsLabel}
+use Rattle.gd_base.specs.Members.{AreStamped}
 use Rattle.gd_base.specs.Ranges.{place_limit, size_limit, is_within, is_style}
+use Rattle.gd_base.specs.declared.member.Member.{Member}
 use Rattle.gd_events.specs.declared.op.Op.{Op}
-use Rattle.gd_events.specs.declared.op.Op.TheVariants.{Create, Delete, Move, Resize, Restyle, Retext, Raise}
+use Rattle.gd_events.specs.declared.op.Op.TheVariants.{Create, Delete, Move, Resize, Restyle, Retext, Group, Ungroup, Raise}
 use Rattle.gd_events.specs.declared.event.EventFault.{EventFault}
-use Rattle.gd_events.specs.declared.event.EventFault.TheVariants.{Seq, Range, FutureId}
+use Rattle.gd_events.specs.declared.event.EventFault.TheVariants.{Seq, Range, MemberCount, FutureId, MemberOrder}
 use Rattle.gd_events.specs.Events.{Event}
+
+abbrev pub is_shift_in_range : Member → Bool
+is_shift_in_range m = is_within place_limit m.dx && is_within place_limit m.dy
 
 -- the numbers of the operation are in their ranges
 abbrev pub is_in_range : Op → Bool
@@ -18,7 +24,24 @@ is_in_range (Move id x y) = is_within place_limit x && is_within place_limit y
 is_in_range (Resize id w h) = is_within size_limit w && is_within size_limit h
 is_in_range (Restyle id style) = is_style style
 is_in_range (Retext id label) = true
+is_in_range (Group members) = list_all is_shift_in_range members
+is_in_range (Ungroup id) = true
 is_in_range (Raise id) = true
+
+-- a group has at least 2 members
+abbrev pub has_members : Op → Bool
+has_members (Create kind x y w h label) = true
+has_members (Delete id) = true
+has_members (Move id x y) = true
+has_members (Resize id w h) = true
+has_members (Restyle id style) = true
+has_members (Retext id label) = true
+has_members (Group members) = nat_le 2 (length members)
+has_members (Ungroup id) = true
+has_members (Raise id) = true
+
+abbrev pub is_member_before : Stamp → Member → Bool
+is_member_before stamp m = is_before m.id stamp
 
 -- the ids that the operation names are before the stamp
 abbrev pub names_before : Stamp → Op → Bool
@@ -28,17 +51,43 @@ names_before stamp (Move id x y) = is_before id stamp
 names_before stamp (Resize id w h) = is_before id stamp
 names_before stamp (Restyle id style) = is_before id stamp
 names_before stamp (Retext id label) = is_before id stamp
+names_before stamp (Group members) = list_all (is_member_before stamp) members
+names_before stamp (Ungroup id) = is_before id stamp
 names_before stamp (Raise id) = is_before id stamp
+
+-- the id is above the last one, if there is one
+abbrev pub is_above : Option Stamp → Stamp → Bool
+is_above None id = true
+is_above (Some last) id = is_before last id
+
+-- the ids rise strictly, and are above the last one, if there is one
+unfoldable pub rise_above : Option Stamp → List Member → Bool
+rise_above last [] = true
+rise_above last (m ∷ ms) = is_above last m.id && rise_above (Some m.id) ms
+
+-- the ids of a group's members rise strictly
+abbrev pub has_rising_members : Op → Bool
+has_rising_members (Create kind x y w h label) = true
+has_rising_members (Delete id) = true
+has_rising_members (Move id x y) = true
+has_rising_members (Resize id w h) = true
+has_rising_members (Restyle id style) = true
+has_rising_members (Retext id label) = true
+has_rising_members (Group members) = rise_above None members
+has_rising_members (Ungroup id) = true
+has_rising_members (Raise id) = true
 
 -- the first rule that the event breaks, if it breaks one
 abbrev pub event_fault : Event → Option EventFault
 event_fault e =
     if e.number == 0 then Some Seq
     else if not (is_in_range e.op) then Some Range
+    else if not (has_members e.op) then Some MemberCount
     else if not (names_before e.stamp e.op) then Some FutureId
+    else if not (has_rising_members e.op) then Some MemberOrder
     else None
 
--- the ids and the label of the operation are what their types say
+-- the ids, the label and the number of members of the operation are what their types say
 abbrev pub IsWellTyped : Op → Type 0
 IsWellTyped (Create kind x y w h label) = IsLabel label
 IsWellTyped (Delete id) = IsStamp id
@@ -46,6 +95,8 @@ IsWellTyped (Move id x y) = IsStamp id
 IsWellTyped (Resize id w h) = IsStamp id
 IsWellTyped (Restyle id style) = IsStamp id
 IsWellTyped (Retext id label) = IsStamp id × IsLabel label
+IsWellTyped (Group members) = (length members ≤ 32) × AreStamped members
+IsWellTyped (Ungroup id) = IsStamp id
 IsWellTyped (Raise id) = IsStamp id
 
 pub record IsSound (e : Event) : Type 0 where

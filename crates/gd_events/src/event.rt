@@ -1,10 +1,10 @@
-ghost use Rattle.std.specs.Prelude.{◌≡◌, ◌≤◌, Some, None, MatchResult};
-ghost use Rattle.std.specs.Prelude.{pos, nat_abs};
+ghost use Rattle.std.specs.Prelude.{◌≡◌, ◌≤◌, Some, None, MatchResult, pos, nat_abs};
+ghost use Rattle.std.specs.List.{list_all};
 ghost use Rattle.gd_base.specs.Ranges.{is_within};
-ghost use Rattle.gd_events.specs.Sound.{event_fault, is_in_range, names_before, IsSound};
+ghost use Rattle.gd_events.specs.Sound.{event_fault, is_shift_in_range, is_in_range, has_members, is_member_before, names_before, is_above, rise_above, has_rising_members, IsSound};
 
 use crate::op::Op;
-use gd_base::{PLACE_LIMIT, SIZE_LIMIT, Stamp};
+use gd_base::{Member, PLACE_LIMIT, SIZE_LIMIT, Stamp};
 use std::marker::Model;
 
 /// Why an event isn't sound.
@@ -12,10 +12,14 @@ use std::marker::Model;
 pub enum EventFault {
     /// The number is 0.
     Seq,
-    /// A place, a size, a colour or a width is out of its range.
+    /// A place, a shift, a size, a colour or a width is out of its range.
     Range,
+    /// A group has fewer than 2 members.
+    MemberCount,
     /// An id that the operation names isn't before the event's stamp.
     FutureId,
+    /// The ids of a group's members don't rise strictly.
+    MemberOrder,
 }
 
 /// What a site's user did: a stamp, the number among that site's events, from 1, and the operation. It is always sound.
@@ -38,7 +42,7 @@ impl Model for Event {
 }
 
 impl Event {
-    /// The first of `Seq`, `Range` and `FutureId` that applies is the fault.
+    /// The first of `Seq`, `Range`, `MemberCount`, `FutureId` and `MemberOrder` that applies is the fault.
     pub fn new(stamp: Stamp, seq: u16, op: Op) -> Result<Self, EventFault>
         ensures { MatchResult result
             (λ e. (e ≡ record { stamp = stamp; number = seq; op = op }) × IsSound e)
@@ -50,8 +54,14 @@ impl Event {
         if !is_in_range(&op) {
             return Err(EventFault::Range);
         }
+        if !has_members(&op) {
+            return Err(EventFault::MemberCount);
+        }
         if !names_before(stamp, &op) {
             return Err(EventFault::FutureId);
+        }
+        if !has_rising_members(&op) {
+            return Err(EventFault::MemberOrder);
         }
         Ok(Event {
             stamp,
@@ -112,7 +122,24 @@ fn is_in_range(op: &Op) -> bool
         Op::Move { x, y, .. } => is_within(PLACE_LIMIT, *x) && is_within(PLACE_LIMIT, *y),
         Op::Resize { w, h, .. } => is_within(SIZE_LIMIT, *w) && is_within(SIZE_LIMIT, *h),
         Op::Restyle { style, .. } => style.is_in_range(),
-        Op::Delete { .. } | Op::Retext { .. } | Op::Raise { .. } => true,
+        Op::Group { members } => are_shifts_in_range(members.as_slice()),
+        Op::Delete { .. } | Op::Retext { .. } | Op::Ungroup { .. } | Op::Raise { .. } => true,
+    }
+}
+
+fn are_shifts_in_range(members: &[Member]) -> bool
+    ensures { result ≡ list_all is_shift_in_range members.now }
+{
+    members.iter().all(|member| is_within(PLACE_LIMIT, member.dx)
+        && is_within(PLACE_LIMIT, member.dy))
+}
+
+fn has_members(op: &Op) -> bool
+    ensures { result ≡ has_members op.now }
+{
+    match op {
+        Op::Group { members } => members.as_slice().len() >= 2,
+        _ => true,
     }
 }
 
@@ -126,6 +153,47 @@ fn names_before(stamp: Stamp, op: &Op) -> bool
         | Op::Resize { id, .. }
         | Op::Restyle { id, .. }
         | Op::Retext { id, .. }
+        | Op::Ungroup { id }
         | Op::Raise { id } => id.is_before(stamp),
+        Op::Group { members } => are_members_before(stamp, members.as_slice()),
+    }
+}
+
+fn are_members_before(stamp: Stamp, members: &[Member]) -> bool
+    ensures { result ≡ list_all (is_member_before stamp) members.now }
+{
+    members.iter().all(|member| member.id.is_before(stamp))
+}
+
+fn has_rising_members(op: &Op) -> bool
+    ensures { result ≡ has_rising_members op.now }
+{
+    match op {
+        Op::Group { members } => are_rising(members.as_slice()),
+        _ => true,
+    }
+}
+
+/// Whether the ids of the members rise strictly.
+#[tactic(auto, unfolding(crate::specs::Sound::rise_above))]
+fn are_rising(members: &[Member]) -> bool
+    ensures { result ≡ rise_above None members.now }
+{
+    let mut last = None;
+    for member in members {
+        if !is_above(last, member.id) {
+            return false;
+        }
+        last = Some(member.id);
+    }
+    true
+}
+
+fn is_above(last: Option<Stamp>, id: Stamp) -> bool
+    ensures { result ≡ is_above last id }
+{
+    match last {
+        None => true,
+        Some(last) => last.is_before(id),
     }
 }

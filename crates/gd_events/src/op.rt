@@ -1,8 +1,9 @@
 ghost use Rattle.std.specs.Prelude.{◌≡◌};
 
-use gd_base::{Label, Shape, Stamp, Style};
+use gd_base::{Label, Members, Shape, Stamp, Style};
 
-/// An operation on a drawing. Places are from `-PLACE_LIMIT` to `PLACE_LIMIT`, sizes from `-SIZE_LIMIT` to `SIZE_LIMIT`.
+/// An operation on a drawing. Places and shifts are from `-PLACE_LIMIT` to `PLACE_LIMIT`, sizes from `-SIZE_LIMIT` to
+/// `SIZE_LIMIT`.
 #[derive(Drop)]
 pub enum Op {
     /// A new shape on top, with the event's stamp as its id.
@@ -37,6 +38,14 @@ pub enum Op {
     Retext {
         id: Stamp,
         label: Label,
+    },
+    /// A new group on top, with the event's stamp as its id. Each member that is there is linked to it, with its shift.
+    Group {
+        members: Members,
+    },
+    /// Marks a group as dissolved.
+    Ungroup {
+        id: Stamp,
     },
     /// Moves the object to the top.
     Raise {
@@ -86,6 +95,11 @@ impl Op {
                 let label = label.copy();
                 Op::Retext { id: *id, label }
             }
+            Op::Group { members } => {
+                let members = members.copy();
+                Op::Group { members }
+            }
+            Op::Ungroup { id } => Op::Ungroup { id: *id },
             Op::Raise { id } => Op::Raise { id: *id },
         }
     }

@@ -1,8 +1,11 @@
 pub mod Reading
 pub mod EventBytes
 pub mod LogBytes
+pub mod Objects
 pub mod Forms
 pub mod Drawing
+pub mod Board
+pub mod Shown
 pub mod Text
 pub mod Effects
 pub mod SlowRun

@@ -8,7 +8,7 @@ use Rattle.gd_base.specs.declared.fault.FieldFault.{FieldFault}
 use Rattle.gd_base.specs.declared.fault.FieldWhy.{FieldWhy}
 use Rattle.gd_base.specs.declared.fault.FieldWhy.TheVariants as field
 use Rattle.gd_base.specs.declared.fault.LogWhy.{LogWhy}
-use Rattle.gd_base.specs.declared.fault.LogWhy.TheVariants.{Short, Magic, Version, Field, FutureId, NoSite, Turn, Backdated, NotBuilt}
+use Rattle.gd_base.specs.declared.fault.LogWhy.TheVariants.{Short, Magic, Version, Field, FutureId, MemberOrder, NoSite, Turn, Backdated}
 use Rattle.gd_events.specs.Events.{Event}
 use Rattle.gd_model.specs.Reading.{Reads, ◌>>=◌, fault_at, bytes_at, ranged}
 use Rattle.gd_model.specs.EventBytes.{byte_at, site_at, event_at}
@@ -74,7 +74,7 @@ log_why field.Magic = Magic
 log_why field.Version = Version
 log_why field.Field = Field
 log_why field.FutureId = FutureId
-log_why field.NotBuilt = NotBuilt
+log_why field.MemberOrder = MemberOrder
 
 abbrev pub in_log : {A : Type 0} → Result A FieldFault → Result A LogFault
 in_log (Ok x) = Ok x

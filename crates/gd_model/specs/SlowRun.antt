@@ -1,7 +1,5 @@
 -- The slow run: what a command does to the outside, and how it ends, by plain definitions that keep no drawing.
 use Rattle.std.specs.Prelude.{ℕ, Bool, false, List, [], ◌∷◌, map, Result, Ok, Err, bytes_eq, codes, if◌then◌else◌}
-use Rattle.gd_base.specs.declared.fault.LogWhy.{LogWhy}
-use Rattle.gd_base.specs.declared.fault.LogWhy.TheVariants as why
 use Rattle.gd_events.specs.Events.{Event}
 use Rattle.gd_outside.specs.declared.status.Status.{Status}
 use Rattle.gd_outside.specs.declared.status.Status.TheVariants as status
@@ -16,23 +14,14 @@ bad_log_line = codes "bad log\n"
 abbrev pub usage_line : List ℕ
 usage_line = codes "usage: groupdesign COMMAND OPTIONS\n"
 
--- a record that isn't built yet ends the run in silence
-abbrev pub refused : LogWhy → List Effect
-refused why.NotBuilt = []
-refused other = Print bad_log_line ∷ []
-
-abbrev pub refused_end : LogWhy → Status
-refused_end why.NotBuilt = status.NotBuilt
-refused_end other = status.BadLog
-
 -- what `replay` does with a log, or with bytes that are none
 abbrev pub replayed : Result (Header × List Event) LogFault → List Effect
 replayed (Ok found) = map Print (text (picture found.1))
-replayed (Err fault) = refused fault.why
+replayed (Err fault) = Print bad_log_line ∷ []
 
 abbrev pub replayed_end : Result (Header × List Event) LogFault → Status
 replayed_end (Ok found) = status.Done
-replayed_end (Err fault) = refused_end fault.why
+replayed_end (Err fault) = status.BadLog
 
 -- which words name the command
 abbrev pub is_replay : List (List ℕ) → Bool

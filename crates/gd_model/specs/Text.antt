@@ -1,14 +1,13 @@
--- The text of a drawing: a line for each object from bottom to top, then the number of these lines. No operation makes a
--- group yet, so each object is shown, none is in a group, and each stands at its own place.
+-- The text of a drawing: a line for each shown object in printed order, then the number of these lines.
 use Rattle.std.specs.Prelude.{ℕ, ◌+◌, ◌/◌, ◌%◌, ℤ, List, [], ◌∷◌, ◌++◌, length, map, Option, Some, None, ◌==◌, nat_lt, nat_le, codes, decimal, if◌then◌else◌}
 use Rattle.std.specs.Fmt.{signed_decimal}
 use Rattle.gd_base.specs.Stamps.{Stamp}
 use Rattle.gd_base.specs.declared.shape.Shape as shape
 use Rattle.gd_base.specs.declared.shape.Shape.TheVariants.{Rect, Ellipse, Line, Text}
-use Rattle.gd_model.specs.declared.object.Kind.{Kind}
-use Rattle.gd_model.specs.declared.object.Kind.TheVariants.{Shape, Group}
-use Rattle.gd_model.specs.declared.object.Object.{Object}
+use Rattle.gd_base.specs.declared.item.Item.{Item}
+use Rattle.gd_base.specs.declared.item.ShapeItem.{ShapeItem}
 use Rattle.gd_model.specs.Drawing.{Drawing}
+use Rattle.gd_model.specs.Shown.{items}
 
 -- a hexadecimal digit, in upper case
 unfoldable pub hex_digit : ℕ → ℕ
@@ -39,9 +38,14 @@ shape_word Ellipse = codes "ellipse"
 shape_word Line = codes "line"
 shape_word Text = codes "text"
 
-abbrev pub kind_word : Kind → List ℕ
-kind_word (Shape kind) = shape_word kind
-kind_word Group = codes "group"
+abbrev pub kind_word : Option ShapeItem → List ℕ
+kind_word (Some shape) = shape_word shape.kind
+kind_word None = codes "group"
+
+-- an id, or that there is none
+abbrev pub parent_text : Option Stamp → List ℕ
+parent_text None = codes "-"
+parent_text (Some id) = id_text id
 
 abbrev pub fill_text : Option ℕ → List ℕ
 fill_text None = codes "none"
@@ -50,9 +54,11 @@ fill_text (Some colour) = colour_text colour
 abbrev pub label_text : List ℕ → List ℕ
 label_text label = if length label == 0 then [] else codes " text " ++ label
 
--- what it is, its id, its group and its place
-unfoldable pub head_text : Stamp → Object → List ℕ
-head_text id o = kind_word o.kind ++ codes " " ++ id_text id ++ codes " in - at " ++ signed_decimal o.x ++ codes " " ++ signed_decimal o.y
+-- what it is, its id, its effective parent and its place
+unfoldable pub head_text : Item → List ℕ
+head_text i =
+    kind_word i.shape ++ codes " " ++ id_text i.id ++ codes " in " ++ parent_text i.parent
+    ++ codes " at " ++ signed_decimal i.at.x ++ codes " " ++ signed_decimal i.at.y
 
 unfoldable pub size_text : ℤ → ℤ → List ℕ
 size_text w h = codes " size " ++ signed_decimal w ++ codes " " ++ signed_decimal h
@@ -64,19 +70,23 @@ unfoldable pub width_text : ℕ → List ℕ
 width_text width = codes " width " ++ decimal width
 
 -- what only a shape has
-unfoldable pub look_text : Object → List ℕ
-look_text o = size_text o.w o.h ++ colours_text o.stroke o.fill ++ width_text o.width ++ label_text o.label
+unfoldable pub look_text : ShapeItem → List ℕ
+look_text s = size_text s.w s.h ++ colours_text s.stroke s.fill ++ width_text s.width ++ label_text s.label
 
-abbrev pub look_of : Kind → Object → List ℕ
-look_of (Shape kind) o = look_text o
-look_of Group o = []
+abbrev pub look_of : Option ShapeItem → List ℕ
+look_of (Some shape) = look_text shape
+look_of None = []
 
-unfoldable pub object_line : Stamp → Object → List ℕ
-object_line id o = head_text id o ++ look_of o.kind o ++ codes "\n"
+unfoldable pub item_line : Item → List ℕ
+item_line i = head_text i ++ look_of i.shape ++ codes "\n"
 
 unfoldable pub end_line : ℕ → List ℕ
 end_line count = codes "end " ++ decimal count ++ codes "\n"
 
+-- the lines of these items
+abbrev pub lines : List Item → List (List ℕ)
+lines is = map item_line is ++ end_line (length is) ∷ []
+
 -- the lines of a drawing
 abbrev pub text : Drawing → List (List ℕ)
-text d = map (λ e. object_line e.0 e.1) d ++ end_line (length d) ∷ []
+text d = lines (items d)

@@ -1,10 +1,11 @@
 -- Worked rows: logs of a few events, byte by byte, and what is printed of them.
-use Rattle.std.specs.Prelude.{ℕ, pos, negsuc, List, [], ◌∷◌, ◌++◌, map, codes, Some, None, Result, Err}
+use Rattle.std.specs.Prelude.{ℕ, ℤ, pos, negsuc, List, [], ◌∷◌, ◌++◌, map, codes, Some, None, Result, Err}
 use Rattle.gd_base.specs.Stamps.{Stamp}
+use Rattle.gd_base.specs.declared.member.Member.{Member}
 use Rattle.gd_base.specs.declared.shape.Shape.TheVariants.{Rect, Ellipse}
 use Rattle.gd_base.specs.declared.style.Style.TheVariants.{Stroke, Fill, Width}
 use Rattle.gd_events.specs.declared.op.Op.{Op}
-use Rattle.gd_events.specs.declared.op.Op.TheVariants.{Create, Delete, Move, Resize, Restyle, Retext, Raise}
+use Rattle.gd_events.specs.declared.op.Op.TheVariants.{Create, Delete, Move, Resize, Restyle, Retext, Group, Ungroup, Raise}
 use Rattle.gd_events.specs.Events.{Event}
 use Rattle.gd_base.specs.declared.fault.LogWhy.{LogWhy}
 use Rattle.gd_model.specs.LogBytes.{Header, LogFault}
@@ -15,6 +16,9 @@ at_stamp clock site = record { clock = clock; site = site }
 
 abbrev pub event : ℕ → ℕ → ℕ → Op → Event
 event clock site number op = record { stamp = at_stamp clock site; number = number; op = op }
+
+abbrev pub member : ℕ → ℕ → ℤ → ℤ → Member
+member clock site dx dy = record { id = at_stamp clock site; dx = dx; dy = dy }
 
 -- session 7, site 1 of 2
 abbrev pub header_bytes : List ℕ
@@ -114,6 +118,58 @@ rank_text =
     ∷ codes "end 2\n"
     ∷ []
 
+abbrev pub square : ℤ → Op
+square x = Create Rect x (pos 0) (pos 10) (pos 10) []
+
+-- Two shapes are grouped, their group is moved by one site and dissolved by the other, and then both sites group the
+-- shapes again where they stand. In whatever order the events come, nothing moves.
+abbrev pub regrouped_events : List Event
+regrouped_events =
+    event 1 1 1 (square (pos 0))
+    ∷ event 2 1 2 (square (pos 20))
+    ∷ event 3 1 3 (Group (member 1 1 (pos 0) (pos 0) ∷ member 2 1 (pos 0) (pos 0) ∷ []))
+    ∷ event 4 1 4 (Move (at_stamp 3 1) (pos 5) (pos 7))
+    ∷ event 5 1 5 (Group (member 1 1 (pos 5) (pos 7) ∷ member 2 1 (pos 5) (pos 7) ∷ []))
+    ∷ event 4 2 1 (Ungroup (at_stamp 3 1))
+    ∷ event 5 2 2 (Group (member 1 1 (pos 5) (pos 7) ∷ member 2 1 (pos 5) (pos 7) ∷ []))
+    ∷ []
+
+abbrev pub regrouped_text : List (List ℕ)
+regrouped_text =
+    codes "group 5.1 in - at 0 0\n"
+    ∷ codes "group 5.2 in - at 0 0\n"
+    ∷ codes "rect 1.1 in 5.2 at 5 7 size 10 10 stroke 000000 fill none width 1\n"
+    ∷ codes "rect 2.1 in 5.2 at 25 7 size 10 10 stroke 000000 fill none width 1\n"
+    ∷ codes "end 4\n"
+    ∷ []
+
+-- Groups within groups. 5.1 is deleted, so 1.1 and 2.1 are hidden. 6.1 is dissolved and 7.1 holds it, so 3.1 and 4.1 are
+-- shown in 7.1, each at its own place, the shift into 6.1, the place of 6.1, the shift into 7.1 and the place of 7.1
+-- together. 3.1 was raised, so it stands above 4.1.
+abbrev pub nested_events : List Event
+nested_events =
+    event 1 1 1 (square (pos 0))
+    ∷ event 2 1 2 (square (pos 1))
+    ∷ event 3 1 3 (square (pos 2))
+    ∷ event 4 1 4 (square (pos 3))
+    ∷ event 5 1 5 (Group (member 1 1 (pos 0) (pos 0) ∷ member 2 1 (pos 0) (pos 0) ∷ []))
+    ∷ event 6 1 6 (Group (member 3 1 (pos 10) (pos 1) ∷ member 4 1 (pos 20) (pos 2) ∷ []))
+    ∷ event 7 1 7 (Group (member 5 1 (pos 0) (pos 0) ∷ member 6 1 (pos 100) (pos 0) ∷ []))
+    ∷ event 8 1 8 (Move (at_stamp 6 1) (pos 1000) (pos 40))
+    ∷ event 9 1 9 (Move (at_stamp 7 1) (pos 10000) (negsuc 99))
+    ∷ event 10 1 10 (Delete (at_stamp 5 1))
+    ∷ event 11 1 11 (Ungroup (at_stamp 6 1))
+    ∷ event 12 1 12 (Raise (at_stamp 3 1))
+    ∷ []
+
+abbrev pub nested_text : List (List ℕ)
+nested_text =
+    codes "group 7.1 in - at 10000 -100\n"
+    ∷ codes "rect 4.1 in 7.1 at 11123 -58 size 10 10 stroke 000000 fill none width 1\n"
+    ∷ codes "rect 3.1 in 7.1 at 11112 -59 size 10 10 stroke 000000 fill none width 1\n"
+    ∷ codes "end 3\n"
+    ∷ []
+
 -- a delete that comes before the create of its object
 abbrev pub effect_before_cause : List Event
 effect_before_cause =
@@ -133,9 +189,40 @@ other_words = codes "paint" ∷ []
 abbrev pub prints_of : List (List ℕ) → List Effect
 prints_of lines = map Print lines
 
--- a record of an operation that isn't built yet
-abbrev pub unbuilt_log : List ℕ
-unbuilt_log = header_bytes ++ 195 ∷ 0 ∷ 0 ∷ 0 ∷ 0 ∷ 0 ∷ 1 ∷ 1 ∷ 0 ∷ 1 ∷ 8 ∷ []
+-- a record of no operation
+abbrev pub no_tag_log : List ℕ
+no_tag_log = header_bytes ++ 195 ∷ 0 ∷ 0 ∷ 0 ∷ 0 ∷ 0 ∷ 1 ∷ 1 ∷ 0 ∷ 1 ∷ 10 ∷ []
+
+-- a group of two objects that aren't there, and what dissolves it
+abbrev pub grouped_log : List ℕ
+grouped_log =
+    header_bytes
+    ++ 195 ∷ 0 ∷ 0 ∷ 0 ∷ 0 ∷ 0 ∷ 3 ∷ 1 ∷ 0 ∷ 1 ∷ 7 ∷ 2
+    ∷ 0 ∷ 0 ∷ 0 ∷ 0 ∷ 0 ∷ 1 ∷ 2 ∷ 0 ∷ 0 ∷ 0 ∷ 5 ∷ 255 ∷ 255 ∷ 255 ∷ 249
+    ∷ 0 ∷ 0 ∷ 0 ∷ 0 ∷ 0 ∷ 2 ∷ 1 ∷ 59 ∷ 154 ∷ 202 ∷ 0 ∷ 196 ∷ 101 ∷ 54 ∷ 0 ∷ []
+    ++ 195 ∷ 0 ∷ 0 ∷ 0 ∷ 0 ∷ 0 ∷ 4 ∷ 2 ∷ 0 ∷ 1 ∷ 8 ∷ 0 ∷ 0 ∷ 0 ∷ 0 ∷ 0 ∷ 3 ∷ 1 ∷ []
+    ++ 0 ∷ []
+
+abbrev pub grouped_events : List Event
+grouped_events =
+    event 3 1 1 (Group (member 1 2 (pos 5) (negsuc 6) ∷ member 2 1 (pos 1000000000) (negsuc 999999999) ∷ []))
+    ∷ event 4 2 1 (Ungroup (at_stamp 3 1))
+    ∷ []
+
+-- a group whose second member isn't above its first
+abbrev pub unordered_log : List ℕ
+unordered_log =
+    header_bytes
+    ++ 195 ∷ 0 ∷ 0 ∷ 0 ∷ 0 ∷ 0 ∷ 3 ∷ 1 ∷ 0 ∷ 1 ∷ 7 ∷ 2
+    ∷ 0 ∷ 0 ∷ 0 ∷ 0 ∷ 0 ∷ 2 ∷ 1 ∷ 0 ∷ 0 ∷ 0 ∷ 0 ∷ 0 ∷ 0 ∷ 0 ∷ 0
+    ∷ 0 ∷ 0 ∷ 0 ∷ 0 ∷ 0 ∷ 2 ∷ 1 ∷ 0 ∷ 0 ∷ 0 ∷ 0 ∷ 0 ∷ 0 ∷ 0 ∷ 0 ∷ []
+
+-- groups of one member, and of 33
+abbrev pub one_member_log : List ℕ
+one_member_log = header_bytes ++ 195 ∷ 0 ∷ 0 ∷ 0 ∷ 0 ∷ 0 ∷ 3 ∷ 1 ∷ 0 ∷ 1 ∷ 7 ∷ 1 ∷ []
+
+abbrev pub many_members_log : List ℕ
+many_members_log = header_bytes ++ 195 ∷ 0 ∷ 0 ∷ 0 ∷ 0 ∷ 0 ∷ 3 ∷ 1 ∷ 0 ∷ 1 ∷ 7 ∷ 33 ∷ []
 
 -- a header of another format, of another version, and of a site 0
 abbrev pub no_magic : List ℕ

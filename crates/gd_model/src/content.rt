@@ -1,4 +1,4 @@
-use gd_base::Label;
+use gd_base::{Label, Stamp};
 
 /// What an operation of one part sets.
 #[derive(Drop)]
@@ -9,6 +9,8 @@ pub enum Content {
     ToFill(Option<u32>),
     ToWidth(u8),
     ToText(Label),
-    /// The top of the stack.
-    ToTop,
+    /// Whether a group is dissolved.
+    ToFlag(bool),
+    /// The place in the stack.
+    ToRank(Stamp),
 }

@@ -1,13 +1,13 @@
 //! The definitions, computed on worked rows.
 
 ghost use Rattle.std.specs.Prelude.{◌≡◌, ◌++◌, ◌∷◌, [], Ok, Err, take};
-ghost use Rattle.gd_base.specs.declared.fault.LogWhy.TheVariants.{Short, Magic, Version, Field, FutureId, NoSite, Turn, Backdated, NotBuilt};
+ghost use Rattle.gd_base.specs.declared.fault.LogWhy.TheVariants.{Short, Magic, Version, Field, FutureId, MemberOrder, NoSite, Turn, Backdated};
 ghost use Rattle.gd_outside.specs.declared.status.Status.TheVariants as status;
 ghost use Rattle.gd_model.specs.LogBytes.{log};
 ghost use Rattle.gd_model.specs.Drawing.{picture};
 ghost use Rattle.gd_model.specs.Text.{text};
 ghost use Rattle.gd_model.specs.SlowRun.{bad_log_line, slow_effects, slow_end, usage_line};
-ghost use Rattle.gd_model.specs.Worked.{header, header_bytes, empty_log, tie_log, tie_events, tie_text, rank_events, rank_text, effect_before_cause, end_alone, replay_words, other_words, prints_of, moved_log, moved_events, moved_text, styled_log, styled_events, styled_text, unbuilt_log, no_magic, no_version, no_field, future_log, future_resize_log, no_colour_log, no_site_log, turn_log, backdated_log, fault_at};
+ghost use Rattle.gd_model.specs.Worked.{header, header_bytes, empty_log, tie_log, tie_events, tie_text, rank_events, rank_text, effect_before_cause, end_alone, replay_words, other_words, prints_of, moved_log, moved_events, moved_text, styled_log, styled_events, styled_text, no_tag_log, grouped_log, grouped_events, unordered_log, one_member_log, many_members_log, regrouped_events, regrouped_text, nested_events, nested_text, no_magic, no_version, no_field, future_log, future_resize_log, no_colour_log, no_site_log, turn_log, backdated_log, fault_at};
 
 /// A log without events prints no object, with its closed gate and without.
 pub fn an_empty_log_prints_its_end()
@@ -39,6 +39,21 @@ pub fn the_last_raise_is_on_top()
     ensures { text (picture rank_events) ≡ rank_text }
 {}
 
+/// A group is read with its members and their shifts.
+pub fn a_group_is_read()
+    ensures { log grouped_log ≡ Ok (header, grouped_events) }
+{}
+
+/// Grouping again, after an ungroup and a move, moves nothing.
+pub fn regrouping_moves_nothing()
+    ensures { text (picture regrouped_events) ≡ regrouped_text }
+{}
+
+/// What stands in a deleted group is hidden, and what stands in a dissolved one is shown in the group that holds it.
+pub fn deleted_and_dissolved_groups_are_seen_through()
+    ensures { text (picture nested_events) ≡ nested_text }
+{}
+
 /// A delete that comes before the create of its object by arrival alone still deletes it.
 pub fn an_effect_before_its_cause_counts()
     ensures { text (picture effect_before_cause) ≡ end_alone }
@@ -53,18 +68,19 @@ pub fn a_fault_has_its_place()
     ensures future_resize { log future_resize_log ≡ fault_at FutureId 15 }
     ensures no_colour { log no_colour_log ≡ fault_at Field 4 }
     ensures cut { log (take 32 tie_log) ≡ fault_at Short 0 }
-    ensures unbuilt { log unbuilt_log ≡ fault_at NotBuilt 1 }
+    ensures no_tag { log no_tag_log ≡ fault_at Field 1 }
+    ensures unordered { log unordered_log ≡ fault_at MemberOrder 15 }
+    ensures one_member { log one_member_log ≡ fault_at Field 1 }
+    ensures many_members { log many_members_log ≡ fault_at Field 1 }
     ensures no_site { log no_site_log ≡ fault_at NoSite 52 }
     ensures turn { log turn_log ≡ fault_at Turn 51 }
     ensures backdated { log backdated_log ≡ fault_at Backdated 29 }
 {}
 
-/// Bytes that are no log are refused with a line, and what isn't built yet in silence.
+/// Bytes that are no log are refused with a line.
 pub fn what_is_no_log_is_refused()
     ensures printed { slow_effects replay_words (take 32 tie_log) ≡ prints_of (bad_log_line ∷ []) }
     ensures end { slow_end replay_words (take 32 tie_log) ≡ status.BadLog }
-    ensures silent { slow_effects replay_words unbuilt_log ≡ [] }
-    ensures not_built { slow_end replay_words unbuilt_log ≡ status.NotBuilt }
 {}
 
 /// Words that name no command are refused, whatever the input is.
