@@ -17,6 +17,8 @@ A log is a header, then each event behind an open gate, then a closed gate. Numb
     tag 5    restyle: id (7); what is set (1: stroke, fill or width as 1 to 3); its value (4: a colour, a fill of none
              as FFFFFFFF, or a width)
     tag 6    retext: id (7); the length of the label (1); the label
+    tag 7    group: how many members (1: 2 to 32); for each its id (7), and its shift in x and y (4 each, signed)
+    tag 8    ungroup: id (7)
     tag 9    raise: id (7)
 """
 
@@ -60,6 +62,16 @@ def restyle(clock, site, what, value):
 
 def retext(clock, site, label):
     return b"\x06" + stamp(clock, site) + labelled(label)
+
+
+def group(*members):
+    """A group of members, each (clock, site) or (clock, site, shift in x, shift in y), by rising id."""
+    return bytes([7, len(members)]) + b"".join(
+        stamp(clock, site) + pack(">ii", *(shift or (0, 0))) for clock, site, *shift in members)
+
+
+def ungroup(clock, site):
+    return b"\x08" + stamp(clock, site)
 
 
 def raise_up(clock, site):
@@ -116,10 +128,43 @@ LOOKS = log(7, 1, 2, [
     (10, 2, restyle(5, 1, WIDTH, 3)),
 ])
 
+# A roof within a house, and two birds. Site 2 lifts the roof, dissolves its group, deletes the birds' group, and raises
+# the wall within the house.
+HOUSE = log(7, 1, 2, [
+    (1, 1, create(RECT, 0, 40, 100, 60, "Wall")),
+    (2, 1, create(LINE, 0, 40, 50, -40)),
+    (3, 1, create(LINE, 50, 0, 50, 40)),
+    (4, 1, group((2, 1), (3, 1))),
+    (5, 1, group((1, 1), (4, 1))),
+    (6, 1, move(5, 1, 200, 10)),
+    (7, 1, create(RECT, 240, 80, 20, 30, "Door")),
+    (5, 2, move(4, 1, 0, -5)),
+    (6, 2, ungroup(4, 1)),
+    (8, 1, create(ELLIPSE, 300, -40, 30, 30, "Sun")),
+    (9, 1, create(ELLIPSE, 10, -30, 5, 5)),
+    (10, 1, create(ELLIPSE, 20, -30, 5, 5)),
+    (11, 1, group((9, 1), (10, 1))),
+    (12, 2, delete(11, 1)),
+    (13, 2, raise_up(1, 1)),
+])
+
+# Site 1 moves a group while site 2 dissolves it. Then both sites group its members again, where they see them stand.
+REGROUPED = log(7, 1, 2, [
+    (1, 1, create(RECT, 0, 0, 10, 10)),
+    (2, 1, create(RECT, 20, 0, 10, 10)),
+    (3, 1, group((1, 1), (2, 1))),
+    (4, 1, move(3, 1, 5, 7)),
+    (4, 2, ungroup(3, 1)),
+    (5, 1, group((1, 1, 5, 7), (2, 1, 5, 7))),
+    (5, 2, group((1, 1, 5, 7), (2, 1, 5, 7))),
+])
+
 EXAMPLES = {
     "two-shapes": TWO_SHAPES,
     "effects-before-causes": EFFECTS_BEFORE_CAUSES,
     "looks": LOOKS,
+    "house": HOUSE,
+    "regrouped": REGROUPED,
     "empty": log(7, 1, 1, []),
     # The end of the file ends a log as a closed gate does.
     "empty-without-gate": header(7, 1, 1),

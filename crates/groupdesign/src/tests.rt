@@ -3,7 +3,11 @@
 ghost use Rattle.std.specs.Prelude.{◌≡◌, ◌<◌};
 
 mod cuts;
+mod deep;
 mod faults;
+mod groups;
+mod labels;
+mod logs;
 mod rows;
 
 use crate::running::run;
@@ -13,7 +17,7 @@ use std::alloc::{AllocError, Global};
 use std::marker::Brand;
 use std::sync::ledger::{Blank, Ledger};
 
-/// More than any of these runs prints.
+/// More than any of these runs prints, but for those of large drawings.
 const ROOM: usize = 10_000;
 
 /// A rect of site 2 and an ellipse of site 1, both at clock 1.
@@ -59,9 +63,19 @@ fn ran<S: Source, K: Sink>(
 
 /// How a run of these words over these bytes ends, and what it prints.
 fn ran_over(alloc: Global, texts: &[&str], bytes: &[u8]) -> Result<(Status, SureSink), AllocError> {
+    ran_in(alloc, ROOM, texts, bytes)
+}
+
+/// The same, with room for so many printed bytes.
+fn ran_in(
+    alloc: Global,
+    room: usize,
+    texts: &[&str],
+    bytes: &[u8],
+) -> Result<(Status, SureSink), AllocError> {
     let words = words_of(alloc, texts)?;
     let mut input = SureSource::new(alloc, bytes)?;
-    let mut output = SureSink::new(alloc, ROOM)?;
+    let mut output = SureSink::new(alloc, room)?;
     let status = ran(alloc, &words, &mut input, &mut output);
     Ok((status, output))
 }

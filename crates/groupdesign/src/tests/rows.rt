@@ -30,11 +30,6 @@ const LOOK: [u8; 183] = [
     0, 7, 1, 0, 7, 5, 0, 0, 0, 0, 0, 1, 2, 2, 0xFF, 0xFF, 0xFF, 0xFF, 0,
 ];
 
-// A record of tag 8, cut behind it.
-const UNBUILT: [u8; 22] = [
-    b'G', b'D', b'O', b'L', 1, 0, 0, 0, 7, 1, 2, 0xC3, 0, 0, 0, 0, 0, 1, 1, 0, 1, 8,
-];
-
 const RANKS_TEXT: &str =
     "ellipse 2.1 in - at 0 0 size 20 20 stroke 000000 fill none width 1\nrect 1.1 in - at 0 0 size 10 10 stroke 000000 fill none width 1\nend 2\n";
 
@@ -121,14 +116,6 @@ fn what_follows_the_closed_gate_is_left(rt: HostRuntime) -> Result<(), Fail> {
     let (status, output) = ran_over(rt.alloc(), &["replay"], &bytes)?;
     assert_eq!(rt; status, Status::Done);
     assert_eq!(rt; output.bytes(), b"end 0\n".as_slice());
-    Ok(())
-}
-
-#[test]
-fn a_record_that_is_not_built_yet_ends_in_silence(rt: HostRuntime) -> Result<(), Fail> {
-    let (status, output) = ran_over(rt.alloc(), &["replay"], &UNBUILT)?;
-    assert_eq!(rt; status.number(), 10);
-    assert_eq!(rt; output.bytes().len(), 0);
     Ok(())
 }
 
