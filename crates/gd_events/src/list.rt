@@ -5,10 +5,33 @@ use crate::event::Event;
 use std::alloc::{AllocError, Global};
 use std::marker::Model;
 
+/// An event of a list, which contracts see as the event. It lies in a box of its own, so that the list is grown and sorted
+/// by moving one word for each event.
+#[derive(Drop)]
+pub struct ListedEvent {
+    event: Box<Event>,
+}
+
+impl Model for ListedEvent {
+    ghost use Rattle.gd_events.specs.Events.{Event as EventValue};
+
+    ghost Value = { EventValue };
+
+    ghost view = { λ l. l.event.value };
+}
+
+impl ListedEvent {
+    pub fn event(&self) -> &Event
+        ensures { result.now ≡ self.now }
+    {
+        &self.event
+    }
+}
+
 /// A list of events, which contracts see as such.
 #[derive(Drop)]
 pub struct EventList {
-    items: Vec<Event>,
+    items: Vec<ListedEvent>,
 }
 
 impl Model for EventList {
@@ -35,11 +58,12 @@ impl EventList {
         ensures ok { OnOk result (self.new ≡ self.old ++ event ∷ []) }
         ensures err { OnErr result (self.new ≡ self.old) }
     {
-        self.items.push(event)?;
+        let event = Box::new(*self.items.allocator(), event)?;
+        self.items.push(ListedEvent { event })?;
         Ok(())
     }
 
-    pub fn as_slice(&self) -> &[Event]
+    pub fn as_slice(&self) -> &[ListedEvent]
         ensures { result.now ≡ self.now }
     {
         self.items.as_slice()
@@ -50,6 +74,7 @@ impl EventList {
         ensures ok { OnOk result (self.new ≡ ordered self.old) }
         ensures err { OnErr result (self.new ≡ self.old) }
     {
-        self.items.sort_by_key(|event| event.stamp())
+        self.items
+            .sort_by_cached_key(|listed| listed.event().stamp())
     }
 }

@@ -11,6 +11,6 @@ key e = e.stamp
 
 pub returns-clause-ok : goal.returns-clause-ok
 unfolding stamp_cmp
-returns-clause-ok c = rw (← c.self.view_is) (on_ok_weaker c.sort_by_key.result
-    (λ sorted. ordered-from_sort c.self.inside.items.items c.sort_by_key.new.self.items (sorted key (answers_always _ _ _ (λ f a r g h. search rules))) (c.sort_by_key.ensures.stable key (answers_always _ _ _ (λ f a r g h. search rules))))
-    c.sort_by_key.ensures.sorted)
+returns-clause-ok c = rw (← c.self.view_is) (on_ok_weaker c.sort_by_cached_key.result
+    (λ sorted. ordered-from_sort c.self.inside.items.items c.sort_by_cached_key.new.self.items (sorted key (answers_always _ _ _ (λ f a r g h. search rules))) (c.sort_by_cached_key.ensures.stable key (answers_always _ _ _ (λ f a r g h. search rules))))
+    c.sort_by_cached_key.ensures.sorted)
