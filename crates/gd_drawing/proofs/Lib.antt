@@ -5,3 +5,6 @@ pub mod Listed
 pub mod Chains
 pub mod PrintedOrder
 pub mod Sizes
+pub mod Entries
+pub mod StackSteps
+pub mod InOrder
