@@ -1,5 +1,5 @@
 -- Lists of objects by level: changed in place, chosen by their ids, and with one more at the end.
-use Rattle.std.proofs.Common.{◌≡◌, Bool, true, false, cond, not, ◌&&◌, ◌||◌, List, [], ◌∷◌, ◌++◌, map, Option, None, Some, Ordering, refl, sym, ap, ◌∙◌, subst, T}
+use Rattle.std.proofs.Common.{◌≡◌, Bool, true, false, cond, ◌&&◌, ◌||◌, List, [], ◌∷◌, ◌++◌, map, Option, None, Some, Ordering, refl, sym, ap, ◌∙◌, subst, T}
 use Rattle.std.specs.Prelude.{is_some, option_map}
 use Rattle.std.specs.List.{list_all, filter}
 use Rattle.std.specs.FinMap as map_of
@@ -11,7 +11,7 @@ use Rattle.gd_base.specs.Stamps.{Stamp, is_same, is_before}
 use Rattle.gd_base.proofs.StampLemmas.{is_same-refl, is_same-comm, is_before-apart, is_before-trans}
 use Rattle.gd_model.specs.declared.object.Object.{Object}
 use Rattle.gd_model.specs.Objects.{Body, body}
-use Rattle.gd_model.specs.Drawing.{Drawing, is_there}
+use Rattle.gd_model.specs.Drawing.{is_there}
 use Rattle.gd_model.specs.Board.{Board, Level, level_cmp, without_ranks}
 use Rattle.gd_drawing.proofs.Stacking.{level_cmp-IsAntisymmetric, level_below, at_rank, t_first, t_second, t_both, t_of, Stands}
 

@@ -11,7 +11,6 @@ use Rattle.gd_base.proofs.StampLemmas.{stamp_cmp-total, is_same-comm}
 use Rattle.gd_events.specs.Events.{Event}
 use Rattle.gd_events.specs.Ordered.{inserted, ordered, is_new, are_distinct}
 use Rattle.gd_events.proofs.OrderLemmas.{NoneBefore, InOrder, InOrder-ordered}
-use Rattle.gd_model.specs.Forms.{form}
 use Rattle.gd_model.specs.Drawing.{Drawing, applied, picture}
 use Rattle.gd_model.specs.Board.{Board, without_ranks, listed, apply, apply_all, board}
 use Rattle.gd_drawing.proofs.Stacking.{at_rank, Stands, listed_is}

@@ -47,17 +47,17 @@ body-put : (c : Content) (o : Object) → body (put c o) ≡ put_body c (body o)
 body-put (ToPlace x y) o = refl
 body-put c o = refl
 
--- and leaves the rank
+-- such a content leaves the rank
 rank-put : (c : Content) (o : Object) → keeps_rank c ≡ true → (put c o).rank ≡ o.rank
 rank-put (ToRank rank) o e = cc
 rank-put c o e = refl
 
--- the same behind a test
+-- a content that goes in behind a test goes into the body behind it
 body-where : (c : Content) (o : Object) (b : Bool) → body (cond b (put c o) o) ≡ cond b (put_body c (body o)) (body o)
 body-where c o true = body-put c o
 body-where c o false = refl
 
--- the same behind a test
+-- a content that goes in behind a test leaves the rank
 rank-where : (c : Content) (o : Object) (b : Bool) → keeps_rank c ≡ true → (cond b (put c o) o).rank ≡ o.rank
 rank-where c o true e = rank-put c o e
 rank-where c o false e = refl

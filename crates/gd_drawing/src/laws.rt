@@ -1,5 +1,5 @@
 //! What holds of drawings: contracts of functions that do nothing.
-ghost use Rattle.std.specs.Prelude.{◌≡◌, ◌≤◌, ℕ, List, ◌∷◌, length, Option, None, Some, option_map, Ok, IsTrue, if◌then◌else◌};
+ghost use Rattle.std.specs.Prelude.{◌≡◌, ◌≤◌, ℕ, List, ◌∷◌, length, None, Some, option_map, Ok, IsTrue, if◌then◌else◌};
 ghost use Rattle.std.specs.List.{filter, flat_map};
 ghost use Rattle.std.specs.FinMap as map_of;
 ghost use Rattle.gd_base.specs.Stamps.{Stamp, stamp_cmp, is_before};
