@@ -1,4 +1,4 @@
--- A group that is made before its members are linked is the same as one that is made after.
+-- A group that is made before its members are linked leaves the same board as one that is made after, and has an empty label.
 use Rattle.std.proofs.Common.{◌≡◌, ℕ, Bool, true, false, not, cond, List, [], Option, None, Some, Ok, Err, refl, sym, ap, ◌∙◌, arith, if◌then◌else◌}
 use Rattle.std.specs.Prelude.{Result, IsOk, MatchResult, option_map}
 use Rattle.std.specs.FinMap as map_of

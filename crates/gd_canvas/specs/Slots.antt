@@ -31,20 +31,20 @@ abbrev pub with_id : Stamp → List Stamp → List Stamp
 with_id id all = if list_any (is_same id) all then all else all ++ id ∷ []
 
 -- the operation makes an object, with the event's stamp as its id
-abbrev pub is_making : Op → Bool
-is_making (Create kind x y w h label) = true
-is_making (Group members) = true
-is_making (Delete id) = false
-is_making (Move id x y) = false
-is_making (Resize id w h) = false
-is_making (Restyle id style) = false
-is_making (Retext id label) = false
-is_making (Ungroup id) = false
-is_making (Raise id) = false
+abbrev pub makes_object : Op → Bool
+makes_object (Create kind x y w h label) = true
+makes_object (Group members) = true
+makes_object (Delete id) = false
+makes_object (Move id x y) = false
+makes_object (Resize id w h) = false
+makes_object (Restyle id style) = false
+makes_object (Retext id label) = false
+makes_object (Ungroup id) = false
+makes_object (Raise id) = false
 
 -- the ids of the slots after the event
 abbrev pub ids_with : Event → List Stamp → List Stamp
-ids_with e all = if is_making e.op then with_id e.stamp all else all
+ids_with e all = if makes_object e.op then with_id e.stamp all else all
 
 -- the object of a slot with its id, where there is such a slot and it isn't empty
 abbrev pub object_of : Option (Stamp × Option Object) → Option (Stamp × Object)

@@ -7,7 +7,7 @@ ghost use Rattle.gd_model.specs.Forms.{Groups};
 ghost use Rattle.gd_model.specs.Board.{change, link_members, board_with, apply};
 ghost use Rattle.gd_canvas.specs.Slots.{board_of, ids, ids_with, object_at, with_id};
 
-use crate::{contents, new_objects, slot};
+use crate::{contents, new_objects, slots};
 use gd_base::{Member, Stamp};
 use gd_events::{Event, Op};
 use gd_model::{Content, Link, Object};
@@ -110,8 +110,8 @@ impl Canvas {
         ensures slots { OnOk result (ids self.new ≡ with_id id (ids self.old)) }
         ensures err { OnErr result (self.new ≡ self.old) }
     {
-        let place = self.slots.entry(id)?.or_insert(None);
-        Ok(slot::fill(place, new))
+        let slot = self.slots.entry(id)?.or_insert(None);
+        Ok(slots::fill(slot, new))
     }
 
     /// Takes an object out of its slot.
@@ -119,8 +119,8 @@ impl Canvas {
         ensures board { board_of self.new ≡ map_of.remove (board_of self.old) id }
         ensures slots { ids self.new ≡ ids self.old }
     {
-        if let Some(place) = self.slots.get_mut(&id) {
-            slot::clear(place);
+        if let Some(slot) = self.slots.get_mut(&id) {
+            *slot = None;
         }
     }
 
@@ -129,8 +129,8 @@ impl Canvas {
         ensures board { board_of self.new ≡ change (board_of self.old) id (set content) }
         ensures slots { ids self.new ≡ ids self.old }
     {
-        if let Some(place) = self.slots.get_mut(&id) {
-            slot::set(place, content);
+        if let Some(slot) = self.slots.get_mut(&id) {
+            slots::set(slot, content);
         }
     }
 
@@ -152,7 +152,7 @@ impl Canvas {
         ensures slots { ids self.new ≡ ids self.old }
     {
         for i in (0..members.len()).rev() {
-            let member = members[i];
+            let member = &members[i];
             if member.id.is_before(group) {
                 let link = Link {
                     parent: group,
@@ -169,8 +169,8 @@ impl Canvas {
         ensures board { board_of self.new ≡ change (board_of self.old) id (with_link (Some link)) }
         ensures slots { ids self.new ≡ ids self.old }
     {
-        if let Some(place) = self.slots.get_mut(&id) {
-            slot::link(place, link);
+        if let Some(slot) = self.slots.get_mut(&id) {
+            slots::link(slot, link);
         }
     }
 }

@@ -6,7 +6,7 @@ mod contents;
 mod drawing;
 pub mod laws;
 mod new_objects;
-mod slot;
+mod slots;
 
 pub use canvas::Canvas;
 pub use drawing::draw;

@@ -12,7 +12,7 @@ returns-clause-board c =
     elim c.match-get_mut.branch [
       | in-Some w ↦
           ap (λ i. board_of i.slots.entries) w.self-inside-is
-          ∙ slot_written _ _ _ c.args.id _ _ gone c.self.view_is w.in-Some.ensures.value (c.get_mut.follows.holds w.clear.new.slot).0 w.clear.ensures
+          ∙ slot_written _ _ _ c.args.id _ _ gone c.self.view_is w.in-Some.ensures.value (c.get_mut.follows.holds None).0 refl
       | in_default w ↦
           ap (λ i. board_of i.slots.entries) w.self-inside-is
           ∙ slot_missing _ _ _ c.args.id gone c.self.view_is w.in_default.ensures.value (ap (λ m. m.entries) c.get_mut.follows.holds-at-none) refl

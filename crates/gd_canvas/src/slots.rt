@@ -1,5 +1,5 @@
 //! One slot of a drawing: an object, where it is there.
-ghost use Rattle.std.specs.Prelude.{◌≡◌, None, Some, is_some, not, option_map, unwrap_or};
+ghost use Rattle.std.specs.Prelude.{◌≡◌, Some, is_some, not, option_map, unwrap_or};
 ghost use Rattle.gd_model.specs.Objects.{set, with_link};
 
 use crate::contents;
@@ -15,13 +15,6 @@ pub fn fill(slot: &mut Option<Object>, new: Object) -> bool
     }
     *slot = Some(new);
     true
-}
-
-/// Leaves the slot empty.
-pub fn clear(slot: &mut Option<Object>)
-    ensures { slot.new ≡ None }
-{
-    *slot = None;
 }
 
 /// Puts the content into the slot's object, where it has that part.
