@@ -1,2 +1,10 @@
 pub mod Lookups
 pub mod DistinctLemmas
+pub mod Stacking
+pub mod Listed
+pub mod Chains
+pub mod PrintedOrder
+pub mod Sizes
+pub mod Entries
+pub mod StackSteps
+pub mod InOrder

@@ -1,0 +1,343 @@
+-- One event on the stack: in the middle, at the end, or gone.
+use Rattle.std.proofs.Common.{◌≡◌, Bool, true, false, cond, not, ◌&&◌, [], ◌∷◌, ◌++◌, List, map, Option, None, Some, refl, sym, ap, ◌∙◌, subst, T}
+use Rattle.std.specs.Prelude.{is_some, option_map, unwrap_or}
+use Rattle.std.specs.List.{filter}
+use Rattle.std.specs.FinMap as map_of
+use Rattle.std.specs.FinMap.Entries.{find-append, is_sorted-where_key, where_key}
+use Rattle.std.proofs.lemmas.List.{append-nil}
+use Rattle.gd_base.specs.Stamps.{Stamp, is_same, is_before}
+use Rattle.gd_base.specs.declared.member.Member.{Member}
+use Rattle.gd_base.specs.declared.style.Style.TheVariants.{Stroke, Fill, Width}
+use Rattle.gd_base.proofs.StampLemmas.{is_same-true, is_same-refl, is_same-comm, is_before-trans}
+use Rattle.gd_events.specs.declared.op.Op.{Op}
+use Rattle.gd_events.specs.declared.op.Op.TheVariants.{Create, Delete, Move, Resize, Restyle, Retext, Group, Ungroup, Raise}
+use Rattle.gd_model.specs.declared.content.Content.{Content}
+use Rattle.gd_model.specs.declared.content.Content.TheVariants.{ToPlace, ToSize, ToStroke, ToFill, ToWidth, ToText, ToFlag, ToRank}
+use Rattle.gd_model.specs.declared.object.Link.{Link}
+use Rattle.gd_model.specs.declared.object.Object.{Object}
+use Rattle.gd_model.specs.Objects.{Body, body, ranked, new_group, new_shape, fits, put, put_body, set, set_body, linked, linked_body}
+use Rattle.gd_model.specs.Forms.{Sets, Creates, Deletes, Groups, form}
+use Rattle.gd_model.specs.Drawing.{Drawing, has_id, link_given, at_id, without, to_top, draw}
+use Rattle.gd_model.specs.Board.{Board, Level, level_cmp, without_ranks, board_with, apply}
+use Rattle.gd_drawing.proofs.Lookups.{get-apply_form}
+use Rattle.gd_drawing.proofs.Stacking.{level_cmp-total, level_test, same_levels, at_rank, Stands}
+use Rattle.gd_drawing.proofs.Entries.{Entries, mapped, sorted-mapped, find-mapped, sorted-append, all_before, under_from, all_before-more, all_before-mapped, all_before-where, all_before-append, present_before, absent, no_id, drawn-mapped, drawn-append, drawn-where, find-where}
+
+-- what the event at s leaves: a list that stands for the board, that is the drawing, and that is before each later stamp
+pub record Step (s : Stamp) (b : Board) (d : Drawing) : Type 0 where
+  pub entries : Entries
+  pub stands : Stands b entries
+  pub drawn : without_ranks entries ≡ d
+  pub later : (t : Stamp) → is_before s t ≡ true → all_before t entries ≡ true
+
+-- ---- contents
+
+-- whether the content leaves the rank
+abbrev pub keeps_rank : Content → Bool
+keeps_rank (ToRank rank) = false
+keeps_rank c = true
+
+-- nothing changed is the same
+same_body : (x : Option Body) → option_map (λ y. y) x ≡ x
+same_body None = refl
+same_body (Some v) = refl
+
+-- a content goes into an object as into its body
+body-put : (c : Content) (o : Object) → body (put c o) ≡ put_body c (body o)
+body-put (ToPlace x y) o = refl
+body-put c o = refl
+
+-- such a content leaves the rank
+rank-put : (c : Content) (o : Object) → keeps_rank c ≡ true → (put c o).rank ≡ o.rank
+rank-put (ToRank rank) o e = cc
+rank-put c o e = refl
+
+-- a content that goes in behind a test goes into the body behind it
+body-where : (c : Content) (o : Object) (b : Bool) → body (cond b (put c o) o) ≡ cond b (put_body c (body o)) (body o)
+body-where c o true = body-put c o
+body-where c o false = refl
+
+-- a content that goes in behind a test leaves the rank
+rank-where : (c : Content) (o : Object) (b : Bool) → keeps_rank c ≡ true → (cond b (put c o) o).rank ≡ o.rank
+rank-where c o true e = rank-put c o e
+rank-where c o false e = refl
+
+-- what is answered at a rank after a content went into the object of that id
+set_cell : (c : Content) (rank : Stamp) (same : Bool) (x : Option Object) → keeps_rank c ≡ true
+    → option_map (λ y. cond same (set_body c y) y) (at_rank rank x) ≡ at_rank rank (cond same (option_map (set c) x) x)
+set_cell c rank false x e = same_body (at_rank rank x)
+set_cell c rank true None e = refl
+set_cell c rank true (Some o) e =
+    elim (is_same rank o.rank) as (λ t. option_map (set_body c) (cond t (Some (body o)) None) ≡ cond t (Some (set_body c (body o))) None) [ true ↦ refl | false ↦ refl ]
+    ∙ (λ i. cond (is_same rank (sym (rank-where c o (fits c o.kind) e) i)) (Some (sym (body-where c o (fits c o.kind)) i)) None)
+
+-- what is answered at a rank after an object was linked
+linked_cell : (link : Option Link) (rank : Stamp) (x : Option Object) → option_map (linked_body link) (at_rank rank x) ≡ at_rank rank (option_map (linked link) x)
+linked_cell link rank None = refl
+linked_cell None rank (Some o) =
+    elim (is_same rank o.rank) as (λ t. option_map (linked_body None) (cond t (Some (body o)) None) ≡ cond t (Some (body o)) None) [ true ↦ refl | false ↦ refl ]
+linked_cell (Some link) rank (Some o) =
+    elim (is_same rank o.rank) as (λ t. option_map (linked_body (Some link)) (cond t (Some (body o)) None) ≡ cond t (Some (linked_body (Some link) (body o))) None) [ true ↦ refl | false ↦ refl ]
+
+-- ---- the event at s, on a list that stands for a board and is before s
+module _ (s : Stamp) (b : Board) (es : Entries) (stands : Stands b es) (low : all_before s es ≡ true) where
+  -- one part of an object in the middle
+  pub set_step : (id : Stamp) (c : Content) → keeps_rank c ≡ true → Step s (board_with s (Sets id c) b) (at_id id (set_body c) (without_ranks es))
+  set_step id c e =
+      let f : Level → Body → Body = λ l v. cond (is_same id l.1) (set_body c v) v in
+      record {
+        entries = mapped f es;
+        stands = record {
+          sorted = subst T (sym (sorted-mapped f es)) stands.sorted;
+          found = λ r k.
+              find-mapped f es (r, k)
+              ∙ ap (option_map (f (r, k))) (stands.found r k)
+              ∙ ap (λ t. option_map (λ y. cond t (set_body c y) y) (at_rank r (map_of.get b k))) (is_same-comm id k)
+              ∙ set_cell c r (is_same k id) (map_of.get b k) e
+              ∙ ap (at_rank r) (sym (get-apply_form s (Sets id c) b k));
+        };
+        drawn = drawn-mapped f (λ x. cond (is_same id x.0) (set_body c x.1) x.1) (λ l v. refl) es;
+        later = λ t l. all_before-mapped t f es ∙ all_before-more s t es l low;
+      }
+
+  -- what is answered at a rank where one object more stands at the level of the event
+  new_cell : (v : Body) (r : Stamp) (same_rank same_id : Bool) (y : Option Body) (z : Option Object) → is_same r s ≡ same_rank → y ≡ at_rank r z → (same_id ≡ true → z ≡ None)
+      → cond (same_rank && same_id) (Some v) y ≡ at_rank r (cond same_id (Some (ranked v s)) z)
+  new_cell v r true true y z e h none = ap (λ t. cond t (Some v) None) (sym e)
+  new_cell v r false true y z e h none = h ∙ ap (at_rank r) (none refl) ∙ ap (λ t. cond t (Some v) None) (sym e)
+  new_cell v r true false y z e h none = h
+  new_cell v r false false y z e h none = h
+
+  -- nothing stands at the level of the event
+  here_none : map_of.find level_cmp (s, s) es ≡ None
+  here_none = stands.found s s ∙ ap (at_rank s) (absent s b es stands low)
+
+  -- nor does the board answer at the event's stamp
+  id_none : (k : Stamp) (h : Option Object → Option Object) → h None ≡ None → is_same k s ≡ true → h (map_of.get b k) ≡ None
+  id_none k h e same = ap (λ i. h (map_of.get b i)) (is_same-true k s same) ∙ ap h (absent s b es stands low) ∙ e
+
+  -- a list with one object more at the level of the event is before each later stamp
+  new_later : (v : Body) (fs : Entries) → all_before s fs ≡ true → (t : Stamp) → is_before s t ≡ true → all_before t (fs ++ ((s, s), v) ∷ []) ≡ true
+  new_later v fs h t l = all_before-append t s s v fs (all_before-more s t fs l h) l l
+
+  -- the event's stamp is new
+  not_present : is_some (map_of.get b s) ≡ false
+  not_present = ap is_some (absent s b es stands low)
+
+  -- so a new object is put in, and not kept
+  get-new : (v : Body) (k : Stamp) → cond (is_same k s) (Some (ranked v s)) (map_of.get b k) ≡ cond (is_same k s) (Some (unwrap_or (map_of.get b k) (ranked v s))) (map_of.get b k)
+  get-new v k =
+      elim (is_same k s) as (λ t. is_same k s ≡ t → cond t (Some (ranked v s)) (map_of.get b k) ≡ cond t (Some (unwrap_or (map_of.get b k) (ranked v s))) (map_of.get b k)) [
+        | true ↦ λ is. ap (λ x. Some (unwrap_or x (ranked v s))) (sym (id_none k (λ x. x) refl is))
+        | false ↦ λ is. refl
+      ] refl
+
+  -- a new object at the end
+  pub create_step : (v : Body) → Step s (board_with s (Creates v) b) (draw s (Creates v) (without_ranks es))
+  create_step v =
+      record {
+        entries = es ++ ((s, s), v) ∷ [];
+        stands = record {
+          sorted = sorted-append (s, s) v es stands.sorted (under_from s s es low);
+          found = λ r k.
+              find-append level_cmp level_cmp-total es (s, s) v (r, k) here_none
+              ∙ ap (λ t. cond t (Some v) (map_of.find level_cmp (r, k) es)) (level_test r k s s)
+              ∙ new_cell v r (is_same r s) (is_same k s) _ (map_of.get b k) refl (stands.found r k) (id_none k (λ x. x) refl)
+              ∙ ap (at_rank r) (get-new v k ∙ sym (get-apply_form s (Creates v) b k));
+        };
+        drawn = drawn-append es (((s, s), v) ∷ []) ∙ ap (λ t. cond t (without_ranks es) (without_ranks es ++ (s, v) ∷ [])) (sym (no_id s es low));
+        later = new_later v es low;
+      }
+
+  -- members linked in the middle, and a new group at the end
+  pub group_step : (ms : List Member) → Step s (board_with s (Groups ms) b) (draw s (Groups ms) (without_ranks es))
+  group_step ms =
+      let f : Level → Body → Body = λ l v. linked_body (link_given s ms l.1) v in
+      let fs : Entries = mapped f es in
+      let linked_at : Stamp → Option Object → Option Object = λ k x. option_map (linked (link_given s ms k)) x in
+      let none : map_of.find level_cmp (s, s) fs ≡ None = find-mapped f es (s, s) ∙ ap (option_map (f (s, s))) here_none in
+      let low_fs : all_before s fs ≡ true = all_before-mapped s f es ∙ low in
+      record {
+        entries = fs ++ ((s, s), new_group) ∷ [];
+        stands = record {
+          sorted = sorted-append (s, s) new_group fs (subst T (sym (sorted-mapped f es)) stands.sorted) (under_from s s fs low_fs);
+          found = λ r k.
+              find-append level_cmp level_cmp-total fs (s, s) new_group (r, k) none
+              ∙ ap (λ t. cond t (Some new_group) (map_of.find level_cmp (r, k) fs)) (level_test r k s s)
+              ∙ new_cell new_group r (is_same r s) (is_same k s) _ (linked_at k (map_of.get b k)) refl
+              (find-mapped f es (r, k) ∙ ap (option_map (f (r, k))) (stands.found r k) ∙ linked_cell (link_given s ms k) r (map_of.get b k))
+              (id_none k (linked_at k) refl)
+              ∙ ap (at_rank r) (ap (λ t. cond t (map_of.get b k) (cond (is_same k s) (Some (ranked new_group s)) (linked_at k (map_of.get b k)))) (sym not_present) ∙ sym (get-apply_form s (Groups ms) b k));
+        };
+        drawn =
+            drawn-append fs (((s, s), new_group) ∷ [])
+            ∙ ap (λ d. d ++ (s, new_group) ∷ []) (drawn-mapped f (λ x. linked_body (link_given s ms x.0) x.1) (λ l v. refl) es)
+            ∙ ap (λ t. cond t (without_ranks es) (map (λ e. (e.0, linked_body (link_given s ms e.0) e.1)) (without_ranks es) ++ (s, new_group) ∷ [])) (sym (no_id s es low));
+        later = new_later new_group fs low_fs;
+      }
+
+  -- the list without the object of that id
+  rest : Stamp → Entries
+  rest id = where_key level_cmp (λ l. not (is_same id l.1)) es
+
+  -- it is by level
+  rest_sorted : (id : Stamp) → T (map_of.is_sorted level_cmp (rest id))
+  unfolding rest
+  rest_sorted id = is_sorted-where_key level_cmp (λ l. not (is_same id l.1)) es stands.sorted
+
+  -- it is before s
+  rest_low : (id : Stamp) → all_before s (rest id) ≡ true
+  unfolding rest
+  rest_low id = all_before-where s (λ l. not (is_same id l.1)) es low
+
+  -- it has the objects of other ids
+  rest_found : (id r k : Stamp) → map_of.find level_cmp (r, k) (rest id) ≡ cond (not (is_same k id)) (at_rank r (map_of.get b k)) None
+  unfolding rest
+  rest_found id r k = find-where (λ i. not (is_same id i)) es r k ∙ (λ i. cond (not (is_same-comm id k i)) (stands.found r k i) None)
+
+  -- and is the drawing without that id
+  rest_drawn : (id : Stamp) → without_ranks (rest id) ≡ without id (without_ranks es)
+  unfolding rest
+  rest_drawn id = drawn-where (λ i. not (is_same id i)) es
+
+  -- what is answered at a rank where the object of that id is gone
+  gone_cell : (same : Bool) (r : Stamp) (x : Option Object) → cond (not same) (at_rank r x) None ≡ at_rank r (cond same None x)
+  gone_cell true r x = refl
+  gone_cell false r x = refl
+
+  -- an object that goes
+  pub delete_step : (id : Stamp) → Step s (board_with s (Deletes id) b) (draw s (Deletes id) (without_ranks es))
+  delete_step id =
+      record {
+        entries = rest id;
+        stands = record {
+          sorted = rest_sorted id;
+          found = λ r k. rest_found id r k ∙ gone_cell (is_same k id) r (map_of.get b k) ∙ ap (at_rank r) (sym (get-apply_form s (Deletes id) b k));
+        };
+        drawn = rest_drawn id;
+        later = λ t l. all_before-more s t (rest id) l (rest_low id);
+      }
+
+  -- the object of that id alone
+  alone : Stamp → Entries
+  alone id = where_key level_cmp (λ l. is_same id l.1) es
+
+  -- it is by level
+  alone_sorted : (id : Stamp) → T (map_of.is_sorted level_cmp (alone id))
+  unfolding alone
+  alone_sorted id = is_sorted-where_key level_cmp (λ l. is_same id l.1) es stands.sorted
+
+  -- it has that object
+  alone_found : (id r k : Stamp) → map_of.find level_cmp (r, k) (alone id) ≡ cond (is_same k id) (at_rank r (map_of.get b k)) None
+  unfolding alone
+  alone_found id r k = find-where (λ i. is_same id i) es r k ∙ (λ i. cond (is_same-comm id k i) (stands.found r k i) None)
+
+  -- and is what the drawing has of that id
+  alone_drawn : (id : Stamp) → without_ranks (alone id) ≡ filter (has_id id) (without_ranks es)
+  unfolding alone
+  alone_drawn id = drawn-where (λ i. is_same id i) es
+
+  -- nothing is answered of an absent id
+  none_cell : (same : Bool) (r : Stamp) (x : Option Object) → (same ≡ true → x ≡ None) → cond same (at_rank r x) None ≡ None
+  none_cell true r x h = ap (at_rank r) (h refl)
+  none_cell false r x h = refl
+
+  -- what is answered of one object
+  one_cell : (same_rank same : Bool) (r : Stamp) (o : Object) (x : Option Object) → is_same r o.rank ≡ same_rank → (same ≡ true → x ≡ Some o)
+      → cond same (at_rank r x) None ≡ cond (same_rank && same) (Some (body o)) None
+  one_cell true true r o x e h = ap (at_rank r) (h refl) ∙ ap (λ t. cond t (Some (body o)) None) e
+  one_cell false true r o x e h = ap (at_rank r) (h refl) ∙ ap (λ t. cond t (Some (body o)) None) e
+  one_cell true false r o x e h = refl
+  one_cell false false r o x e h = refl
+
+  -- what the board answers at the same id
+  is_at : (id : Stamp) (x : Option Object) → map_of.get b id ≡ x → (k : Stamp) → is_same k id ≡ true → map_of.get b k ≡ x
+  is_at id x e k same = ap (map_of.get b) (is_same-true k id same) ∙ e
+
+  -- an absent id has nothing
+  alone_none : (id : Stamp) → map_of.get b id ≡ None → alone id ≡ []
+  alone_none id e =
+      same_levels (alone id) [] (alone_sorted id) tt (λ l. alone_found id l.0 l.1 ∙ none_cell (is_same l.1 id) l.0 (map_of.get b l.1) (is_at id None e l.1))
+
+  -- an id that is there has its object, once
+  alone_one : (id : Stamp) (o : Object) → map_of.get b id ≡ Some o → alone id ≡ ((o.rank, id), body o) ∷ []
+  alone_one id o e =
+      same_levels (alone id) (((o.rank, id), body o) ∷ []) (alone_sorted id) tt
+      (λ l. alone_found id l.0 l.1
+      ∙ one_cell (is_same l.0 o.rank) (is_same l.1 id) l.0 o (map_of.get b l.1) refl (is_at id (Some o) e l.1)
+      ∙ ap (λ t. cond t (Some (body o)) None) (sym (level_test l.0 l.1 o.rank id)))
+
+  -- what is answered at a rank after a raise of an absent id
+  stay_cell : (same : Bool) (r : Stamp) (x : Option Object) → (same ≡ true → x ≡ None) → cond (not same) (at_rank r x) None ≡ at_rank r (cond same (option_map (set (ToRank s)) x) x)
+  stay_cell true r x h = ap (λ y. at_rank r (option_map (set (ToRank s)) y)) (sym (h refl))
+  stay_cell false r x h = refl
+
+  -- what is answered at a rank after a raise of an object
+  top_cell : (same_rank same : Bool) (r : Stamp) (o : Object) (x : Option Object) → is_same r s ≡ same_rank → (same ≡ true → x ≡ Some o)
+      → cond (same_rank && same) (Some (body o)) (cond (not same) (at_rank r x) None) ≡ at_rank r (cond same (option_map (set (ToRank s)) x) x)
+  top_cell true true r o x e h = ap (λ t. cond t (Some (body o)) None) (sym e) ∙ ap (λ y. at_rank r (option_map (set (ToRank s)) y)) (sym (h refl))
+  top_cell false true r o x e h = ap (λ t. cond t (Some (body o)) None) (sym e) ∙ ap (λ y. at_rank r (option_map (set (ToRank s)) y)) (sym (h refl))
+  top_cell true false r o x e h = refl
+  top_cell false false r o x e h = refl
+
+  -- the list without that id has nothing at its new level
+  not_in_rest : (id : Stamp) → map_of.find level_cmp (s, id) (rest id) ≡ None
+  not_in_rest id = rest_found id s id ∙ ap (λ t. cond (not t) (at_rank s (map_of.get b id)) None) (is_same-refl id)
+
+  -- a raise, by what the board answers at the id
+  raise_by : (id : Stamp) (x : Option Object) → map_of.get b id ≡ x → Step s (board_with s (Sets id (ToRank s)) b) (to_top id (without_ranks es))
+  raise_by id None e =
+      record {
+        entries = rest id;
+        stands = record {
+          sorted = rest_sorted id;
+          found = λ r k.
+              rest_found id r k
+              ∙ stay_cell (is_same k id) r (map_of.get b k) (is_at id None e k)
+              ∙ ap (at_rank r) (sym (get-apply_form s (Sets id (ToRank s)) b k));
+        };
+        drawn = rest_drawn id ∙ sym (append-nil (without id (without_ranks es))) ∙ ap (λ d. without id (without_ranks es) ++ d) (sym (ap without_ranks (alone_none id e)) ∙ alone_drawn id);
+        later = λ t l. all_before-more s t (rest id) l (rest_low id);
+      }
+  raise_by id (Some o) e =
+      record {
+        entries = rest id ++ ((s, id), body o) ∷ [];
+        stands = record {
+          sorted = sorted-append (s, id) (body o) (rest id) (rest_sorted id) (under_from s id (rest id) (rest_low id));
+          found = λ r k.
+              find-append level_cmp level_cmp-total (rest id) (s, id) (body o) (r, k) (not_in_rest id)
+              ∙ ap (λ t. cond t (Some (body o)) (map_of.find level_cmp (r, k) (rest id))) (level_test r k s id)
+              ∙ ap (λ y. cond (is_same r s && is_same k id) (Some (body o)) y) (rest_found id r k)
+              ∙ top_cell (is_same r s) (is_same k id) r o (map_of.get b k) refl (is_at id (Some o) e k)
+              ∙ ap (at_rank r) (sym (get-apply_form s (Sets id (ToRank s)) b k));
+        };
+        drawn =
+            drawn-append (rest id) (((s, id), body o) ∷ [])
+            ∙ (λ i. rest_drawn id i ++ (sym (ap without_ranks (alone_one id o e)) ∙ alone_drawn id) i);
+        later = λ t l.
+            all_before-append t s id (body o) (rest id) (all_before-more s t (rest id) l (rest_low id)) l
+            (is_before-trans id s t (present_before s b es stands low id o e).1 l);
+      }
+
+  -- an object that goes to the end
+  pub raise_step : (id : Stamp) → Step s (board_with s (Sets id (ToRank s)) b) (to_top id (without_ranks es))
+  raise_step id = raise_by id (map_of.get b id) refl
+
+  -- each of the nine operations, by its form
+  pub step_form : (op : Op) → Step s (board_with s (form s op) b) (draw s (form s op) (without_ranks es))
+  step_form (Create kind x y w h label) = create_step (new_shape kind x y w h label)
+  step_form (Delete id) = delete_step id
+  step_form (Move id x y) = set_step id (ToPlace x y) refl
+  step_form (Resize id w h) = set_step id (ToSize w h) refl
+  step_form (Restyle id (Stroke colour)) = set_step id (ToStroke colour) refl
+  step_form (Restyle id (Fill colour)) = set_step id (ToFill colour) refl
+  step_form (Restyle id (Width width)) = set_step id (ToWidth width) refl
+  step_form (Retext id label) = set_step id (ToText label) refl
+  step_form (Group members) = group_step members
+  step_form (Ungroup id) = set_step id (ToFlag true) refl
+  step_form (Raise id) = raise_step id
+
+  -- each of the nine operations
+  pub step : (op : Op) → Step s (apply s op b) (draw s (form s op) (without_ranks es))
+  unfolding apply
+  step op = step_form op
