@@ -1,2 +1,3 @@
-pub mod EditLemmas
-pub mod TextLemmas
+pub mod SlotLemmas
+pub mod AtLemmas
+pub mod GroupLemmas

@@ -1,17 +1,14 @@
-//! What an operation of one part sets, put into the objects of an id.
+//! What an operation of one part sets, put into one object.
 ghost use Rattle.std.specs.Prelude.{◌≡◌};
-ghost use Rattle.gd_base.specs.Stamps as stamps;
-ghost use Rattle.gd_events.specs.declared.op.Op.TheVariants.{Restyle};
-ghost use Rattle.gd_model.specs.Forms.{Sets, fits, form, put, set};
-ghost use Rattle.gd_model.specs.Drawing.{at_id};
-ghost use Rattle.gd_canvas.specs.Found.{changed};
+ghost use Rattle.gd_model.specs.Objects.{fits, is_group, put, set};
+ghost use Rattle.gd_model.specs.Forms.{styled};
 
-use gd_base::{Stamp, Style};
+use gd_base::Style;
 use gd_model::{Content, Kind, Object};
 
 /// What a restyle sets.
-pub fn content_of(style: Style) -> Content
-    ensures { (id : stamps.Stamp) → form (Restyle id style) ≡ Sets id result }
+pub fn styled(style: Style) -> Content
+    ensures { result ≡ styled style }
 {
     match style {
         Style::Stroke(colour) => Content::ToStroke(colour),
@@ -20,26 +17,12 @@ pub fn content_of(style: Style) -> Content
     }
 }
 
-/// Puts the content into the object of that id, if it is there and has that part.
-pub fn set(objects: &mut Vec<(Stamp, Object)>, id: Stamp, content: &Content)
-    ensures { objects.new.items ≡ at_id id (set content.now) objects.old.items }
+/// Puts the content into the object, where it has that part.
+pub fn set(object: &mut Object, content: Content)
+    ensures { object.new ≡ set content object.old }
 {
-    set_each(objects, id, content);
-}
-
-fn set_each(objects: &mut [(Stamp, Object)], id: Stamp, content: &Content)
-    ensures { objects.new ≡ at_id id (set content.now) objects.old }
-{
-    for e in objects.iter_mut() {
-        set_entry(e, id, content);
-    }
-}
-
-fn set_entry(entry: &mut (Stamp, Object), id: Stamp, content: &Content)
-    ensures { entry.new ≡ changed id (set content.now) entry.old }
-{
-    if id.is_same(entry.0) && fits(content, entry.1.kind) {
-        put(&mut entry.1, content);
+    if fits(&content, object.kind) {
+        put(object, content);
     }
 }
 
@@ -48,27 +31,43 @@ fn fits(content: &Content, kind: Kind) -> bool
     ensures { result ≡ fits content.now kind }
 {
     match content {
-        Content::ToPlace { .. } | Content::ToTop => true,
-        _ => matches!(kind, Kind::Shape(_)),
+        Content::ToPlace { .. } | Content::ToRank(_) => true,
+        Content::ToFlag(_) => is_group(kind),
+        Content::ToSize { .. }
+        | Content::ToStroke(_)
+        | Content::ToFill(_)
+        | Content::ToWidth(_)
+        | Content::ToText(_) => !is_group(kind),
     }
 }
 
-fn put(object: &mut Object, content: &Content)
-    ensures { object.new ≡ put content.now object.old }
+fn is_group(kind: Kind) -> bool
+    ensures { result ≡ is_group kind }
+{
+    match kind {
+        Kind::Shape(_) => false,
+        Kind::Group => true,
+    }
+}
+
+/// Puts the content into the object. A label is moved into it.
+fn put(object: &mut Object, content: Content)
+    ensures { object.new ≡ put content object.old }
 {
     match content {
         Content::ToPlace { x, y } => {
-            object.x = *x;
-            object.y = *y;
+            object.x = x;
+            object.y = y;
         }
         Content::ToSize { w, h } => {
-            object.w = *w;
-            object.h = *h;
+            object.w = w;
+            object.h = h;
         }
-        Content::ToStroke(colour) => object.stroke = *colour,
-        Content::ToFill(colour) => object.fill = *colour,
-        Content::ToWidth(width) => object.width = *width,
-        Content::ToText(label) => object.label = label.copy(),
-        Content::ToTop => {}
+        Content::ToStroke(colour) => object.stroke = colour,
+        Content::ToFill(colour) => object.fill = colour,
+        Content::ToWidth(width) => object.width = width,
+        Content::ToText(label) => object.label = label,
+        Content::ToFlag(flag) => object.dissolved = flag,
+        Content::ToRank(rank) => object.rank = rank,
     }
 }

@@ -1,13 +1,13 @@
-//! The drawing, as a plain list of objects from bottom to top, and its text.
+//! The drawing, as a slot for each object, and what each event does to it.
 #![tactic(auto)]
 
 mod canvas;
 mod contents;
 mod drawing;
-mod edits;
-mod text;
+pub mod laws;
+mod new_objects;
+mod slot;
 
 pub use canvas::Canvas;
 pub use drawing::draw;
 pub use gd_model::{Kind, Link, Object};
-pub use text::write_text;
