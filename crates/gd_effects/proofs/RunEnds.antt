@@ -7,7 +7,7 @@ use Rattle.gd_outside.proofs.ToldLemmas.{grows_nothing}
 use Rattle.gd_outside.specs.declared.end.End.{End}
 use Rattle.gd_outside.specs.declared.end.End.TheVariants as early
 use Rattle.gd_outside.specs.declared.status.Status.{Status}
-use Rattle.gd_outside.specs.declared.status.Status.TheVariants.{Done, Usage, BadLog, ReadFault, WriteFault, JournalFault, LinkFault, NoMemory, LineLimit, NotBuilt}
+use Rattle.gd_outside.specs.declared.status.Status.TheVariants.{Done, Usage, BadLog, ReadFault, WriteFault, JournalFault, LinkFault, NoMemory, LineLimit}
 use Rattle.gd_model.specs.Effects.{Effect}
 use Rattle.gd_effects.specs.Outside.{Outside, outside, IsTold}
 use Rattle.gd_effects.specs.Done.{Did, NoneFell, Does, DoesAll}
@@ -30,9 +30,6 @@ whole_bad_log xs old new = (λ h. (h, refl), tt)
 pub whole_line_limit : IsWhole LineLimit
 whole_line_limit xs old new = (λ h. (h, refl), tt)
 
-pub whole_not_built : IsWhole NotBuilt
-whole_not_built xs old new = (λ h. (h, refl), tt)
-
 -- a run ends with the status of its last call
 pub ends_by : (r : Result ⊤ End) (whole : Status) {old new : Outside} {xs : List Effect} → IsWhole whole → Does r old xs new → EndsAs xs whole (status_of r whole) old new
 ends_by (Ok x) whole {old} {new} {xs} w h = record { counts = h.counts; cause = (w xs old new).1; was = h.was; leaves = λ t. (w xs old new).0 (h.done t) }
@@ -54,7 +51,6 @@ causes_then JournalFault a b c h k = omega arith
 causes_then LinkFault a b c h k = omega arith
 causes_then NoMemory a b c h k = k
 causes_then LineLimit a b c h k = k
-causes_then NotBuilt a b c h k = k
 
 -- what was done at last was done in all, where nothing was done before
 leaves_then : (s whole : Status) (a b c : Outside) (xs : List Effect) → Did a [] b → Leaves xs whole s b c → Leaves xs whole s a c
@@ -67,7 +63,6 @@ leaves_then JournalFault whole a b c xs h k = torn_then h k
 leaves_then LinkFault whole a b c xs h k = did_then h k
 leaves_then NoMemory whole a b c xs h k = front_then h k
 leaves_then LineLimit whole a b c xs h k = (did_then h k.0, k.1)
-leaves_then NotBuilt whole a b c xs h k = (did_then h k.0, k.1)
 
 -- a run that first does nothing, and then what it owes, which is known only where all is told
 pub ends_after : (s : Status) {a b c : Outside} (xs ys : List Effect) (whole other : Status) → DoesAll a [] b → (IsTold c → (xs ≡ ys) × (whole ≡ other)) → EndsAs ys other s b c → EndsAs xs whole s a c
@@ -117,4 +112,3 @@ completes JournalFault whole h t i o j l = absurd (j h.cause)
 completes LinkFault whole h t i o j l = absurd (l h.cause)
 completes NoMemory whole h t i o j l = inr refl
 completes LineLimit whole h t i o j l = inl (h.leaves t).1
-completes NotBuilt whole h t i o j l = inl (h.leaves t).1

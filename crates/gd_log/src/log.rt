@@ -1,10 +1,11 @@
 //! A whole log.
 
-ghost use Rattle.std.specs.Prelude.{◌≡◌, ◌≤◌, IsSome};
+ghost use Rattle.std.specs.Prelude.{◌≡◌, ◌≤◌, length, IfOk, IsSome};
 ghost use Rattle.gd_model.specs.LogBytes.{log};
 ghost use Rattle.gd_outside.specs.Told.{told};
 ghost use Rattle.gd_outside.specs.Causes.{Rose};
 ghost use Rattle.gd_log.specs.Logs.{LogIs};
+ghost use Rattle.gd_log.specs.Turns.{most_events};
 
 use crate::reader::{LogFault, LogReader};
 use gd_events::EventList;
@@ -44,6 +45,7 @@ impl From<AllocError> for ReadError {
 pub fn read_log<S: Source>(alloc: Global, source: &mut S) -> Result<EventList, ReadError>
     ensures was { IsSome (S.seen source.new).left → IsSome (S.seen source.old).left }
     ensures exact { IsSome (S.seen source.new).left → LogIs result (told (S.seen source.old).left) }
+    ensures few { IfOk result (λ events. length events ≤ most_events) }
     ensures count { (S.seen source.old).faults ≤ (S.seen source.new).faults }
     ensures cause { result ≡ Err (ReadError.Log LogFault.Read) → Rose (S.seen source.old).faults (S.seen source.new).faults }
 {

@@ -20,7 +20,7 @@ use gd_wire::Bytes;
 const GATE: u8 = 0xC3;
 
 /// The most bytes that a gate and an event take.
-pub const RECORD: usize = 93;
+pub const RECORD: usize = 492;
 
 /// The first fault, with its place counted from the first of the bytes that are handed in: those of a header, of an event,
 /// or of a gate and an event.
@@ -57,7 +57,7 @@ fn log_why(why: FieldWhy) -> LogWhy
         FieldWhy::Version => LogWhy::Version,
         FieldWhy::Field => LogWhy::Field,
         FieldWhy::FutureId => LogWhy::FutureId,
-        FieldWhy::NotBuilt => LogWhy::NotBuilt,
+        FieldWhy::MemberOrder => LogWhy::NotBuilt,
     }
 }
 

@@ -1,4 +1,5 @@
 pub mod Steady
 pub mod SteadyFields
 mod Plain
+mod MemberLemmas
 mod Whole

@@ -48,6 +48,11 @@ pub bind_err : {A B : Type 0} (r : Result A FieldFault) (f : A → Result B Fiel
 bind_err (Ok x) f d e = inr (x, refl, e)
 bind_err (Err c) f d e = let k : c ≡ d = cc in inl (rw k refl)
 
+-- a test that let a value pass
+pub passed : {A : Type 0} (t : Bool) (x y : A) (d : FieldFault) → cond t (Ok x) (Err d) ≡ Ok y → (t ≡ true) × (x ≡ y)
+passed true x y d e = (refl, cc)
+passed false x y d e = absurd cc
+
 -- what follows a field: reading goes on behind it, or there is a fault at its place
 pub data Follows {B : Type 0} (most : ℕ) (h : List ℕ → List ℕ → Reads B) : Type 0 where
   goes_on : (g : List ℕ → Reads B) → Steady most g → ((bytes rest : List ℕ) → h bytes rest ≡ g rest) → Follows most h
@@ -94,34 +99,39 @@ follows-inside (faults why ne is) bytes rest d le e =
     let same : fault_at why bytes ≡ d = err_is (fault_at why bytes) d (sym (is bytes rest) ∙ e) in
     rw (← same) (omega arith)
 
--- a field, and what follows it
-pub Steady-then : {A B : Type 0} (m n : ℕ) (r : List ℕ → Reads A) (f : A → List ℕ → List ℕ → Reads B) → Steady m r → ((a : A) → Follows n (f a)) → Steady (m + n) (λ bytes. r bytes >>= λ x. f x.0 bytes x.1)
-Steady-then m n r f first second = record {
+-- a field, and what follows it, where something holds of its value
+pub Steady-then-where : {A B : Type 0} (P : A → Type 0) (m n : ℕ) (r : List ℕ → Reads A) (f : A → List ℕ → List ℕ → Reads B) → Steady m r
+    → ((bytes : List ℕ) (x : A × List ℕ) → r bytes ≡ Ok x → P x.0) → ((a : A) → P a → Follows n (f a)) → Steady (m + n) (λ bytes. r bytes >>= λ x. f x.0 bytes x.1)
+Steady-then-where P m n r f first holds second = record {
   ok = λ bytes more y e.
       let b = bind_ok (r bytes) (λ x. f x.0 bytes x.1) y e in
-      rw (first.ok bytes more b.0 b.1) (follows-ok (second b.0.0) bytes b.0.1 more y b.2);
+      rw (first.ok bytes more b.0 b.1) (follows-ok (second b.0.0 (holds bytes b.0 b.1)) bytes b.0.1 more y b.2);
   err = λ bytes more d e.
       elim (bind_err (r bytes) (λ x. f x.0 bytes x.1) d e) [
         | inl h ↦ elim (first.err bytes more d h) [ inl s ↦ inl s | inr s ↦ inr (rw s refl) ]
-        | inr b ↦ elim (follows-err (second b.0.0) bytes b.0.1 more d b.2) [ inl s ↦ inl s | inr s ↦ inr (rw (first.ok bytes more b.0 b.1) s) ]
+        | inr b ↦ elim (follows-err (second b.0.0 (holds bytes b.0 b.1)) bytes b.0.1 more d b.2) [ inl s ↦ inl s | inr s ↦ inr (rw (first.ok bytes more b.0 b.1) s) ]
       ];
   takes = λ bytes y e.
       let b = bind_ok (r bytes) (λ x. f x.0 bytes x.1) y e in
-      omega (arith, first.takes bytes b.0 b.1, follows-takes (second b.0.0) bytes b.0.1 y b.2);
+      omega (arith, first.takes bytes b.0 b.1, follows-takes (second b.0.0 (holds bytes b.0 b.1)) bytes b.0.1 y b.2);
   suffix = λ bytes y e.
       let b = bind_ok (r bytes) (λ x. f x.0 bytes x.1) y e in
-      IsEnd-then bytes b.0.1 y.1 (first.suffix bytes b.0 b.1) (follows-suffix (second b.0.0) bytes b.0.1 y b.2);
+      IsEnd-then bytes b.0.1 y.1 (first.suffix bytes b.0 b.1) (follows-suffix (second b.0.0 (holds bytes b.0 b.1)) bytes b.0.1 y b.2);
   long = λ bytes d le e.
       elim (bind_err (r bytes) (λ x. f x.0 bytes x.1) d e) [
         | inl h ↦ first.long bytes d (omega arith) h
-        | inr b ↦ follows-long (second b.0.0) bytes b.0.1 d (omega (arith, first.takes bytes b.0 b.1)) b.2
+        | inr b ↦ follows-long (second b.0.0 (holds bytes b.0 b.1)) bytes b.0.1 d (omega (arith, first.takes bytes b.0 b.1)) b.2
       ];
   inside = λ bytes d e.
       elim (bind_err (r bytes) (λ x. f x.0 bytes x.1) d e) [
         | inl h ↦ first.inside bytes d h
-        | inr b ↦ follows-inside (second b.0.0) bytes b.0.1 d (IsEnd-shorter bytes b.0.1 (first.suffix bytes b.0 b.1)) b.2
+        | inr b ↦ follows-inside (second b.0.0 (holds bytes b.0 b.1)) bytes b.0.1 d (IsEnd-shorter bytes b.0.1 (first.suffix bytes b.0 b.1)) b.2
       ];
 }
+
+-- a field, and what follows it
+pub Steady-then : {A B : Type 0} (m n : ℕ) (r : List ℕ → Reads A) (f : A → List ℕ → List ℕ → Reads B) → Steady m r → ((a : A) → Follows n (f a)) → Steady (m + n) (λ bytes. r bytes >>= λ x. f x.0 bytes x.1)
+Steady-then m n r f first second = Steady-then-where (λ _. Unit {0}) m n r f first (λ _ _ _. tt) (λ a _. second a)
 
 pub Steady-weaken : {A : Type 0} (m n : ℕ) (r : List ℕ → Reads A) → m ≤ n → Steady m r → Steady n r
 Steady-weaken m n r le s = record {

@@ -1,24 +1,25 @@
--- Each field of an event or of a header is read alike whatever follows it. An event takes at most 92 bytes: 7 for the
--- stamp, 2 for the number, 1 for the tag, and at most 82 for the body: 1 for the kind, 16 for the place and the size, 65
--- for the label.
-use Rattle.std.proofs.Common.{◌≡◌, ◌≢◌, ℕ, ◌+◌, ◌≤◌, Bool, true, false, cond, ltb, List, [], ◌∷◌, ◌++◌, length, take, drop, None, Ok, Err, refl, arith, inl}
-use Rattle.std.specs.Prelude.{Some, ◌&&◌, nat_lt, nat_le, ◌==◌}
-use Rattle.std.proofs.lemmas.Bool.{ltb-false}
+-- Each field of an event or of a header is read alike whatever follows it. An event takes at most 491 bytes: 7 for the
+-- stamp, 2 for the number, 1 for the tag, and at most 481 for the body, that of a group: 1 for the number of its members,
+-- and 15 for each of at most 32.
+use Rattle.std.proofs.Common.{◌≡◌, ◌≢◌, ℕ, zero, suc, ◌+◌, ◌*◌, ◌≤◌, Bool, true, false, cond, ltb, List, [], ◌∷◌, ◌++◌, length, take, drop, None, Ok, Err, refl, arith, inl}
+use Rattle.std.specs.Prelude.{Option, Some, ◌&&◌, nat_lt, nat_le, ◌==◌}
+use Rattle.std.proofs.lemmas.Bool.{ltb-false, leb-true, and_parts}
 use Rattle.std.proofs.lemmas.List.{length-drop}
 use Rattle.std.specs.Int.{w16, w32, w64, from_be_bytes, cast_signed}
 use Rattle.gd_base.specs.declared.fault.FieldFault.{FieldFault}
-use Rattle.gd_base.specs.declared.fault.FieldWhy.TheVariants.{Short, Magic, Version, Field, FutureId, NotBuilt}
+use Rattle.gd_base.specs.declared.fault.FieldWhy.TheVariants.{Short, Magic, Version, Field, FutureId, MemberOrder}
 use Rattle.gd_base.specs.declared.shape.Shape.TheVariants.{Rect, Ellipse, Line, Text}
 use Rattle.gd_base.specs.declared.style.Style.TheVariants.{Stroke, Fill, Width}
 use Rattle.gd_base.specs.Stamps.{Stamp, is_before}
 use Rattle.gd_base.specs.Labels.{most_label, is_plain}
-use Rattle.gd_events.specs.declared.op.Op.TheVariants.{Create, Delete, Move, Resize, Restyle, Retext, Raise}
+use Rattle.gd_events.specs.declared.op.Op.TheVariants.{Create, Delete, Move, Resize, Restyle, Retext, Group, Ungroup, Raise}
+use Rattle.gd_events.specs.Sound.{is_above}
 use Rattle.gd_model.specs.Reading.{Reads, ◌>>=◌, fault_at, short, bytes_at, ranged}
-use Rattle.gd_model.specs.EventBytes.{byte_at, clock_at, site_at, stamp_at, id_at, number_at, signed_at, shape_at, label_at, word_at, colour_at, fill_at, width_at, stroke_style_at, fill_style_at, width_style_at, style_at, create_at, delete_at, move_at, resize_at, restyle_at, retext_at, raise_at, op_at, event_at}
+use Rattle.gd_model.specs.EventBytes.{byte_at, clock_at, site_at, stamp_at, id_at, number_at, signed_at, shape_at, label_at, word_at, colour_at, fill_at, width_at, stroke_style_at, fill_style_at, width_style_at, style_at, create_at, delete_at, move_at, resize_at, restyle_at, retext_at, member_count_at, member_id_at, member_at, members_at, group_at, ungroup_at, raise_at, op_at, event_at}
 use Rattle.gd_base.specs.Ranges.{place_limit, size_limit, is_within, is_colour, is_width}
 use Rattle.gd_model.specs.LogBytes.{magic, magic_at, version_at, session_at, sites_at, header_at}
 use Rattle.gd_events.specs.Events.{Event}
-use Rattle.gd_wire.proofs.Steady.{Steady, IsEnd, IsEnd-shorter, Follows, Steady-then, Steady-weaken, Steady-bytes, guard_ok, bind_ok, done, behind, fault_there, either}
+use Rattle.gd_wire.proofs.Steady.{Steady, IsEnd, IsEnd-shorter, Follows, Steady-then, Steady-then-where, Steady-weaken, Steady-bytes, Steady-done, guard_ok, bind_ok, passed, done, behind, fault_there, either}
 
 pub field_ne : Field ≢ Short
 field_ne e = cc
@@ -132,7 +133,7 @@ unfolding style_at
 Steady-style = Steady-then 1 4 byte_at (λ what bytes rest. cond (what == 1) (stroke_style_at rest) (cond (what == 2) (fill_style_at rest) (cond (what == 3) (width_style_at rest) (Err (fault_at Field bytes))))) Steady-byte
     (λ what. either (what == 1) (λ _. behind 4 _ Steady-stroke-style) (λ _. either (what == 2) (λ _. behind 4 _ Steady-fill-style) (λ _. either (what == 3) (λ _. behind 4 _ Steady-width-style) (λ _. fault_there 4 Field field_ne))))
 
--- ---- operations and events
+-- ---- operations
 
 pub Steady-create : Steady 82 create_at
 unfolding create_at
@@ -173,18 +174,62 @@ unfolding retext_at
 Steady-retext stamp = Steady-then 7 65 (id_at stamp) (λ id _ b0. label_at b0 >>= λ label. Ok (Retext id label.0, label.1)) (Steady-id stamp) (λ id. behind 65 _
     (Steady-then 65 0 label_at (λ label _ b1. Ok (Retext id label, b1)) Steady-label (λ label. done 0 _)))
 
-pub Steady-op : (stamp : Stamp) → Steady 83 (op_at stamp)
-unfolding op_at
-Steady-op stamp = Steady-then 1 82 byte_at (λ tag bytes rest. cond (tag == 1) (create_at rest) (cond (tag == 2) (delete_at stamp rest) (cond (tag == 3) (move_at stamp rest) (cond (tag == 4) (resize_at stamp rest) (cond (tag == 5) (restyle_at stamp rest) (cond (tag == 6) (retext_at stamp rest) (cond (tag == 9) (raise_at stamp rest) (cond (nat_le 7 tag && nat_le tag 8) (Err (fault_at NotBuilt bytes)) (Err (fault_at Field bytes)))))))))) Steady-byte
-    (λ tag. either (tag == 1) (λ _. behind 82 _ Steady-create) (λ _. either (tag == 2) (λ _. behind 82 _ (Steady-weaken 7 82 _ (omega arith) (Steady-delete stamp))) (λ _. either (tag == 3) (λ _. behind 82 _ (Steady-weaken 15 82 _ (omega arith) (Steady-move stamp)))
-    (λ _. either (tag == 4) (λ _. behind 82 _ (Steady-weaken 15 82 _ (omega arith) (Steady-resize stamp))) (λ _. either (tag == 5) (λ _. behind 82 _ (Steady-weaken 12 82 _ (omega arith) (Steady-restyle stamp))) (λ _. either (tag == 6) (λ _. behind 82 _ (Steady-weaken 72 82 _ (omega arith) (Steady-retext stamp)))
-    (λ _. either (tag == 9) (λ _. behind 82 _ (Steady-weaken 7 82 _ (omega arith) (Steady-raise stamp))) (λ _. either (nat_le 7 tag && nat_le tag 8) (λ _. fault_there 82 NotBuilt (λ e. cc)) (λ _. fault_there 82 Field field_ne)))))))))
+-- ---- groups
 
-pub Steady-event : Steady 92 event_at
+pub Steady-member-count : Steady 1 member_count_at
+unfolding member_count_at
+Steady-member-count = Steady-then 1 0 byte_at (λ count bytes rest. ranged (nat_le 2 count && nat_le count 32) count bytes rest) Steady-byte (λ count. in_range 0 _ _)
+
+pub Steady-member-id : (stamp : Stamp) (last : Option Stamp) → Steady 7 (member_id_at stamp last)
+unfolding member_id_at
+Steady-member-id stamp last = Steady-then 7 0 (id_at stamp) (λ id bytes rest. cond (is_above last id) (Ok (id, rest)) (Err (fault_at MemberOrder bytes))) (Steady-id stamp)
+    (λ id. either _ (λ _. done 0 id) (λ _. fault_there 0 MemberOrder (λ e. cc)))
+
+pub Steady-member : (stamp : Stamp) (last : Option Stamp) → Steady 15 (member_at stamp last)
+unfolding member_at
+Steady-member stamp last = Steady-then 7 8 (member_id_at stamp last) (λ id _ b0. signed_at place_limit b0 >>= λ dx. signed_at place_limit dx.1 >>= λ dy. Ok (record { id = id; dx = dx.0; dy = dy.0 }, dy.1)) (Steady-member-id stamp last) (λ id. behind 8 _
+    (Steady-then 4 4 (signed_at place_limit) (λ dx _ b1. signed_at place_limit b1 >>= λ dy. Ok (record { id = id; dx = dx; dy = dy.0 }, dy.1)) (Steady-signed place_limit) (λ dx. behind 4 _
+    (Steady-then 4 0 (signed_at place_limit) (λ dy _ b2. Ok (record { id = id; dx = dx; dy = dy }, b2)) (Steady-signed place_limit) (λ dy. done 0 _)))))
+
+pub Steady-members : (count : ℕ) (stamp : Stamp) (last : Option Stamp) → Steady (15 * count) (members_at count stamp last)
+unfolding members_at
+Steady-members zero stamp last = Steady-done []
+Steady-members (suc count) stamp last = Steady-weaken (15 + 15 * count) _ _ (omega arith)
+    (Steady-then 15 (15 * count) (member_at stamp last) (λ member _ b0. members_at count stamp (Some member.id) b0 >>= λ members. Ok (member ∷ members.0, members.1)) (Steady-member stamp last) (λ member. behind (15 * count) _
+    (Steady-weaken (15 * count + 0) _ _ (omega arith)
+    (Steady-then (15 * count) 0 (members_at count stamp (Some member.id)) (λ members _ b1. Ok (member ∷ members, b1)) (Steady-members count stamp (Some member.id)) (λ members. done 0 _)))))
+
+count-few : (bytes : List ℕ) (x : ℕ × List ℕ) → member_count_at bytes ≡ Ok x → x.0 ≤ 32
+unfolding member_count_at
+count-few bytes x e =
+    let b = bind_ok (byte_at bytes) (λ count. ranged (nat_le 2 count.0 && nat_le count.0 32) count.0 bytes count.1) x e in
+    let p = passed (nat_le 2 b.0.0 && nat_le b.0.0 32) b.0 x (fault_at Field bytes) b.2 in
+    rw (← p.1) (leb-true _ _ (and_parts _ _ p.0).1)
+
+pub Steady-group : (stamp : Stamp) → Steady 481 (group_at stamp)
+unfolding group_at
+Steady-group stamp = Steady-then-where (λ count. count ≤ 32) 1 480 member_count_at (λ count _ b0. members_at count stamp None b0 >>= λ members. Ok (Group members.0, members.1)) Steady-member-count count-few (λ count few. behind 480 _
+    (Steady-weaken (15 * count + 0) 480 _ (omega arith)
+    (Steady-then (15 * count) 0 (members_at count stamp None) (λ members _ b1. Ok (Group members, b1)) (Steady-members count stamp None) (λ members. done 0 _))))
+
+pub Steady-ungroup : (stamp : Stamp) → Steady 7 (ungroup_at stamp)
+unfolding ungroup_at
+Steady-ungroup stamp = Steady-then 7 0 (id_at stamp) (λ id _ rest. Ok (Ungroup id, rest)) (Steady-id stamp) (λ id. done 0 _)
+
+-- ---- operations and events
+
+pub Steady-op : (stamp : Stamp) → Steady 482 (op_at stamp)
+unfolding op_at
+Steady-op stamp = Steady-then 1 481 byte_at (λ tag bytes rest. cond (tag == 1) (create_at rest) (cond (tag == 2) (delete_at stamp rest) (cond (tag == 3) (move_at stamp rest) (cond (tag == 4) (resize_at stamp rest) (cond (tag == 5) (restyle_at stamp rest) (cond (tag == 6) (retext_at stamp rest) (cond (tag == 7) (group_at stamp rest) (cond (tag == 8) (ungroup_at stamp rest) (cond (tag == 9) (raise_at stamp rest) (Err (fault_at Field bytes))))))))))) Steady-byte
+    (λ tag. either (tag == 1) (λ _. behind 481 _ (Steady-weaken 82 481 _ (omega arith) Steady-create)) (λ _. either (tag == 2) (λ _. behind 481 _ (Steady-weaken 7 481 _ (omega arith) (Steady-delete stamp))) (λ _. either (tag == 3) (λ _. behind 481 _ (Steady-weaken 15 481 _ (omega arith) (Steady-move stamp)))
+    (λ _. either (tag == 4) (λ _. behind 481 _ (Steady-weaken 15 481 _ (omega arith) (Steady-resize stamp))) (λ _. either (tag == 5) (λ _. behind 481 _ (Steady-weaken 12 481 _ (omega arith) (Steady-restyle stamp))) (λ _. either (tag == 6) (λ _. behind 481 _ (Steady-weaken 72 481 _ (omega arith) (Steady-retext stamp)))
+    (λ _. either (tag == 7) (λ _. behind 481 _ (Steady-group stamp)) (λ _. either (tag == 8) (λ _. behind 481 _ (Steady-weaken 7 481 _ (omega arith) (Steady-ungroup stamp))) (λ _. either (tag == 9) (λ _. behind 481 _ (Steady-weaken 7 481 _ (omega arith) (Steady-raise stamp))) (λ _. fault_there 481 Field field_ne))))))))))
+
+pub Steady-event : Steady 491 event_at
 unfolding event_at
-Steady-event = Steady-then 7 85 stamp_at (λ stamp _ b0. number_at b0 >>= λ number. op_at stamp number.1 >>= λ op. Ok (record { stamp = stamp; number = number.0; op = op.0 }, op.1)) Steady-stamp (λ stamp. behind 85 _
-    (Steady-then 2 83 number_at (λ number _ b1. op_at stamp b1 >>= λ op. Ok (record { stamp = stamp; number = number; op = op.0 }, op.1)) Steady-number (λ number. behind 83 _
-    (Steady-then 83 0 (op_at stamp) (λ op _ b2. Ok (record { stamp = stamp; number = number; op = op }, b2)) (Steady-op stamp) (λ op. done 0 _)))))
+Steady-event = Steady-then 7 484 stamp_at (λ stamp _ b0. number_at b0 >>= λ number. op_at stamp number.1 >>= λ op. Ok (record { stamp = stamp; number = number.0; op = op.0 }, op.1)) Steady-stamp (λ stamp. behind 484 _
+    (Steady-then 2 482 number_at (λ number _ b1. op_at stamp b1 >>= λ op. Ok (record { stamp = stamp; number = number; op = op.0 }, op.1)) Steady-number (λ number. behind 482 _
+    (Steady-then 482 0 (op_at stamp) (λ op _ b2. Ok (record { stamp = stamp; number = number; op = op }, b2)) (Steady-op stamp) (λ op. done 0 _)))))
 
 -- ---- the header of a log
 
@@ -270,4 +315,4 @@ pub event-long : (bytes : List ℕ) (x : Event × List ℕ) → event_at bytes �
 unfolding event_at
 event-long = Takes-then 7 2 stamp_at (λ _ stamp. number_at stamp.1 >>= λ number. op_at stamp.0 number.1 >>= λ op. Ok (record { stamp = stamp.0; number = number.0; op = op.0 }, op.1)) takes-stamp
     (λ _ stamp. Takes-then 2 0 number_at (λ _ number. op_at stamp.0 number.1 >>= λ op. Ok (record { stamp = stamp.0; number = number.0; op = op.0 }, op.1)) takes-number
-    (λ _ number. Takes-then 0 0 (op_at stamp.0) (λ _ op. Ok (record { stamp = stamp.0; number = number.0; op = op.0 }, op.1)) (Steady-takes 83 (op_at stamp.0) (Steady-op stamp.0)) (λ _ op. takes-done _ op.1) number.1) stamp.1)
+    (λ _ number. Takes-then 0 0 (op_at stamp.0) (λ _ op. Ok (record { stamp = stamp.0; number = number.0; op = op.0 }, op.1)) (Steady-takes 482 (op_at stamp.0) (Steady-op stamp.0)) (λ _ op. takes-done _ op.1) number.1) stamp.1)

@@ -6,25 +6,24 @@ use Rattle.std.proofs.lemmas.List.{length-drop}
 use Rattle.std.proofs.lemmas.Bool.{ne_eqb}
 use Rattle.gd_base.specs.declared.fault.FieldFault.{FieldFault}
 use Rattle.gd_events.specs.Events.{Event}
-use Rattle.gd_events.specs.Sound.{is_in_range, names_before, event_fault}
+use Rattle.gd_events.specs.Sound.{is_in_range, has_members, names_before, has_rising_members, event_fault}
 use Rattle.gd_events.specs.declared.event.EventFault.{EventFault}
-use Rattle.gd_events.specs.declared.event.EventFault.TheVariants.{Seq, Range, FutureId}
+use Rattle.gd_events.specs.declared.event.EventFault.TheVariants.{Seq, Range, MemberCount, FutureId, MemberOrder}
 use Rattle.gd_model.specs.EventBytes.{event_at}
 use Rattle.gd_model.specs.LogBytes.{header_at}
+use Rattle.gd_wire.specs.Rules.{KeepsRules}
 use Rattle.gd_wire.specs.Wire.{ReadIs}
 use Rattle.gd_wire.proofs.Steady.{IsEnd, IsEnd-shorter}
 use Rattle.gd_wire.proofs.SteadyFields.{Steady-event, Steady-header}
 
-passes : (a b c : Bool) → a ≡ false → b ≡ true → c ≡ true → (fault : EventFault)
-    → cond a (Some Seq) (cond (not b) (Some Range) (cond (not c) (Some FutureId) None)) ≡ Some fault → ⊥
-passes false true true h k l fault e = cc
-passes true b c h k l fault e = cc
-passes false false c h k l fault e = cc
-passes false true false h k l fault e = cc
+passes : (seq range count future order : Bool) → seq ≡ false → range ≡ true → count ≡ true → future ≡ true → order ≡ true → (fault : EventFault)
+    → cond seq (Some Seq) (cond (not range) (Some Range) (cond (not count) (Some MemberCount) (cond (not future) (Some FutureId) (cond (not order) (Some MemberOrder) None)))) ≡ Some fault → ⊥
+passes seq range count future order s r c f o fault e = let none = rw (s, r, c, f, o) at e in cc
 
--- an event breaks no rule where its fields were read in their ranges, and its ids are before its stamp
-pub never-faulty : (e : Event) (fault : EventFault) → 1 ≤ e.number → is_in_range e.op ≡ true → names_before e.stamp e.op ≡ true → event_fault e ≡ Some fault → ⊥
-never-faulty e fault some ranges before h = passes (e.number == 0) (is_in_range e.op) (names_before e.stamp e.op) (ne_eqb e.number 0 (λ h. omega (arith, h))) ranges before fault h
+-- an event breaks no rule where its number is there and its operation keeps the rules
+pub never-faulty : (e : Event) (fault : EventFault) → 1 ≤ e.number → KeepsRules e.stamp e.op → event_fault e ≡ Some fault → ⊥
+never-faulty e fault some h k = passes (e.number == 0) (is_in_range e.op) (has_members e.op) (names_before e.stamp e.op) (has_rising_members e.op)
+    (ne_eqb e.number 0 (λ h. omega (arith, h))) h.ranges h.members h.before h.rising fault k
 
 pub ruleset soundness = (never-faulty)
 

@@ -5,7 +5,7 @@ use Rattle.gd_base.specs.declared.fault.FieldWhy.{FieldWhy}
 use Rattle.gd_base.specs.declared.fault.FieldWhy.TheVariants as field
 use Rattle.gd_base.specs.declared.fault.WireFault.{WireFault}
 use Rattle.gd_base.specs.declared.fault.WireWhy.{WireWhy}
-use Rattle.gd_base.specs.declared.fault.WireWhy.TheVariants.{Short, Magic, Version, Field, FutureId, NotBuilt}
+use Rattle.gd_base.specs.declared.fault.WireWhy.TheVariants.{Short, Magic, Version, Field, FutureId, MemberOrder}
 use Rattle.gd_model.specs.Reading.{Reads, place}
 
 -- the reason of a field's fault, as a reason of these bytes
@@ -15,7 +15,7 @@ wire_why field.Magic = Magic
 wire_why field.Version = Version
 wire_why field.Field = Field
 wire_why field.FutureId = FutureId
-wire_why field.NotBuilt = NotBuilt
+wire_why field.MemberOrder = MemberOrder
 
 -- the fault of a field in these bytes, with its place counted from the first of them
 abbrev pub wire_fault : List ℕ → FieldFault → WireFault

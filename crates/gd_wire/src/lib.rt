@@ -3,6 +3,7 @@
 
 mod bytes;
 mod event;
+mod group;
 mod header;
 mod read;
 mod style;

@@ -53,6 +53,6 @@ fn wire_why(why: FieldWhy) -> WireWhy
         FieldWhy::Version => WireWhy::Version,
         FieldWhy::Field => WireWhy::Field,
         FieldWhy::FutureId => WireWhy::FutureId,
-        FieldWhy::NotBuilt => WireWhy::NotBuilt,
+        FieldWhy::MemberOrder => WireWhy::MemberOrder,
     }
 }

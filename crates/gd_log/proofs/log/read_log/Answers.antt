@@ -1,4 +1,5 @@
-use Rattle.std.proofs.Common.{sym, ◌∙◌, arith}
+use Rattle.std.proofs.Common.{[], ◌∷◌, sym, ◌∙◌, arith}
+use Rattle.std.proofs.lemmas.List.{length-append}
 use Rattle.std.proofs.lemmas.Result.{err_from_is_err_and}
 use Rattle.gd_log.proofs.EventLemmas.{log-start, from-some, from-none, log-refused, log-stopped}
 use Rattle.gd_log.proofs.log.read_log.Goals as goal
@@ -15,6 +16,8 @@ records-init g c = rw c.new-events.ensures record {
   exact = λ is_told. let start = c.in_ok-reader.ensures.exact is_told in
       rw c.in_ok-reader.ensures.header (log-start _ _ c.in_ok-reader.field-0-1 start.0);
   place = λ is_told. let start = c.in_ok-reader.ensures.exact is_told in start.1;
+  counted = omega arith;
+  few = omega arith;
   count = c.in_ok-reader.ensures.count;
 }
 
@@ -35,6 +38,8 @@ records-preserved g c =
           c.records.invariant.exact (c.in_ok-event.ensures.was is_told) ∙ from-some c.records.reader.header c.records.events _ _ step.0;
       place = λ is_told. let step = taken.exact c.records.events c.records.invariant.follows is_told in
           sym step.1 ∙ c.records.invariant.place (c.in_ok-event.ensures.was is_told);
+      counted = omega (arith, taken.one_more.counted, length-append c.records.events (c.in-Some.event ∷ []));
+      few = omega (arith, taken.one_more.counted, taken.one_more.few, length-append c.records.events (c.in-Some.event ∷ []));
       count = omega (arith, c.in_ok-event.ensures.count);
     }
 

@@ -3,7 +3,7 @@ use Rattle.std.specs.Prelude.{IsSome}
 use Rattle.gd_model.specs.LogBytes.{log}
 use Rattle.gd_outside.specs.Told.{told}
 use Rattle.gd_log.specs.Stream.{stream}
-use Rattle.gd_log.specs.Turns.{Follows}
+use Rattle.gd_log.specs.Turns.{Follows, most_events}
 use Rattle.gd_log.proofs.EventLemmas.{log_from}
 use Rattle.gd_log.proofs.log.read_log.Given as goal
 
@@ -13,6 +13,8 @@ invariant-records g l = record {
   follows : Follows l.reader.turns l.events;
   exact : IsSome (g.S.Source.seen l.source).left → log (told (g.S.Source.seen l.fn.source).left) ≡ log_from l.reader.header l.events (stream l.reader.ahead (g.S.Source.seen l.source).left);
   place : IsSome (g.S.Source.seen l.source).left → l.reader.place + length (stream l.reader.ahead (g.S.Source.seen l.source).left) ≡ length (told (g.S.Source.seen l.fn.source).left);
+  counted : length l.events ≤ sum l.reader.turns.counts;
+  few : length l.events ≤ most_events;
   count : (g.S.Source.seen l.fn.source).faults ≤ (g.S.Source.seen l.source).faults;
 }
 

@@ -1,0 +1,114 @@
+-- A chain that is followed link by link.
+use Rattle.std.proofs.Common.{◌≡◌, ℕ, zero, suc, ◌≤◌, Bool, true, false, cond, Option, None, Some, refl, sym, ap, ◌∙◌, arith, pos, ◌+ℤ◌}
+use Rattle.std.proofs.lemmas.Int.{ints}
+use Rattle.std.specs.Prelude.{option_map, is_some}
+use Rattle.std.specs.FinMap as map_of
+use Rattle.gd_base.specs.Stamps.{stamp_cmp, is_before}
+use Rattle.gd_base.specs.Stamps.{Stamp}
+use Rattle.gd_model.specs.declared.object.Link.{Link}
+use Rattle.gd_model.specs.declared.object.Object.{Object}
+use Rattle.gd_model.specs.Objects.{Body, body}
+use Rattle.gd_model.specs.Drawing.{Drawing}
+use Rattle.gd_model.specs.Board.{Board, listed}
+use Rattle.gd_model.specs.Shown as view
+use Rattle.gd_model.specs.Shown.{above_in, above, above_by, through, nothing_above}
+use Rattle.gd_drawing.proofs.Listed.{find-listed}
+use Rattle.gd_view.specs.declared.places.Above.{Above}
+use Rattle.gd_view.specs.Seen.{told}
+use Rattle.gd_view.specs.Chains.{first_parent, joined, after_link, group_in, Within}
+
+pub group_found : (b : Board) (below : Stamp) (l : Link) (x : Option Object) → is_before below l.parent ≡ true → x ≡ map_of.get b l.parent → option_map body x ≡ group_in (listed b) below l
+group_found b below l x is e = ap (option_map body) e ∙ sym (find-listed b l.parent) ∙ ap (λ t. cond t (map_of.find stamp_cmp l.parent (listed b)) None) (sym is)
+
+pub group_absent : (b : Board) (below : Stamp) (l : Link) → is_before below l.parent ≡ false → None ≡ group_in (listed b) below l
+group_absent b below l is = ap (λ t. cond t (map_of.find stamp_cmp l.parent (listed b)) None) (sym is)
+
+-- the part of a chain that is known and the rest of it, along at most n links, make the whole
+pub record Followed (n : ℕ) (d : Drawing) (id : Stamp) (start : Option Link) (left : ℕ) (sum : Above) (below : Stamp) (next : Option Link) : Type 0 where
+  pub whole : joined sum (above_in left d below next) ≡ above_in n d id start
+
+started : (x : Option view.Above) → joined (record { parent = None; dx = pos 0; dy = pos 0 }) x ≡ x
+started None = refl
+started (Some a) =
+    let xs : pos 0 +ℤ a.dx ≡ a.dx = omega (arith, ints) in
+    let ys : pos 0 +ℤ a.dy ≡ a.dy = omega (arith, ints) in
+    λ i. Some record { parent = a.parent; dx = xs i; dy = ys i }
+
+pub start : (n : ℕ) (d : Drawing) (id : Stamp) (link : Option Link) (left : ℕ) → left ≡ n → Followed n d id link left (record { parent = None; dx = pos 0; dy = pos 0 }) id link
+start n d id link left e = record { whole = started (above_in left d id link) ∙ ap (λ m. above_in m d id link) e }
+
+parents : (p : Option Stamp) (b : Bool) (l : Stamp) (q : Option Stamp) → first_parent p (cond b q (Some l)) ≡ first_parent (first_parent p (cond b None (Some l))) q
+parents None true l q = refl
+parents None false l q = refl
+parents (Some r) b l q = refl
+
+one_more : (s : Above) (l : Link) (g : Body) (x : Option view.Above) → joined s (option_map (above_by l g) x) ≡ joined (after_link s l g) x
+one_more s l g None = refl
+one_more s l g (Some a) =
+    let xs : s.dx +ℤ ((l.dx +ℤ g.x) +ℤ a.dx) ≡ (s.dx +ℤ (l.dx +ℤ g.x)) +ℤ a.dx = omega (arith, ints) in
+    let ys : s.dy +ℤ ((l.dy +ℤ g.y) +ℤ a.dy) ≡ (s.dy +ℤ (l.dy +ℤ g.y)) +ℤ a.dy = omega (arith, ints) in
+    λ i. Some record { parent = parents s.parent g.dissolved l.parent a.parent i; dx = xs i; dy = ys i }
+
+by_group : (m : ℕ) (d : Drawing) (below : Stamp) (l : Link) (t : Bool) (x : Option Body) → cond t (through l x (λ g. above_in m d l.parent g.link)) None ≡ through l (cond t x None) (λ g. above_in m d l.parent g.link)
+by_group m d below l true x = refl
+by_group m d below l false x = refl
+
+above_step : (m : ℕ) (d : Drawing) (below : Stamp) (l : Link) → above_in (suc m) d below (Some l) ≡ through l (group_in d below l) (λ g. above_in m d l.parent g.link)
+above_step m d below l = by_group m d below l (is_before below l.parent) (map_of.find stamp_cmp l.parent d)
+
+pub step : {n : ℕ} {d : Drawing} {id : Stamp} {start : Option Link} {left : ℕ} {sum : Above} {below : Stamp} (next : Option Link) → Followed n d id start left sum below next
+    → (l : Link) (o : Object) (m : ℕ) (s : Above) → next ≡ Some l → option_map body (Some o) ≡ group_in d below l → left ≡ suc m → s ≡ after_link sum l (body o) → Followed n d id start m s l.parent o.link
+step {d = d} {sum = sum} {below = below} next f l o m s e g h is =
+    record {
+      whole =
+          ap (λ t. joined t (above_in m d l.parent o.link)) is
+          ∙ sym (one_more sum l (body o) (above_in m d l.parent o.link))
+          ∙ ap (λ x. joined sum (through l x (λ g. above_in m d l.parent g.link))) g
+          ∙ ap (joined sum) (sym (above_step m d below l))
+          ∙ (λ i. joined sum (above_in (sym h i) d below (sym e i)))
+          ∙ f.whole;
+    }
+
+pub lost : {n : ℕ} {d : Drawing} {id : Stamp} {start : Option Link} {left : ℕ} {sum : Above} {below : Stamp} (next : Option Link) → Followed n d id start left sum below next
+    → (l : Link) (m : ℕ) → next ≡ Some l → None ≡ group_in d below l → left ≡ suc m → None ≡ above_in n d id start
+lost {d = d} {sum = sum} {below = below} next f l m e g h =
+    ap (λ x. joined sum (through l x (λ g. above_in m d l.parent g.link))) g
+    ∙ ap (joined sum) (sym (above_step m d below l))
+    ∙ (λ i. joined sum (above_in (sym h i) d below (sym e i)))
+    ∙ f.whole
+
+first_none : (p : Option Stamp) → p ≡ first_parent p None
+first_none None = refl
+first_none (Some r) = refl
+
+ended : (s : Above) → Some (told s) ≡ joined s (Some nothing_above)
+ended s =
+    let xs : s.dx ≡ s.dx +ℤ pos 0 = omega (arith, ints) in
+    let ys : s.dy ≡ s.dy +ℤ pos 0 = omega (arith, ints) in
+    λ i. Some record { parent = first_none s.parent i; dx = xs i; dy = ys i }
+
+pub finish : {n : ℕ} {d : Drawing} {id : Stamp} {start : Option Link} {left : ℕ} {sum : Above} {below : Stamp} (next : Option Link) → Followed n d id start left sum below next
+    → next ≡ None → Some (told sum) ≡ above_in n d id start
+finish {d = d} {left = left} {sum = sum} {below = below} next f e = ended sum ∙ ap (λ x. joined sum (above_in left d below x)) (sym e) ∙ f.whole
+
+at_bound : (s : Above) (d : Drawing) (below : Stamp) (l : Link) → None ≡ joined s (above_in zero d below (Some l))
+at_bound s d below l = refl
+
+-- a link that is left where no more may be followed
+pub cut : {n : ℕ} {d : Drawing} {id : Stamp} {start : Option Link} {left : ℕ} {sum : Above} {below : Stamp} (next : Option Link) → Followed n d id start left sum below next
+    → is_some next ≡ true → left ≡ 0 → None ≡ above_in n d id start
+cut None f e h = cc
+cut {d = d} {sum = sum} {below = below} (Some l) f e h = at_bound sum d below l ∙ ap (λ m. joined sum (above_in m d below (Some l))) (sym h) ∙ f.whole
+
+pub wider : (n : ℕ) (s : Above) → n ≤ 1048560 → Within n s → Within 1048560 s
+wider n s h w =
+    let left = w.left in
+    let right = w.right in
+    let up = w.up in
+    let down = w.down in
+    record {
+      left = omega (arith, ints);
+      right = omega (arith, ints);
+      up = omega (arith, ints);
+      down = omega (arith, ints);
+    }

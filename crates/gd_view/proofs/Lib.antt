@@ -1,0 +1,5 @@
+pub mod WalkLemmas
+pub mod ChainLemmas
+pub mod LevelLemmas
+pub mod SumLemmas
+pub mod WriteLemmas

@@ -1,0 +1,263 @@
+-- What stands above all objects, by what is known of greater ids.
+use Rattle.std.proofs.Common.{◌≡◌, ℕ, zero, suc, ◌+◌, ◌<◌, ◌≤◌, Bool, true, false, cond, ◌||◌, List, [], ◌∷◌, ◌++◌, map, length, drop, Option, None, Some, refl, sym, ap, ◌∙◌, subst, T, arith, Ordering, ◌+ℤ◌}
+use Rattle.std.specs.Prelude.{option_map, is_some, IfSome}
+use Rattle.std.specs.Option.{option_flatten}
+use Rattle.std.specs.Ordering.{match_ordering}
+use Rattle.std.specs.declared.cmp.Ordering.TheVariants.{Less, Equal, Greater}
+use Rattle.std.specs.List.{IsDistinct, AllByRecursion}
+use Rattle.std.specs.FinMap as map_of
+use Rattle.std.specs.FinMap.Entries.{put, by_order, below_all}
+use Rattle.std.specs.BTreeSet.{insert_key}
+use Rattle.std.proofs.lemmas.Int.{ints}
+use Rattle.std.proofs.Math.Seq.{drop-length}
+use Rattle.indexmap.specs.IndexMap as index_map
+use Rattle.gd_base.specs.Stamps.{stamp_cmp, is_same, is_before}
+use Rattle.gd_base.specs.contracts.stamp.StampPartialEq.TheImpl.{eq-value}
+use Rattle.gd_base.proofs.StampLemmas.{stamp_cmp-total, is_same-true, is_same-comm, is_before-apart, is_before-trans}
+use Rattle.gd_base.specs.Stamps.{Stamp}
+use Rattle.gd_model.specs.declared.object.Link.{Link}
+use Rattle.gd_model.specs.declared.object.Object.{Object}
+use Rattle.gd_model.specs.Objects.{Body, body}
+use Rattle.gd_model.specs.Drawing.{Drawing}
+use Rattle.gd_model.specs.Board.{Board, listed}
+use Rattle.gd_model.specs.Shown.{above, above_by, through}
+use Rattle.gd_drawing.proofs.Chains.{above-link}
+use Rattle.gd_drawing.proofs.Stacking.{t_first, t_second, of_t}
+use Rattle.gd_drawing.proofs.Lookups.{same_board}
+use Rattle.gd_canvas.specs.Slots.{Slots, board_of, ids, object_of, object_at}
+use Rattle.gd_view.specs.declared.places.Above.{Above}
+use Rattle.gd_view.specs.declared.known.Known.{Known}
+use Rattle.gd_view.specs.Seen.{told}
+use Rattle.gd_view.specs.Chains.{group_in, Within}
+use Rattle.gd_view.specs.Sums.{known, above_of, above_at, is_member, with_id, Sums, AreKnown}
+use Rattle.gd_drawing.proofs.Listed.{find-listed}
+use Rattle.std.proofs.lemmas.List.{append-nil, append_assoc, length-append}
+use Rattle.gd_view.proofs.ChainLemmas.{wider}
+use Rattle.gd_view.proofs.LevelLemmas.{apart_none}
+use Rattle.gd_view.proofs.WalkLemmas.{same_test, no_length}
+
+-- ---- one object
+
+tested : (d : Drawing) (l : Link) (t : Bool) (x : Option Body) → cond t (through l x (λ g. above d l.parent g.link)) None ≡ through l (cond t x None) (λ g. above d l.parent g.link)
+tested d l true x = refl
+tested d l false x = refl
+
+above_group : (d : Drawing) (id : Stamp) (l : Link) → above d id (Some l) ≡ through l (group_in d id l) (λ g. above d l.parent g.link)
+above_group d id l = above-link d id l ∙ tested d l (is_before id l.parent) (map_of.find stamp_cmp l.parent d)
+
+pub sum_none : (d : Drawing) (id : Stamp) (l : Link) → None ≡ group_in d id l → None ≡ above d id (Some l)
+sum_none d id l e = ap (λ x. through l x (λ g. above d l.parent g.link)) e ∙ sym (above_group d id l)
+
+pub sum_some : (d : Drawing) (id : Stamp) (l : Link) (g : Body) (x : Option Above) → Some g ≡ group_in d id l → (is_before id l.parent ≡ true → option_map told x ≡ above_at d l.parent)
+    → option_map (above_by l g) (option_map told x) ≡ above d id (Some l)
+sum_some d id l g x e h = ap (option_map (above_by l g)) (there (is_before id l.parent) refl e) ∙ ap (λ y. through l y (λ g. above d l.parent g.link)) e ∙ sym (above_group d id l)
+  where
+    there : (t : Bool) → is_before id l.parent ≡ t → Some g ≡ cond t (map_of.find stamp_cmp l.parent d) None → option_map told x ≡ above d l.parent g.link
+    there true is f = h is ∙ ap (above_of d l.parent) (sym f)
+    there false is f = cc
+
+pub put_sum : (j k : Known) (id : Stamp) (x : Option Above)
+    → ((q : Stamp) → index_map.get eq-value.it k.sums q ≡ cond (eq-value.it id q) (Some x) (index_map.get eq-value.it j.sums q))
+    → (q : Stamp) → known k q ≡ cond (is_same q id) x (known j q)
+put_sum j k id x h q =
+    ap (λ (e : Stamp → Stamp → Bool). option_flatten (index_map.get e k.sums q)) (sym same_test)
+    ∙ ap option_flatten (h q)
+    ∙ ap (λ (e : Stamp → Stamp → Bool). option_flatten (cond (e id q) (Some x) (index_map.get e j.sums q))) same_test
+    ∙ ap (λ t. option_flatten (cond t (Some x) (index_map.get is_same j.sums q))) (is_same-comm id q)
+    ∙ by (is_same q id)
+  where
+    by : (t : Bool) → option_flatten (cond t (Some x) (index_map.get is_same j.sums q)) ≡ cond t x (known j q)
+    by true = refl
+    by false = refl
+
+-- ---- the ids of the slots
+
+put_ids : (id : Stamp) (o : Object) (ks : List Stamp) (es : List (Stamp × Object)) → ks ≡ map (λ e. e.0) es → insert_key stamp_cmp ks id ≡ map (λ e. e.0) (put stamp_cmp id o es)
+put_ids id o ks [] h = ap (λ l. insert_key stamp_cmp l id) h
+put_ids id o ks (e ∷ es) h = ap (λ l. insert_key stamp_cmp l id) h ∙ by (stamp_cmp id e.0) (put_ids id o (map (λ e. e.0) es) es refl)
+  where
+    by : (r : Ordering) → insert_key stamp_cmp (map (λ e. e.0) es) id ≡ map (λ e. e.0) (put stamp_cmp id o es)
+        → match_ordering r (id ∷ e.0 ∷ map (λ e. e.0) es) (e.0 ∷ map (λ e. e.0) es) (e.0 ∷ insert_key stamp_cmp (map (λ e. e.0) es) id) ≡ map (λ e. e.0) (by_order r ((id, o) ∷ e ∷ es) ((e.0, o) ∷ es) (e ∷ put stamp_cmp id o es))
+    by Less m = refl
+    by Equal m = refl
+    by Greater m = ap (λ l. e.0 ∷ l) m
+
+-- taking out an object that isn't there changes nothing
+removed_none : (b : Board) (id : Stamp) → map_of.get b id ≡ None → map_of.remove b id ≡ b
+removed_none b id h = same_board _ _ (λ q. map_of.get-remove stamp_cmp-total b id q ∙ by q (is_same q id) refl)
+  where
+    by : (q : Stamp) (t : Bool) → is_same q id ≡ t → cond t None (map_of.get b q) ≡ map_of.get b q
+    by q true is = sym (ap (map_of.get b) (is_same-true q id is) ∙ h)
+    by q false is = refl
+
+ids_step : (e : Stamp × Option Object) (es : Slots) (ks : List Stamp) → AllByRecursion (λ y. is_same e.0 y ≡ false) (ids es) → ks ≡ map_of.keys (board_of es)
+    → with_id (option_map (λ p. p.0) (object_of (Some e))) ks ≡ map_of.keys (board_of (e ∷ es))
+unfolding board_of
+ids_step (id, None) es ks d h = h ∙ ap map_of.keys (sym (removed_none (board_of es) id (apart_none id es d)))
+ids_step (id, Some o) es ks d h = put_ids id o ks (map_of.entries (board_of es)) h ∙ ap (map (λ e. e.0)) (sym (map_of.entries-insert stamp_cmp-total (board_of es) id o))
+
+pub ids_gathered : (es : Slots) (k : ℕ) (ks more : List Stamp) → IsDistinct is_same (ids es) → k < length es → ks ≡ map_of.keys (board_of (drop (suc k) es)) → more ≡ with_id (option_map (λ p. p.0) (object_at es k)) ks
+    → more ≡ map_of.keys (board_of (drop k es))
+unfolding IsDistinct
+ids_gathered [] k ks more d below h is = absurd (omega arith)
+ids_gathered (e ∷ es) zero ks more d below h is = is ∙ ids_step e es ks d.0 h
+ids_gathered (e ∷ es) (suc k) ks more d below h is = ids_gathered es k ks more d.1 (omega arith) h is
+
+no_ids : map_of.keys (board_of []) ≡ []
+unfolding board_of
+no_ids = ap (map (λ e. e.0)) (no_length (map_of.entries (map_of.empty {X = Object} {R = stamp_cmp})) (sym (map_of.len-entries (map_of.empty {X = Object} {R = stamp_cmp})) ∙ map_of.len-empty stamp_cmp Object))
+
+pub ids_none : (es : Slots) (n : ℕ) (ks : List Stamp) → n ≡ length es → ks ≡ [] → ks ≡ map_of.keys (board_of (drop n es))
+ids_none es n ks e is = is ∙ sym no_ids ∙ sym (ap (λ l. map_of.keys (board_of l)) (ap (λ m. drop m es) e ∙ drop-length es))
+
+-- ---- the loop
+
+pub told_through : (l : Link) (g : Body) (a r : Above) → r.parent ≡ cond g.dissolved a.parent (Some l.parent) → r.dx ≡ a.dx +ℤ (l.dx +ℤ g.x) → r.dy ≡ a.dy +ℤ (l.dy +ℤ g.y) → told r ≡ above_by l g (told a)
+told_through l g a r p x y =
+    let xs : r.dx ≡ (l.dx +ℤ g.x) +ℤ a.dx = omega (arith, ints, x) in
+    let ys : r.dy ≡ (l.dy +ℤ g.y) +ℤ a.dy = omega (arith, ints, y) in
+    λ i. record { parent = p i; dx = xs i; dy = ys i }
+
+abbrev Below : Stamp → List Stamp → Type 0
+Below x [] = Unit {0}
+Below x (k ∷ ks) = (is_before x k ≡ true) × Below x ks
+
+abbrev Rising : List Stamp → Type 0
+Rising [] = Unit {0}
+Rising (k ∷ ks) = Below k ks × Rising ks
+
+below_keys : (x : Stamp) (es : List (Stamp × Object)) → T (below_all stamp_cmp x es) → Below x (map (λ e. e.0) es)
+below_keys x [] h = tt
+below_keys x (e ∷ es) h = (of_t _ (t_first _ _ h), below_keys x es (t_second _ _ h))
+
+rising_keys : (es : List (Stamp × Object)) → T (map_of.is_sorted stamp_cmp es) → Rising (map (λ e. e.0) es)
+rising_keys [] h = tt
+rising_keys (e ∷ es) h = (below_keys e.0 es (t_first _ _ h), rising_keys es (t_second _ _ h))
+
+below_in : (r id : Stamp) (rs done : List Stamp) → Below r (rs ++ id ∷ done) → is_before r id ≡ true
+below_in r id [] done h = h.0
+below_in r id (x ∷ rs) done h = below_in r id rs done h.1
+
+past : (p r : Stamp) (ks : List Stamp) → is_before r p ≡ true → is_member p (r ∷ ks) ≡ is_member p ks
+past p r ks h = ap (λ t. t || is_member p ks) (is_same-comm p r ∙ is_before-apart r p h)
+
+member_above : (rest done : List Stamp) (id p : Stamp) → Rising (rest ++ id ∷ done) → is_before id p ≡ true → is_member p (rest ++ id ∷ done) ≡ is_member p done
+member_above [] done id p h l = past p id done l
+member_above (r ∷ rs) done id p h l = past p r (rs ++ id ∷ done) (is_before-trans r id p (below_in r id rs done h.0) l) ∙ member_above rs done id p h.1 l
+
+pub record Summed (b : Board) (ks : List Stamp) (k : Known) (turn : ℕ) : Type 0 where
+  pub done : List Stamp
+  pub all : map_of.keys b ≡ ks ++ done
+  pub count : turn ≡ length done
+  pub sums : Sums (listed b) done k
+
+none_there : (b : Board) (q : Stamp) (x : Option Object) → map_of.get b q ≡ x → is_some x ≡ false → None ≡ above_at (listed b) q
+none_there b q None e h = sym (ap (above_of (listed b) q) (find-listed b q ∙ ap (option_map body) e))
+none_there b q (Some o) e h = cc
+
+-- an id that is no key has nothing
+no_key : (b : Board) (q : Stamp) → is_member q (map_of.keys b) ≡ false → None ≡ above_at (listed b) q
+no_key b q h = none_there b q (map_of.get b q) refl (map_of.contains_key-keys b q ∙ h)
+
+by_key : (b : Board) (q : Stamp) (t : Bool) → is_member q (map_of.keys b) ≡ t → cond t (above_at (listed b) q) None ≡ above_at (listed b) q
+by_key b q true h = refl
+by_key b q false h = no_key b q h
+
+pub known_above : {b : Board} {ks : List Stamp} {k : Known} {turn : ℕ} → Summed b ks k turn → (rest : List Stamp) (id : Stamp) → ks ≡ rest ++ id ∷ []
+    → (p : Stamp) → is_before id p ≡ true → option_map told (known k p) ≡ above_at (listed b) p
+known_above {b = b} {k = k} s rest id e p l =
+    let all : map_of.keys b ≡ rest ++ id ∷ s.done = s.all ∙ ap (λ ks. ks ++ s.done) e ∙ append_assoc rest (id ∷ []) s.done in
+    let rising : Rising (rest ++ id ∷ s.done) = subst Rising all (rising_keys (map_of.entries b) (map_of.entries_sorted b)) in
+    s.sums.are p ∙ by_key b p (is_member p s.done) (ap (is_member p) all ∙ member_above rest s.done id p rising l)
+
+pub known_within : {b : Board} {ks : List Stamp} {k : Known} {turn : ℕ} → Summed b ks k turn → (p : Stamp) → IfSome (known k p) (λ a. Within turn a)
+known_within {k = k} s p = subst (λ n. IfSome (known k p) (λ a. Within n a)) (sym s.count) (s.sums.within p)
+
+same_length : (es : List (Stamp × Object)) → length es ≡ length (map (λ e. e.0) es)
+same_length [] = refl
+same_length (e ∷ es) = ap suc (same_length es)
+
+pub few_turns : {b : Board} {ks : List Stamp} {k : Known} {turn : ℕ} → Summed b ks k turn → (rest : List Stamp) (id : Stamp) → ks ≡ rest ++ id ∷ [] → map_of.len b ≤ 1048560 → turn < 1048560
+few_turns {b = b} {ks = ks} s rest id e h =
+    let keys : length (map_of.entries b) ≡ length (map_of.keys b) = same_length (map_of.entries b) in
+    let size : map_of.len b ≡ length (map_of.entries b) = map_of.len-entries b in
+    let parts : length (map_of.keys b) ≡ length ks + length s.done = ap length s.all ∙ length-append ks s.done in
+    let more : length ks ≡ length rest + 1 = ap length e ∙ length-append rest (id ∷ []) in
+    let count = s.count in
+    omega arith
+
+one_wider : (n : ℕ) (s : Above) → Within n s → Within (suc n) s
+one_wider n s w =
+    let left = w.left in
+    let right = w.right in
+    let up = w.up in
+    let down = w.down in
+    record {
+      left = omega (arith, ints);
+      right = omega (arith, ints);
+      up = omega (arith, ints);
+      down = omega (arith, ints);
+    }
+
+some_wider : (n : ℕ) (x : Option Above) → IfSome x (λ a. Within n a) → IfSome x (λ a. Within (suc n) a)
+some_wider n None h = tt
+some_wider n (Some a) h = one_wider n a h
+
+all_wider : (n : ℕ) (x : Option Above) → n ≤ 1048560 → IfSome x (λ a. Within n a) → IfSome x (λ a. Within 1048560 a)
+all_wider n None l h = tt
+all_wider n (Some a) l h = wider n a l h
+
+pub summed_none : (b : Board) (ks : List Stamp) (k : Known) → ks ≡ map_of.keys b → ((q : Stamp) → known k q ≡ None) → Summed b ks k 0
+summed_none b ks k e h =
+    record {
+      done = [];
+      all = sym e ∙ sym (append-nil ks);
+      count = refl;
+      sums = record { are = λ q. ap (option_map told) (h q); within = λ q. subst (λ x. IfSome x (λ a. Within 0 a)) (sym (h q)) tt };
+    }
+
+pub summed_next : {b : Board} {ks : List Stamp} {k : Known} {turn : ℕ} → Summed b ks k turn → (rest : List Stamp) (id : Stamp) (x : Option Above) (next : Known) (more : ℕ)
+    → ks ≡ rest ++ id ∷ []
+    → option_map told x ≡ above_at (listed b) id
+    → IfSome x (λ a. Within (1 + turn) a)
+    → ((q : Stamp) → known next q ≡ cond (is_same q id) x (known k q))
+    → more ≡ turn + 1
+    → Summed b rest next more
+summed_next {b = b} {k = k} {turn = turn} s rest id x next more e is within put up =
+    let count = s.count in
+    let n : 1 + turn ≡ suc (length s.done) = omega arith in
+    record {
+      done = id ∷ s.done;
+      all = s.all ∙ ap (λ ks. ks ++ s.done) e ∙ append_assoc rest (id ∷ []) s.done;
+      count = omega (arith, up, count);
+      sums =
+          record {
+            are = λ q. ap (option_map told) (put q) ∙ here q (is_same q id) refl;
+            within = λ q. subst (λ y. IfSome y (λ a. Within (suc (length s.done)) a)) (sym (put q)) (bound q (is_same q id) (subst (λ m. IfSome x (λ a. Within m a)) n within));
+          };
+    }
+  where
+    here : (q : Stamp) (t : Bool) → is_same q id ≡ t → option_map told (cond t x (known k q)) ≡ cond (t || is_member q s.done) (above_at (listed b) q) None
+    here q true h = is ∙ ap (above_at (listed b)) (sym (is_same-true q id h))
+    here q false h = s.sums.are q
+
+    bound : (q : Stamp) (t : Bool) → IfSome x (λ a. Within (suc (length s.done)) a) → IfSome (cond t x (known k q)) (λ a. Within (suc (length s.done)) a)
+    bound q true w = w
+    bound q false w = some_wider (length s.done) (known k q) (s.sums.within q)
+
+pub summed_all : {b : Board} {ks : List Stamp} {k : Known} {turn : ℕ} → Summed b ks k turn → ks ≡ [] → map_of.len b ≤ 1048560 → AreKnown (listed b) k
+summed_all {b = b} {k = k} s e few =
+    let all : map_of.keys b ≡ s.done = s.all ∙ ap (λ ks. ks ++ s.done) e in
+    let keys : length (map_of.entries b) ≡ length (map_of.keys b) = same_length (map_of.entries b) in
+    let size : map_of.len b ≡ length (map_of.entries b) = map_of.len-entries b in
+    let parts : length (map_of.keys b) ≡ length s.done = ap length all in
+    record {
+      are = λ q. s.sums.are q ∙ by_key b q (is_member q s.done) (ap (is_member q) all);
+      within = λ q. all_wider (length s.done) (known k q) (omega arith) (s.sums.within q);
+    }
+
+pub at_none : (b : Board) (id : Stamp) → None ≡ map_of.get b id → None ≡ above_at (listed b) id
+at_none b id e = ap (λ x. above_of (listed b) id (option_map body x)) e ∙ ap (above_of (listed b) id) (sym (find-listed b id))
+
+pub at_some : (b : Board) (id : Stamp) (o : Object) → Some o ≡ map_of.get b id → above (listed b) id o.link ≡ above_at (listed b) id
+at_some b id o e = ap (λ x. above_of (listed b) id (option_map body x)) e ∙ ap (above_of (listed b) id) (sym (find-listed b id))

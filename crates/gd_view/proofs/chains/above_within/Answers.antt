@@ -1,0 +1,36 @@
+use Rattle.std.proofs.Common.{◌≡◌, true, rules, ◌∙◌, sym, ap, arith, ◌-◌, ◌+◌}
+use Rattle.std.proofs.lemmas.Int.{ints}
+use Rattle.std.specs.Prelude.{option_map, option_copied, is_some}
+use Rattle.gd_model.specs.Objects.{body}
+use Rattle.gd_view.proofs.ChainLemmas.{start, step, lost, cut}
+use Rattle.gd_view.proofs.chains.above_within.Goals as goal
+
+pub loop-turn-init : goal.loop-turn-init
+loop-turn-init c =
+    (start c.args.most _ _ _ _ (omega arith), record { left = omega (arith, ints); right = omega (arith, ints); up = omega (arith, ints); down = omega (arith, ints) })
+
+pub returns-in_default-group_at-clause-above : goal.returns-in_default-group_at-clause-above
+returns-in_default-group_at-clause-above c =
+    lost c.loop-turn.next c.loop-turn.invariant.0 c.in-Some.link (c.args.most - (c.loop-turn.turn + 1)) c.in-Some.is
+    (ap (λ x. option_map body (option_copied x)) (sym c.in_default-group_at.is) ∙ c.group_at.ensures)
+    (omega (arith, c.loop-turn-test.true))
+
+pub loop-turn-preserved : goal.loop-turn-preserved
+loop-turn-preserved c =
+    let inside = c.with_link-sum.ensures.within in (
+      step c.loop-turn.next c.loop-turn.invariant.0 c.in-Some.link c.in-Some-group_at.group.now (c.args.most - (c.loop-turn.turn + 1)) c.with_link-sum.result c.in-Some.is
+          (ap (λ x. option_map body (option_copied x)) (sym c.in-Some-group_at.is) ∙ c.group_at.ensures)
+          (omega (arith, c.loop-turn-test.true))
+          c.with_link-sum.ensures.sum,
+      record {
+        left = omega (arith, ints, inside.left);
+        right = omega (arith, ints, inside.right);
+        up = omega (arith, ints, inside.up);
+        down = omega (arith, ints, inside.down);
+      },
+    )
+
+pub returns-else-is_none-clause-above : goal.returns-else-is_none-clause-above
+returns-else-is_none-clause-above c =
+    let more : is_some c.loop-turn.next ≡ true = search rules in
+    cut c.loop-turn.next c.loop-turn.invariant.0 more (omega (arith, c.loop-turn-test.false))

@@ -1,0 +1,39 @@
+-- An object as it is shown, and what stands above it, as the code answers them.
+use Rattle.std.specs.Prelude.{◌+ℤ◌, Bool, false, if◌then◌else◌, Option, None, Some, option_map, is_none}
+use Rattle.std.specs.FinMap as map_of
+use Rattle.gd_base.specs.Stamps.{stamp_cmp}
+use Rattle.gd_base.specs.Stamps.{Stamp}
+use Rattle.gd_model.specs.Objects.{Body}
+use Rattle.gd_model.specs.Drawing.{Drawing}
+use Rattle.gd_model.specs.Shown.{above, is_gone}
+use Rattle.gd_model.specs.Shown as view
+use Rattle.gd_view.specs.declared.places.Above.{Above}
+use Rattle.gd_view.specs.declared.places.Shown.{Shown}
+
+-- what stands above an object
+abbrev pub told : Above → view.Above
+told a = record { parent = a.parent; dx = a.dx; dy = a.dy }
+
+abbrev pub shown_at : Body → view.Above → Shown
+shown_at b a =
+    record {
+      parent = a.parent;
+      at = record { x = b.x +ℤ a.dx; y = b.y +ℤ a.dy };
+      above = record { x = a.dx; y = a.dy };
+      kind = b.kind;
+    }
+
+abbrev pub seen_as : Drawing → Stamp → Body → Option Shown
+seen_as d id b = if is_gone b then None else option_map (shown_at b) (above d id b.link)
+
+abbrev pub seen_of : Drawing → Stamp → Option Body → Option Shown
+seen_of d id None = None
+seen_of d id (Some b) = seen_as d id b
+
+-- the object of that id as it is shown, or none where it isn't
+abbrev pub seen : Drawing → Stamp → Option Shown
+seen d id = seen_of d id (map_of.find stamp_cmp id d)
+
+abbrev pub has_no_parent : Option Shown → Bool
+has_no_parent None = false
+has_no_parent (Some s) = is_none s.parent

@@ -1,0 +1,101 @@
+//! What stands above one object, by its chain of links.
+
+ghost use Rattle.std.specs.Prelude.{◌≡◌, ◌≤◌, ◌+◌, ◌+ℤ◌, ◌≤ℤ◌, pos, neg_ℤ, length, None, Some, IfSome, option_copied, option_map, if◌then◌else◌};
+ghost use Rattle.gd_model.specs.Objects.{body};
+ghost use Rattle.gd_model.specs.Board.{listed};
+ghost use Rattle.gd_model.specs.Shown.{above, above_in};
+ghost use Rattle.gd_canvas.specs.Slots.{board_of};
+ghost use Rattle.gd_view.specs.Seen.{told};
+ghost use Rattle.gd_view.specs.Chains.{after_link, first_parent, group_in, Within};
+
+use crate::OBJECTS;
+use crate::places::Above;
+use gd_base::Stamp;
+use gd_canvas::Canvas;
+use gd_model::{Link, Object};
+
+/// What stands above an object of that id and link. Ids rise along a chain, so it has at most as many links as there are
+/// objects.
+pub(crate) fn above(canvas: &Canvas, id: Stamp, link: Option<Link>) -> Option<Above>
+    requires { length (listed (board_of canvas.now)) ≤ 1048560 }
+    ensures above { option_map told result ≡ above (listed (board_of canvas.now)) id link }
+    ensures within { IfSome result (λ a. Within 1048560 a) }
+{
+    above_within(canvas, id, link, OBJECTS)
+}
+
+/// The same along at most so many links.
+fn above_within(canvas: &Canvas, id: Stamp, link: Option<Link>, most: u32) -> Option<Above>
+    requires { most ≤ 1048560 }
+    ensures above { option_map told result ≡ above_in most (listed (board_of canvas.now)) id link }
+    ensures within { IfSome result (λ a. Within 1048560 a) }
+{
+    let mut sum = Above {
+        parent: None,
+        dx: 0,
+        dy: 0,
+    };
+    let mut below = id;
+    let mut next = link;
+    for turn in 0..most {
+        let Some(link) = next else {
+            return Some(sum);
+        };
+        let Some(group) = group_at(canvas, below, &link) else {
+            return None;
+        };
+        sum = with_link(&sum, &link, group, turn);
+        below = link.parent;
+        next = group.link;
+    }
+    if next.is_none() { Some(sum) } else { None }
+}
+
+/// The group that a link leads to, where it is there and has a greater id.
+pub(crate) fn group_at<'a>(canvas: &'a Canvas, below: Stamp, link: &Link) -> Option<&'a Object>
+    ensures { option_map body (option_copied result) ≡ group_in (listed (board_of canvas.now)) below link.now }
+{
+    if below.is_before(link.parent) {
+        canvas.get(link.parent)
+    } else {
+        None
+    }
+}
+
+/// The sum with one link more, at the far end.
+fn with_link(sum: &Above, link: &Link, group: &Object, turn: u32) -> Above
+    requires few { turn ≤ 1048560 }
+    requires within { Within turn sum.now }
+    ensures sum { result ≡ after_link sum.now link.now (body group.now) }
+    ensures within { Within (1 + turn) result }
+{
+    let parent = parent_after(sum.parent, link, group);
+    let dx = add(sum.dx, link.dx, group.x);
+    let dy = add(sum.dy, link.dy, group.y);
+    Above { parent, dx, dy }
+}
+
+/// The first group of the chain that isn't dissolved, with one link more.
+fn parent_after(parent: Option<Stamp>, link: &Link, group: &Object) -> Option<Stamp>
+    ensures { result ≡ first_parent parent (if group.now.dissolved then None else Some link.now.parent) }
+{
+    match parent {
+        Some(parent) => Some(parent),
+        None => if group.dissolved {
+            None
+        } else {
+            Some(link.parent)
+        },
+    }
+}
+
+/// The sum with one shift and one place more.
+pub(crate) fn add(sum: i64, shift: i32, place: i32) -> i64
+    requires low { neg_ℤ (pos 9007199254740992) ≤ℤ sum }
+    requires high { sum ≤ℤ pos 9007199254740992 }
+    ensures sum { result ≡ sum +ℤ (shift +ℤ place) }
+    ensures low { sum ≤ℤ (result +ℤ pos 4294967296) }
+    ensures high { result ≤ℤ (sum +ℤ pos 4294967296) }
+{
+    sum + (i64::from(shift) + i64::from(place))
+}

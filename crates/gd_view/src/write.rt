@@ -1,0 +1,29 @@
+ghost use Rattle.std.specs.Prelude.{◌≡◌, ℕ, map, Err};
+ghost use Rattle.gd_outside.specs.Seen.{SeenSource, SeenJournal, SeenLink};
+ghost use Rattle.gd_model.specs.Text.{lines};
+ghost use Rattle.gd_model.specs.Effects.{Print};
+ghost use Rattle.gd_effects.specs.Outside.{outside};
+ghost use Rattle.gd_effects.specs.Done.{Does};
+
+use crate::picture::Picture;
+use gd_effects::print;
+use gd_outside::{End, Sink};
+use gd_words::ReplyText;
+
+/// Writes the text of the picture, one line a piece. It takes no memory.
+///
+/// `WriteFault` where a write failed, with some lines written and a front of the next one; no other end comes.
+pub fn write_text<K: Sink>(picture: &Picture, output: &mut K) -> Result<(), End>
+    ensures does { (input : SeenSource) (journal : SeenJournal) (link : SeenLink) (steps : ℕ)
+        → Does result (outside input (K.seen output.old) journal link steps) (map Print (lines picture.now)) (outside input (K.seen output.new) journal link steps) }
+    ensures end { (e : End) → result ≡ Err e → e ≡ End.WriteFault }
+{
+    let items = picture.as_slice();
+    let mut text = ReplyText::new();
+    for item in items {
+        text.put_item(item);
+        print(output, text.as_slice())?;
+    }
+    text.put_end(items.len() as u64);
+    print(output, text.as_slice())
+}
