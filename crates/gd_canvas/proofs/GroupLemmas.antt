@@ -16,7 +16,7 @@ use Rattle.gd_model.specs.Objects.{ranked, new_group, linked}
 use Rattle.gd_model.specs.Forms.{Groups}
 use Rattle.gd_model.specs.Drawing.{first_naming, link_given}
 use Rattle.gd_model.specs.Board.{Board, link_members, board_with}
-use Rattle.gd_drawing.proofs.Lookups.{get-tie_members, same_board}
+use Rattle.gd_drawing.proofs.Lookups.{get-link_members, same_board}
 
 not_given : (same before : Bool) (given : Option Link) → (before ≡ true → same ≡ false) → same ≡ true → cond before given None ≡ None
 not_given true true given apart is = let e = apart refl in cc
@@ -36,10 +36,10 @@ link_members-insert : (group : Stamp) (members : List Member) (b : Board) (o : O
     → link_members group members (map_of.insert b group o) ≡ map_of.insert (link_members group members b) group o
 link_members-insert group members b o =
     same_board _ _ (λ q.
-    get-tie_members group members (map_of.insert b group o) q
+    get-link_members group members (map_of.insert b group o) q
     ∙ ap (option_map (linked (link_given group members q))) (map_of.get-insert stamp_cmp-total b group o q)
     ∙ link_cell (is_same q group) (link_given group members q) o (map_of.get b q) (link_given-own group q members)
-    ∙ ap (cond (is_same q group) (Some o)) (sym (get-tie_members group members b q))
+    ∙ ap (cond (is_same q group) (Some o)) (sym (get-link_members group members b q))
     ∙ sym (map_of.get-insert stamp_cmp-total (link_members group members b) group o q))
 
 grouped : (there : Bool) (members : List Member) (group : Stamp) (b with_group : Board) (o : Object) → true ≡ not there → with_group ≡ cond there b (map_of.insert b group o)

@@ -66,15 +66,15 @@ none_given true (Some o) = refl
 none_given false None = refl
 none_given false (Some o) = refl
 
-pub get-tie_members : (s : Stamp) (ms : List Member) (b : Board) (q : Stamp)
+pub get-link_members : (s : Stamp) (ms : List Member) (b : Board) (q : Stamp)
     → map_of.get (link_members s ms b) q ≡ option_map (linked (link_given s ms q)) (map_of.get b q)
-get-tie_members s [] b q = sym (none_given (is_before q s) (map_of.get b q))
-get-tie_members s (m ∷ ms) b q =
+get-link_members s [] b q = sym (none_given (is_before q s) (map_of.get b q))
+get-link_members s (m ∷ ms) b q =
     let l : Link = record { parent = s; dx = m.dx; dy = m.dy } in
     let rest = link_members s ms b in
     get-cond (is_before m.id s) (change rest m.id (with_link (Some l))) rest q
     ∙ ap (λ y. cond (is_before m.id s) y (map_of.get rest q)) (get-change rest m.id (with_link (Some l)) q)
-    ∙ ap (λ y. cond (is_before m.id s) (cond (is_same q m.id) (option_map (with_link (Some l)) y) y) y) (get-tie_members s ms b q)
+    ∙ ap (λ y. cond (is_before m.id s) (cond (is_same q m.id) (option_map (with_link (Some l)) y) y) y) (get-link_members s ms b q)
     ∙ link_step (is_same q m.id) (is_before m.id s) (is_before q s) l (first_naming s ms q) (map_of.get b q)
     (λ e. ap (λ r. is_before r s) (sym (is_same-true q m.id e)))
 
@@ -88,22 +88,22 @@ create_at true x y o agree = ap (λ z. cond (is_some z) y (Some o)) (agree refl)
 create_at false None y o agree = refl
 create_at false (Some p) y o agree = refl
 
-pub get-apply_form : (s : Stamp) (f : Form) (b : Board) (q : Stamp) → map_of.get (board_with s f b) q ≡ after s f (map_of.get b) q
-get-apply_form s (Sets id c) b q = get-change b id (set c) q
-get-apply_form s (Creates new) b q =
+pub get-board_with : (s : Stamp) (f : Form) (b : Board) (q : Stamp) → map_of.get (board_with s f b) q ≡ after s f (map_of.get b) q
+get-board_with s (Sets id c) b q = get-change b id (set c) q
+get-board_with s (Creates new) b q =
     get-cond (is_some (map_of.get b s)) b (map_of.insert b s (ranked new s)) q
     ∙ ap (λ y. cond (is_some (map_of.get b s)) (map_of.get b q) y) (map_of.get-insert stamp_cmp-total b s (ranked new s) q)
     ∙ create_at (is_same q s) (map_of.get b s) (map_of.get b q) (ranked new s) (λ e. ap (map_of.get b) (sym (is_same-true q s e)))
-get-apply_form s (Deletes id) b q = map_of.get-remove stamp_cmp-total b id q
-get-apply_form s (Groups ms) b q =
+get-board_with s (Deletes id) b q = map_of.get-remove stamp_cmp-total b id q
+get-board_with s (Groups ms) b q =
     get-cond (is_some (map_of.get b s)) b (map_of.insert (link_members s ms b) s (ranked new_group s)) q
     ∙ ap (λ y. cond (is_some (map_of.get b s)) (map_of.get b q) y)
     (map_of.get-insert stamp_cmp-total (link_members s ms b) s (ranked new_group s) q
-    ∙ ap (cond (is_same q s) (Some (ranked new_group s))) (get-tie_members s ms b q))
+    ∙ ap (cond (is_same q s) (Some (ranked new_group s))) (get-link_members s ms b q))
 
 pub get-apply : (s : Stamp) (op : Op) (b : Board) (q : Stamp) → map_of.get (apply s op b) q ≡ after s (form s op) (map_of.get b) q
 unfolding apply
-get-apply s op b q = get-apply_form s (form s op) b q
+get-apply s op b q = get-board_with s (form s op) b q
 
 -- boards that answer alike are equal
 pub same_board : (b c : Board) → ((q : Stamp) → map_of.get b q ≡ map_of.get c q) → b ≡ c

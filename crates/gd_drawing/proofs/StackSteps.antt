@@ -19,7 +19,7 @@ use Rattle.gd_model.specs.Objects.{Body, body, ranked, new_group, new_shape, fit
 use Rattle.gd_model.specs.Forms.{Sets, Creates, Deletes, Groups, form}
 use Rattle.gd_model.specs.Drawing.{Drawing, has_id, link_given, at_id, without, to_top, draw}
 use Rattle.gd_model.specs.Board.{Board, Level, level_cmp, without_ranks, board_with, apply}
-use Rattle.gd_drawing.proofs.Lookups.{get-apply_form}
+use Rattle.gd_drawing.proofs.Lookups.{get-board_with}
 use Rattle.gd_drawing.proofs.Stacking.{level_cmp-total, level_test, same_levels, at_rank, Stands}
 use Rattle.gd_drawing.proofs.Entries.{Entries, mapped, sorted-mapped, find-mapped, sorted-append, all_before, under_from, all_before-more, all_before-mapped, all_before-where, all_before-append, present_before, absent, no_id, drawn-mapped, drawn-append, drawn-where, find-where}
 
@@ -94,7 +94,7 @@ module _ (s : Stamp) (b : Board) (es : Entries) (stands : Stands b es) (low : al
               ∙ ap (option_map (f (r, k))) (stands.found r k)
               ∙ ap (λ t. option_map (λ y. cond t (set_body c y) y) (at_rank r (map_of.get b k))) (is_same-comm id k)
               ∙ set_cell c r (is_same k id) (map_of.get b k) e
-              ∙ ap (at_rank r) (sym (get-apply_form s (Sets id c) b k));
+              ∙ ap (at_rank r) (sym (get-board_with s (Sets id c) b k));
         };
         drawn = drawn-mapped f (λ x. cond (is_same id x.0) (set_body c x.1) x.1) (λ l v. refl) es;
         later = λ t l. all_before-mapped t f es ∙ all_before-more s t es l low;
@@ -143,7 +143,7 @@ module _ (s : Stamp) (b : Board) (es : Entries) (stands : Stands b es) (low : al
               find-append level_cmp level_cmp-total es (s, s) v (r, k) here_none
               ∙ ap (λ t. cond t (Some v) (map_of.find level_cmp (r, k) es)) (level_test r k s s)
               ∙ new_cell v r (is_same r s) (is_same k s) _ (map_of.get b k) refl (stands.found r k) (id_none k (λ x. x) refl)
-              ∙ ap (at_rank r) (get-new v k ∙ sym (get-apply_form s (Creates v) b k));
+              ∙ ap (at_rank r) (get-new v k ∙ sym (get-board_with s (Creates v) b k));
         };
         drawn = drawn-append es (((s, s), v) ∷ []) ∙ ap (λ t. cond t (without_ranks es) (without_ranks es ++ (s, v) ∷ [])) (sym (no_id s es low));
         later = new_later v es low;
@@ -167,7 +167,7 @@ module _ (s : Stamp) (b : Board) (es : Entries) (stands : Stands b es) (low : al
               ∙ new_cell new_group r (is_same r s) (is_same k s) _ (linked_at k (map_of.get b k)) refl
               (find-mapped f es (r, k) ∙ ap (option_map (f (r, k))) (stands.found r k) ∙ linked_cell (link_given s ms k) r (map_of.get b k))
               (id_none k (linked_at k) refl)
-              ∙ ap (at_rank r) (ap (λ t. cond t (map_of.get b k) (cond (is_same k s) (Some (ranked new_group s)) (linked_at k (map_of.get b k)))) (sym not_present) ∙ sym (get-apply_form s (Groups ms) b k));
+              ∙ ap (at_rank r) (ap (λ t. cond t (map_of.get b k) (cond (is_same k s) (Some (ranked new_group s)) (linked_at k (map_of.get b k)))) (sym not_present) ∙ sym (get-board_with s (Groups ms) b k));
         };
         drawn =
             drawn-append fs (((s, s), new_group) ∷ [])
@@ -212,7 +212,7 @@ module _ (s : Stamp) (b : Board) (es : Entries) (stands : Stands b es) (low : al
         entries = rest id;
         stands = record {
           sorted = rest_sorted id;
-          found = λ r k. rest_found id r k ∙ gone_cell (is_same k id) r (map_of.get b k) ∙ ap (at_rank r) (sym (get-apply_form s (Deletes id) b k));
+          found = λ r k. rest_found id r k ∙ gone_cell (is_same k id) r (map_of.get b k) ∙ ap (at_rank r) (sym (get-board_with s (Deletes id) b k));
         };
         drawn = rest_drawn id;
         later = λ t l. all_before-more s t (rest id) l (rest_low id);
@@ -294,7 +294,7 @@ module _ (s : Stamp) (b : Board) (es : Entries) (stands : Stands b es) (low : al
           found = λ r k.
               rest_found id r k
               ∙ stay_cell (is_same k id) r (map_of.get b k) (is_at id None e k)
-              ∙ ap (at_rank r) (sym (get-apply_form s (Sets id (ToRank s)) b k));
+              ∙ ap (at_rank r) (sym (get-board_with s (Sets id (ToRank s)) b k));
         };
         drawn = rest_drawn id ∙ sym (append-nil (without id (without_ranks es))) ∙ ap (λ d. without id (without_ranks es) ++ d) (sym (ap without_ranks (alone_none id e)) ∙ alone_drawn id);
         later = λ t l. all_before-more s t (rest id) l (rest_low id);
@@ -309,7 +309,7 @@ module _ (s : Stamp) (b : Board) (es : Entries) (stands : Stands b es) (low : al
               ∙ ap (λ t. cond t (Some (body o)) (map_of.find level_cmp (r, k) (rest id))) (level_test r k s id)
               ∙ ap (λ y. cond (is_same r s && is_same k id) (Some (body o)) y) (rest_found id r k)
               ∙ top_cell (is_same r s) (is_same k id) r o (map_of.get b k) refl (is_at id (Some o) e k)
-              ∙ ap (at_rank r) (sym (get-apply_form s (Sets id (ToRank s)) b k));
+              ∙ ap (at_rank r) (sym (get-board_with s (Sets id (ToRank s)) b k));
         };
         drawn =
             drawn-append (rest id) (((s, id), body o) ∷ [])
