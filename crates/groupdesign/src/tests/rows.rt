@@ -30,8 +30,8 @@ const LOOK: [u8; 183] = [
     0, 7, 1, 0, 7, 5, 0, 0, 0, 0, 0, 1, 2, 2, 0xFF, 0xFF, 0xFF, 0xFF, 0,
 ];
 
-// A record of tag 8, cut behind it.
-const UNBUILT: [u8; 22] = [
+// An ungroup, cut behind its tag.
+const CUT: [u8; 22] = [
     b'G', b'D', b'O', b'L', 1, 0, 0, 0, 7, 1, 2, 0xC3, 0, 0, 0, 0, 0, 1, 1, 0, 1, 8,
 ];
 
@@ -125,10 +125,10 @@ fn what_follows_the_closed_gate_is_left(rt: HostRuntime) -> Result<(), Fail> {
 }
 
 #[test]
-fn a_record_that_is_not_built_yet_ends_in_silence(rt: HostRuntime) -> Result<(), Fail> {
-    let (status, output) = ran_over(rt.alloc(), &["replay"], &UNBUILT)?;
-    assert_eq!(rt; status.number(), 10);
-    assert_eq!(rt; output.bytes().len(), 0);
+fn a_record_that_is_cut_behind_its_tag_is_bad(rt: HostRuntime) -> Result<(), Fail> {
+    let (status, output) = ran_over(rt.alloc(), &["replay"], &CUT)?;
+    assert_eq!(rt; status.number(), 3);
+    assert_eq!(rt; output.bytes(), b"bad log\n".as_slice());
     Ok(())
 }
 
