@@ -41,7 +41,8 @@ fn open(stack: &mut Vec<usize>, place: Option<usize>) -> Result<(), AllocError>
     Ok(())
 }
 
-/// The items, each followed by its own. The stack has, for each group that is being printed, the place of its next item.
+/// Copies of the items, each followed by its own. The stack has, for each group that is being printed, the place of its
+/// next item.
 pub(crate) fn in_printed_order(alloc: Global, items: &[Item]) -> Result<Vec<Item>, AllocError>
     requires { IsTrue (climbs items.now) }
     ensures { IfOk result (λ printed. printed.items ≡ in_printed_order items.now) }
