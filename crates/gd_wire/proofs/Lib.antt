@@ -3,3 +3,7 @@ pub mod SteadyFields
 mod Plain
 mod MemberLemmas
 mod Whole
+pub mod Exact
+pub mod SoundFields
+pub mod ExactFields
+pub mod ExactEvent

@@ -5,6 +5,7 @@ mod bytes;
 mod event;
 mod group;
 mod header;
+pub mod laws;
 mod read;
 mod style;
 
