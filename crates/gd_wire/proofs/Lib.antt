@@ -7,3 +7,4 @@ pub mod Exact
 pub mod SoundFields
 pub mod ExactFields
 pub mod ExactEvent
+mod WriteLoop
