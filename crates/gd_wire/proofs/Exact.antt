@@ -1,6 +1,5 @@
 -- A field is read where its spelling stands, and nowhere else.
 use Rattle.std.proofs.Common.{◌≡◌, ℕ, zero, suc, ◌+◌, ◌<◌, ◌≤◌, Bool, true, false, cond, ltb, eqb, List, [], ◌∷◌, ◌++◌, length, get_or, take, drop, Result, Ok, Err, refl, sym, ap, subst, eqb-true, append_assoc, ◌∙◌, arith}
-use Rattle.std.specs.Prelude.{◌&&◌}
 use Rattle.std.proofs.lemmas.Bool.{ltb-false, ltb-true, le-ltb}
 use Rattle.std.proofs.lemmas.List.{length-append, length-take, take-append-drop, get_or-append-add}
 use Rattle.std.proofs.Math.ListN.{get_or-append}
@@ -77,12 +76,6 @@ ok_is x z e = cc
 -- the last field was read
 pub done : {A : Type 0} {Sound : A → Type 0} {spell : A → List ℕ} {bytes : List ℕ} (x z : A × List ℕ) → read_of x ≡ read_of z → Took Sound spell bytes x → Took Sound spell bytes z
 done {Sound = Sound} {spell = spell} {bytes = bytes} x z e took = subst (λ y. Took Sound spell bytes y) (ok_is x z e) took
-
--- two tests
-pub both : (a b : Bool) → (a && b) ≡ true → (a ≡ true) × (b ≡ true)
-both true true e = (refl, refl)
-both true false e = absurd cc
-both false b e = absurd cc
 
 -- a test that let reading go on
 pub else_ok : {A : Type 0} (t : Bool) (r : Result A FieldFault) (z : A) (f : FieldFault) → cond t (Err f) r ≡ Ok z → (t ≡ false) × (r ≡ Ok z)

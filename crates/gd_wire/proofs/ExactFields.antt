@@ -2,7 +2,7 @@
 use Rattle.std.proofs.Common.{◌≡◌, ℕ, ℤ, zero, suc, ◌<◌, ◌≤◌, ◌^◌, Bool, true, false, List, [], ◌∷◌, ◌++◌, length, drop, Option, Some, None, Ok, Err, refl, sym, subst, ap, ap₂, ◌∙◌, append_assoc, arith}
 use Rattle.std.specs.Prelude.{◌&&◌, nat_lt, nat_le, ◌==◌, FitsSigned, pos, neg_ℤ, int_le}
 use Rattle.std.proofs.lemmas.Bool.Decides.{nat_tests}
-use Rattle.std.proofs.lemmas.Bool.{ltb-true, ltb-false, le-ltb, lt-ltb, leb-true, le-leb}
+use Rattle.std.proofs.lemmas.Bool.{ltb-true, ltb-false, le-ltb, lt-ltb, leb-true, le-leb, and_parts}
 use Rattle.std.proofs.lemmas.Int.{ints, of_z-to_z, to_z-of_z}
 use Rattle.std.proofs.Math.Facts.{Fits-of_z}
 use Rattle.std.proofs.lemmas.Nat.{from_be_bytes-to_be_bytes_2, from_be_bytes-to_be_bytes_4, from_be_bytes-to_be_bytes_8, be_bytes_2, be_bytes_4, be_bytes_8}
@@ -23,7 +23,7 @@ use Rattle.gd_model.specs.EventBytes.{byte_at, clock_at, site_at, stamp_at, id_a
 use Rattle.gd_model.specs.Spelling.{AreBytes, stamp_bytes, word_bytes, signed_bytes, shape_byte, label_bytes, style_bytes, member_bytes, members_bytes}
 use Rattle.gd_wire.specs.Fields.{label_within}
 use Rattle.gd_wire.proofs.Steady.{read_of, passed}
-use Rattle.gd_wire.proofs.Exact.{Took, Exact, Runs, joined, spelt, both, step, taking, done, took_as, else_ok, on_tag, exact_field, exact_bytes}
+use Rattle.gd_wire.proofs.Exact.{Took, Exact, Runs, joined, spelt, step, taking, done, took_as, else_ok, on_tag, exact_field, exact_bytes}
 use Rattle.gd_wire.proofs.SoundFields.{IsWithin, IsId, IsLook, IsMember, AreMembers, IsNumber, is_member_count}
 
 -- ---- numbers
@@ -91,7 +91,7 @@ exact_word = record {
 
 signed-fits : (limit : ℕ) (z : ℤ) → limit < 2 ^ 31 → IsWithin limit z → FitsSigned w32 z
 signed-fits limit z small s =
-    let h = both (int_le (neg_ℤ (pos limit)) z) (int_le z (pos limit)) s.within in
+    let h = and_parts (int_le (neg_ℤ (pos limit)) z) (int_le z (pos limit)) s.within in
     let above = h.0 in
     let below = h.1 in
     grind (arith, ints)
@@ -114,7 +114,7 @@ exact_size = exact_signed size_limit (omega arith)
 -- ---- stamps
 
 site-bounds : (s : ℕ) → is_site s ≡ true → (1 ≤ s) × (s ≤ 16)
-site-bounds s h = let b = both _ _ h in (leb-true _ _ b.0, leb-true _ _ b.1)
+site-bounds s h = let b = and_parts _ _ h in (leb-true _ _ b.0, leb-true _ _ b.1)
 
 site-is : (s : ℕ) → 1 ≤ s → s ≤ 16 → is_site s ≡ true
 site-is s h k = rw (le-leb 1 s h, le-leb s 16 k) refl
@@ -215,7 +215,7 @@ colour-below : (c : ℕ) → is_colour c ≡ true → c < 2 ^ 32
 colour-below c h = let k = leb-true _ _ h in omega arith
 
 width-below : (n : ℕ) → is_width n ≡ true → n < 2 ^ 32
-width-below n h = let k : n ≤ 64 = leb-true n 64 (both (nat_le 1 n) (nat_le n 64) h).1 in omega arith
+width-below n h = let k : n ≤ 64 = leb-true n 64 (and_parts (nat_le 1 n) (nat_le n 64) h).1 in omega arith
 
 exact_colour : Exact colour_at (λ c. is_colour c ≡ true) word_bytes
 unfolding colour_at

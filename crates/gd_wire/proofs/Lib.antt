@@ -8,3 +8,4 @@ pub mod SoundFields
 pub mod ExactFields
 pub mod ExactEvent
 mod WriteLoop
+mod FromPlace

@@ -2,7 +2,7 @@
 use Rattle.std.proofs.Common.{◌≡◌, ℕ, ℤ, zero, suc, ◌<◌, ◌≤◌, ◌^◌, Bool, true, false, cond, List, [], ◌∷◌, length, get_or, Option, Some, None, refl, sym, ap, ◌∙◌, arith}
 use Rattle.std.specs.Prelude.{◌&&◌, not, nat_lt, nat_le, ◌==◌, ⊤}
 use Rattle.std.specs.List.{list_all, All}
-use Rattle.std.proofs.lemmas.Bool.{leb-true, le-leb, ltb-true, lt-ltb, ne_eqb}
+use Rattle.std.proofs.lemmas.Bool.{leb-true, le-leb, ltb-true, lt-ltb, ne_eqb, and_parts}
 use Rattle.gd_base.specs.Stamps.{Stamp, IsStamp, is_before}
 use Rattle.gd_base.specs.Labels.{IsLabel}
 use Rattle.gd_base.specs.Members.{AreStamped}
@@ -16,7 +16,6 @@ use Rattle.gd_events.specs.declared.event.EventFault.TheVariants.{Seq, Range, Me
 use Rattle.gd_events.specs.Events.{Event}
 use Rattle.gd_events.specs.Sound.{is_shift_in_range, is_in_range, has_members, is_member_before, names_before, is_above, rise_above, has_rising_members, event_fault, IsWellTyped, IsSound}
 use Rattle.gd_wire.specs.Rules.{KeepsRules}
-use Rattle.gd_wire.proofs.Exact.{both}
 
 -- ---- the fields
 
@@ -105,10 +104,10 @@ members-are : (stamp : Stamp) (last : Option Stamp) (ms : List Member) → KeepM
 unfolding AreMembers rise_above
 members-are stamp last [] k = tt
 members-are stamp last (m ∷ ms) k =
-    let shifts = both (is_shift_in_range m) (list_all is_shift_in_range ms) k.shifts in
-    let shift = both (is_within place_limit m.dx) (is_within place_limit m.dy) shifts.0 in
-    let before = both (is_member_before stamp m) (list_all (is_member_before stamp) ms) k.before in
-    let rising = both (is_above last m.id) (rise_above (Some m.id) ms) k.rising in (
+    let shifts = and_parts (is_shift_in_range m) (list_all is_shift_in_range ms) k.shifts in
+    let shift = and_parts (is_within place_limit m.dx) (is_within place_limit m.dy) shifts.0 in
+    let before = and_parts (is_member_before stamp m) (list_all (is_member_before stamp) ms) k.before in
+    let rising = and_parts (is_above last m.id) (rise_above (Some m.id) ms) k.rising in (
       record { is_id = record { is_stamp = stamped-first m ms k.stamped; before = before.0 }; above = rising.0; dx = record { within = shift.0 }; dy = record { within = shift.1 } },
       members-are stamp (Some m.id) ms (record { stamped = stamped-rest m ms k.stamped; shifts = shifts.1; before = before.1; rising = rising.1 }),
     )
@@ -129,9 +128,9 @@ members-keep stamp last (m ∷ ms) s =
 
 four : (a b c d : Bool) → (a && (b && (c && d))) ≡ true → (a ≡ true) × (b ≡ true) × (c ≡ true) × (d ≡ true)
 four a b c d h =
-    let first = both a (b && (c && d)) h in
-    let second = both b (c && d) first.1 in
-    let third = both c d second.1 in
+    let first = and_parts a (b && (c && d)) h in
+    let second = and_parts b (c && d) first.1 in
+    let third = and_parts c d second.1 in
     (first.0, second.0, third.0, third.1)
 
 op-fields : (stamp : Stamp) (op : Op) → IsWellTyped op → KeepsRules stamp op → IsOp stamp op
@@ -140,10 +139,10 @@ op-fields stamp (Create kind x y w h label) typed k =
     record { left = record { within = within.0 }; top = record { within = within.1 }; width = record { within = within.2 }; height = record { within = within.3 }; label = typed }
 op-fields stamp (Delete id) typed k = record { is_stamp = typed; before = k.before }
 op-fields stamp (Move id x y) typed k =
-    let within = both (is_within place_limit x) (is_within place_limit y) k.ranges in
+    let within = and_parts (is_within place_limit x) (is_within place_limit y) k.ranges in
     (record { is_stamp = typed; before = k.before }, record { within = within.0 }, record { within = within.1 })
 op-fields stamp (Resize id w h) typed k =
-    let within = both (is_within size_limit w) (is_within size_limit h) k.ranges in
+    let within = and_parts (is_within size_limit w) (is_within size_limit h) k.ranges in
     (record { is_stamp = typed; before = k.before }, record { within = within.0 }, record { within = within.1 })
 op-fields stamp (Restyle id style) typed k = (record { is_stamp = typed; before = k.before }, record { within = k.ranges })
 op-fields stamp (Retext id label) typed k = (record { is_stamp = typed.0; before = k.before }, typed.1)
@@ -161,7 +160,7 @@ op-typed stamp (Move id x y) s = s.0.is_stamp
 op-typed stamp (Resize id w h) s = s.0.is_stamp
 op-typed stamp (Restyle id style) s = s.0.is_stamp
 op-typed stamp (Retext id label) s = (s.0.is_stamp, s.1)
-op-typed stamp (Group members) s = (leb-true (length members) 32 (both (nat_le 2 (length members)) (nat_le (length members) 32) s.count).1, (members-keep stamp None members s.members).stamped)
+op-typed stamp (Group members) s = (leb-true (length members) 32 (and_parts (nat_le 2 (length members)) (nat_le (length members) 32) s.count).1, (members-keep stamp None members s.members).stamped)
 op-typed stamp (Ungroup id) s = s.is_stamp
 op-typed stamp (Raise id) s = s.is_stamp
 
@@ -174,7 +173,7 @@ op-keeps stamp (Restyle id style) s = record { ranges = s.1.within; members = re
 op-keeps stamp (Retext id label) s = record { ranges = refl; members = refl; before = s.0.before; rising = refl }
 op-keeps stamp (Group members) s =
     let k = members-keep stamp None members s.members in
-    record { ranges = k.shifts; members = (both (nat_le 2 (length members)) (nat_le (length members) 32) s.count).0; before = k.before; rising = k.rising }
+    record { ranges = k.shifts; members = (and_parts (nat_le 2 (length members)) (nat_le (length members) 32) s.count).0; before = k.before; rising = k.rising }
 op-keeps stamp (Ungroup id) s = record { ranges = refl; members = refl; before = s.before; rising = refl }
 op-keeps stamp (Raise id) s = record { ranges = refl; members = refl; before = s.before; rising = refl }
 

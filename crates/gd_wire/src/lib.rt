@@ -15,5 +15,5 @@ pub use buffer::EventBytes;
 pub use bytes::Bytes;
 pub use gd_base::{WireFault, WireWhy};
 pub use header::LogHeader;
-pub use read::{read_event, read_header};
+pub use read::{read_event, read_header, read_label, read_stamp};
 pub use write::write_event;
