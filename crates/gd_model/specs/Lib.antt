@@ -1,5 +1,6 @@
 pub mod Reading
 pub mod EventBytes
+pub mod Spelling
 pub mod LogBytes
 pub mod Objects
 pub mod Forms
