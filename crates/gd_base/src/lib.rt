@@ -1,4 +1,4 @@
-//! What every crate speaks of: stamps, labels, names, shapes, styles, items, short lists, faults of reading, and steps.
+//! What every crate speaks of: stamps, labels, names, notes, shapes, styles, items, short lists, faults of reading, and steps.
 #![tactic(auto)]
 
 mod fault;
@@ -7,6 +7,7 @@ mod item;
 mod label;
 mod member;
 mod name;
+mod note;
 mod place;
 mod ranges;
 mod shape;
@@ -20,6 +21,7 @@ pub use item::{Item, ShapeItem};
 pub use label::{Label, LabelFault};
 pub use member::{Member, Members};
 pub use name::Name;
+pub use note::Note;
 pub use place::Place;
 pub use ranges::{COLOUR_LIMIT, PLACE_LIMIT, SIZE_LIMIT, WIDTH_LIMIT};
 pub use shape::Shape;

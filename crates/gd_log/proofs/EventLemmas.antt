@@ -7,8 +7,8 @@ use Rattle.gd_model.specs.Reading.{Reads, ◌>>=◌}
 use Rattle.gd_model.specs.EventBytes.{event_at}
 use Rattle.gd_model.specs.LogBytes.{Header, LogFault, in_log, header_at, turn_fault, gate, record_at, step_at, events_at, log}
 use Rattle.gd_log.specs.declared.log.ReadError.TheVariants.{Log}
-use Rattle.gd_log.specs.declared.reader.LogFault as reader
-use Rattle.gd_log.specs.declared.reader.LogFault.TheVariants.{Read, Bad}
+use Rattle.gd_log.specs.declared.stopped.LogFault as reader
+use Rattle.gd_log.specs.declared.stopped.LogFault.TheVariants.{Read, Bad}
 use Rattle.gd_log.specs.Steps.{Step, StartIs, NextIs}
 use Rattle.gd_log.specs.Logs.{LogIs}
 use Rattle.gd_log.proofs.RecordLemmas.{event-left, record-taken, record-refused, record-faulty}

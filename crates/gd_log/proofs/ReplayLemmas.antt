@@ -1,5 +1,5 @@
 -- What `replay` ends with, by what it read and what it printed.
-use Rattle.std.proofs.Common.{◌≡◌, ℕ, List, refl, sym, ap, ◌∙◌, arith}
+use Rattle.std.proofs.Common.{◌≡◌, ℕ, List, [], ◌∷◌, refl, sym, ap, ◌∙◌, arith}
 use Rattle.std.specs.Prelude.{Result, Ok, Err, None, ⊤, map}
 use Rattle.gd_events.specs.Events.{Event}
 use Rattle.gd_outside.specs.Seen.{SeenSource, SeenSink, SeenJournal, SeenLink}
@@ -10,15 +10,17 @@ use Rattle.gd_outside.specs.declared.status.Status.TheVariants as status
 use Rattle.gd_model.specs.Effects.{Effect, Print}
 use Rattle.gd_model.specs.Drawing.{Drawing}
 use Rattle.gd_model.specs.Board.{board, listed}
-use Rattle.gd_model.specs.Text.{text}
+use Rattle.gd_model.specs.Text.{text, bad_log_line}
 use Rattle.gd_model.specs.LogBytes.{Header, log}
-use Rattle.gd_model.specs.SlowRun.{replayed, replayed_end}
+use Rattle.gd_model.specs.SlowRun.{replayed_as, replayed, ended_as, replayed_end}
 use Rattle.gd_drawing.proofs.DistinctLemmas.{distinct-log}
 use Rattle.gd_drawing.proofs.InOrder.{stacking}
 use Rattle.gd_effects.specs.Outside.{outside}
 use Rattle.gd_effects.specs.Done.{Does}
 use Rattle.gd_effects.specs.Endings.{status_of}
+use Rattle.gd_base.specs.declared.fault.LogWhy.{LogWhy}
 use Rattle.gd_log.specs.Replays.{IsShowEnd}
+use Rattle.gd_log.specs.Steps.{IsFault}
 
 -- objects that tell nothing, and whose calls never failed
 abbrev untold_source : SeenSource
@@ -50,7 +52,13 @@ memory_of (Err JournalFault) whole ne h = absurd cc
 
 -- what is owed for a log is the text of the board of its events
 pub owes-board : (bytes : List ℕ) (h : Header) (events : List Event) → log bytes ≡ Ok (h, events)
-    → (replayed (log bytes) ≡ map Print (text (listed (board events)))) × (replayed_end (log bytes) ≡ status.Done)
+    → (replayed bytes ≡ map Print (text (listed (board events)))) × (replayed_end bytes ≡ status.Done)
 owes-board bytes h events e =
     let same = stacking events (distinct-log bytes h events e) in
-    (ap replayed e ∙ ap (λ (d : Drawing). map Print (text d)) (sym same), ap replayed_end e)
+    (ap (replayed_as bytes) e ∙ ap (λ (d : Drawing). map Print (text d)) (sym same), ap ended_as e)
+
+-- what is owed for bytes that are no log is the line of their first fault
+pub owes-refusal : (bytes : List ℕ) (at : ℕ) (why : LogWhy) → IsFault (log bytes) bytes at why
+    → (replayed bytes ≡ Print (bad_log_line at why) ∷ []) × (replayed_end bytes ≡ status.BadLog)
+owes-refusal bytes at why fault =
+    (ap (replayed_as bytes) fault.is ∙ ap (λ (p : ℕ). Print (bad_log_line p why) ∷ []) (sym fault.there), ap ended_as fault.is)

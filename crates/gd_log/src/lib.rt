@@ -6,8 +6,10 @@ mod log;
 mod reader;
 mod record;
 mod replaying;
+mod stopped;
 mod turns;
 
 pub use log::{ReadError, read_log};
-pub use reader::{LogFault, LogReader};
+pub use reader::LogReader;
 pub use replaying::replay;
+pub use stopped::{LogFault, Stopped};

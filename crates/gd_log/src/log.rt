@@ -7,7 +7,8 @@ ghost use Rattle.gd_outside.specs.Causes.{Rose};
 ghost use Rattle.gd_log.specs.Logs.{LogIs};
 ghost use Rattle.gd_log.specs.Turns.{most_events};
 
-use crate::reader::{LogFault, LogReader};
+use crate::reader::LogReader;
+use crate::stopped::LogFault;
 use gd_events::EventList;
 use gd_outside::Source;
 use std::alloc::{AllocError, Global};

@@ -5,10 +5,9 @@ ghost use Rattle.gd_outside.specs.Seen.{SeenSource, SeenJournal, SeenLink};
 ghost use Rattle.gd_outside.specs.Told.{told};
 ghost use Rattle.gd_model.specs.Board.{board, listed};
 ghost use Rattle.gd_model.specs.Shown.{items};
-ghost use Rattle.gd_model.specs.Text.{text};
-ghost use Rattle.gd_model.specs.LogBytes.{log};
+ghost use Rattle.gd_model.specs.Text.{text, bad_log_line};
 ghost use Rattle.gd_model.specs.Effects.{Print};
-ghost use Rattle.gd_model.specs.SlowRun.{bad_log_line, replayed, replayed_end};
+ghost use Rattle.gd_model.specs.SlowRun.{replayed, replayed_end};
 ghost use Rattle.gd_canvas.specs.Slots.{board_of};
 ghost use Rattle.gd_effects.specs.Outside.{outside};
 ghost use Rattle.gd_effects.specs.Done.{Does};
@@ -17,19 +16,20 @@ ghost use Rattle.gd_log.specs.Replays.{IsReplayEnd, IsShowEnd};
 ghost use Rattle.gd_log.specs.Turns.{most_events};
 
 use crate::log::{ReadError, read_log};
-use crate::reader::LogFault;
-use gd_base::Steps;
+use crate::stopped::LogFault;
+use gd_base::{LogWhy, Steps};
 use gd_canvas::{Canvas, draw};
 use gd_effects::{print, status_of};
 use gd_events::EventList;
 use gd_outside::{End, Sink, Source, Status};
 use gd_view::{Picture, write_text};
+use gd_words::ReplyText;
 use std::alloc::{AllocError, Global};
 use std::sync::ledger::Ledger;
 
 /// Reads a log to its end, and prints the drawing of its events.
 ///
-/// `Done` after the drawing's text, and `BadLog` after the line `bad log` where the bytes are no log. `ReadFault` where a
+/// `Done` after the drawing's text, and `BadLog` after the line of the first fault where the bytes are no log. `ReadFault` where a
 /// read failed and `NoMemory` where memory ran out, both after nothing, and `WriteFault` where a write failed, with a
 /// front printed. The steps stay as they are.
 pub fn replay<S: Source, K: Sink, L: Ledger>(
@@ -39,7 +39,7 @@ pub fn replay<S: Source, K: Sink, L: Ledger>(
     _steps: &mut Steps<L>,
 ) -> Status
     ensures ends { (journal : SeenJournal) (link : SeenLink) → EndsAs
-        (replayed (log (told (S.seen source.old).left))) (replayed_end (log (told (S.seen source.old).left))) result
+        (replayed (told (S.seen source.old).left)) (replayed_end (told (S.seen source.old).left)) result
         (outside (S.seen source.old) (K.seen output.old) journal link _steps.old)
         (outside (S.seen source.new) (K.seen output.new) journal link _steps.new) }
     ensures kinds { IsReplayEnd result }
@@ -50,7 +50,7 @@ pub fn replay<S: Source, K: Sink, L: Ledger>(
         Ok(events) => show(alloc, events, output),
         Err(ReadError::Memory) => Status::NoMemory,
         Err(ReadError::Log(LogFault::Read)) => Status::ReadFault,
-        Err(ReadError::Log(LogFault::Bad { .. })) => refuse(output),
+        Err(ReadError::Log(LogFault::Bad { at, why })) => refuse(output, at, why),
     }
 }
 
@@ -94,12 +94,14 @@ fn drawing_of(alloc: Global, events: EventList) -> Result<Canvas, AllocError>
     draw(alloc, events.as_slice())
 }
 
-/// Ends the run over bytes that are no log.
-fn refuse<K: Sink>(output: &mut K) -> Status
+/// Ends the run over bytes that are no log, with their first fault.
+fn refuse<K: Sink>(output: &mut K, at: u64, why: LogWhy) -> Status
     ensures ends { (input : SeenSource) (journal : SeenJournal) (link : SeenLink) (steps : ℕ)
-        → EndsAs (Print bad_log_line ∷ []) Status.BadLog result (outside input (K.seen output.old) journal link steps) (outside input (K.seen output.new) journal link steps) }
+        → EndsAs (Print (bad_log_line at why) ∷ []) Status.BadLog result (outside input (K.seen output.old) journal link steps) (outside input (K.seen output.new) journal link steps) }
     ensures kinds { IsShowEnd result }
     ensures end { result ≡ Status.NoMemory → ⊥ }
 {
-    status_of(print(output, b"bad log\n"), Status::BadLog)
+    let mut line = ReplyText::new();
+    line.put_bad_log(at, why);
+    status_of(print(output, line.as_slice()), Status::BadLog)
 }

@@ -1,5 +1,7 @@
 pub mod Reading
 pub mod EventBytes
+pub mod Spelling
+pub mod FrameBytes
 pub mod LogBytes
 pub mod Objects
 pub mod Forms

@@ -5,23 +5,27 @@ use Rattle.gd_outside.specs.declared.status.Status.{Status}
 use Rattle.gd_outside.specs.declared.status.Status.TheVariants as status
 use Rattle.gd_model.specs.LogBytes.{Header, LogFault, log}
 use Rattle.gd_model.specs.Drawing.{picture}
-use Rattle.gd_model.specs.Text.{text}
+use Rattle.gd_model.specs.Reading.{place}
+use Rattle.gd_model.specs.Text.{text, bad_log_line}
 use Rattle.gd_model.specs.Effects.{Effect, Print}
-
-abbrev pub bad_log_line : List ℕ
-bad_log_line = codes "bad log\n"
 
 abbrev pub usage_line : List ℕ
 usage_line = codes "usage: groupdesign COMMAND OPTIONS\n"
 
--- what `replay` does with a log, or with bytes that are none
-abbrev pub replayed : Result (Header × List Event) LogFault → List Effect
-replayed (Ok found) = map Print (text (picture found.1))
-replayed (Err fault) = Print bad_log_line ∷ []
+-- what `replay` does with bytes that were read so, a log or none
+abbrev pub replayed_as : List ℕ → Result (Header × List Event) LogFault → List Effect
+replayed_as bytes (Ok found) = map Print (text (picture found.1))
+replayed_as bytes (Err fault) = Print (bad_log_line (place bytes fault.left) fault.why) ∷ []
 
-abbrev pub replayed_end : Result (Header × List Event) LogFault → Status
-replayed_end (Ok found) = status.Done
-replayed_end (Err fault) = status.BadLog
+abbrev pub replayed : List ℕ → List Effect
+replayed bytes = replayed_as bytes (log bytes)
+
+abbrev pub ended_as : Result (Header × List Event) LogFault → Status
+ended_as (Ok found) = status.Done
+ended_as (Err fault) = status.BadLog
+
+abbrev pub replayed_end : List ℕ → Status
+replayed_end bytes = ended_as (log bytes)
 
 -- which words name the command
 abbrev pub is_replay : List (List ℕ) → Bool
@@ -30,8 +34,8 @@ is_replay other = false
 
 -- what is done with these words, over this input
 unfoldable pub slow_effects : List (List ℕ) → List ℕ → List Effect
-slow_effects words input = if is_replay words then replayed (log input) else Print usage_line ∷ []
+slow_effects words input = if is_replay words then replayed input else Print usage_line ∷ []
 
 -- and how that ends
 unfoldable pub slow_end : List (List ℕ) → List ℕ → Status
-slow_end words input = if is_replay words then replayed_end (log input) else status.Usage
+slow_end words input = if is_replay words then replayed_end input else status.Usage

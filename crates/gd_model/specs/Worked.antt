@@ -180,6 +180,9 @@ effect_before_cause =
 abbrev pub end_alone : List (List ℕ)
 end_alone = codes "end 0\n" ∷ []
 
+abbrev pub cut_text : List (List ℕ)
+cut_text = codes "bad log at 32: Short\n" ∷ []
+
 abbrev pub replay_words : List (List ℕ)
 replay_words = codes "replay" ∷ []
 

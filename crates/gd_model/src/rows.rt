@@ -6,8 +6,8 @@ ghost use Rattle.gd_outside.specs.declared.status.Status.TheVariants as status;
 ghost use Rattle.gd_model.specs.LogBytes.{log};
 ghost use Rattle.gd_model.specs.Drawing.{picture};
 ghost use Rattle.gd_model.specs.Text.{text};
-ghost use Rattle.gd_model.specs.SlowRun.{bad_log_line, slow_effects, slow_end, usage_line};
-ghost use Rattle.gd_model.specs.Worked.{header, header_bytes, empty_log, tie_log, tie_events, tie_text, rank_events, rank_text, effect_before_cause, end_alone, replay_words, other_words, prints_of, moved_log, moved_events, moved_text, styled_log, styled_events, styled_text, no_tag_log, grouped_log, grouped_events, unordered_log, one_member_log, many_members_log, regrouped_events, regrouped_text, nested_events, nested_text, no_magic, no_version, no_field, future_log, future_resize_log, no_colour_log, no_site_log, turn_log, backdated_log, fault_at};
+ghost use Rattle.gd_model.specs.SlowRun.{slow_effects, slow_end, usage_line};
+ghost use Rattle.gd_model.specs.Worked.{header, header_bytes, empty_log, tie_log, tie_events, tie_text, rank_events, rank_text, effect_before_cause, end_alone, replay_words, other_words, prints_of, cut_text, moved_log, moved_events, moved_text, styled_log, styled_events, styled_text, no_tag_log, grouped_log, grouped_events, unordered_log, one_member_log, many_members_log, regrouped_events, regrouped_text, nested_events, nested_text, no_magic, no_version, no_field, future_log, future_resize_log, no_colour_log, no_site_log, turn_log, backdated_log, fault_at};
 
 /// A log without events prints no object, with its closed gate and without.
 pub fn an_empty_log_prints_its_end()
@@ -77,9 +77,9 @@ pub fn a_fault_has_its_place()
     ensures backdated { log backdated_log ≡ fault_at Backdated 29 }
 {}
 
-/// Bytes that are no log are refused with a line.
+/// Bytes that are no log are refused with the place and the reason of the first fault.
 pub fn what_is_no_log_is_refused()
-    ensures printed { slow_effects replay_words (take 32 tie_log) ≡ prints_of (bad_log_line ∷ []) }
+    ensures printed { slow_effects replay_words (take 32 tie_log) ≡ prints_of cut_text }
     ensures end { slow_end replay_words (take 32 tie_log) ≡ status.BadLog }
 {}
 

@@ -3,3 +3,9 @@ pub mod SteadyFields
 mod Plain
 mod MemberLemmas
 mod Whole
+pub mod Exact
+pub mod SoundFields
+pub mod ExactFields
+pub mod ExactEvent
+mod WriteLoop
+mod FromPlace

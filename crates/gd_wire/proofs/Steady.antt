@@ -15,7 +15,7 @@ farther f more = record { why = f.why; left = f.left + length more }
 abbrev pub IsEnd : List ℕ → List ℕ → Type 0
 IsEnd bytes rest = (k : ℕ) × (k ≤ length bytes) × (rest ≡ drop k bytes)
 
-IsEnd-then : (a b c : List ℕ) → IsEnd a b → IsEnd b c → IsEnd a c
+pub IsEnd-then : (a b c : List ℕ) → IsEnd a b → IsEnd b c → IsEnd a c
 IsEnd-then a b c p q =
     let lb : length b ≡ length a - p.0 = rw p.2 (length-drop p.0 a) in
     (p.0 + q.0, omega (arith, p.1, q.1), q.2 ∙ rw p.2 (drop-drop q.0 p.0 a))

@@ -1,5 +1,5 @@
--- What the calls that read a slice answer: the value at its front, or the first fault and its place.
-use Rattle.std.specs.Prelude.{◌≡◌, ℕ, ◌≤◌, List, length, drop, Result, Ok, Err}
+-- What the calls that read a slice answer: the value at its front or at a place, or the first fault and its place.
+use Rattle.std.specs.Prelude.{◌≡◌, ℕ, ◌+◌, ◌≤◌, List, length, drop, Result, Ok, Err}
 use Rattle.gd_base.specs.declared.fault.FieldFault.{FieldFault}
 use Rattle.gd_base.specs.declared.fault.FieldWhy.{FieldWhy}
 use Rattle.gd_base.specs.declared.fault.FieldWhy.TheVariants as field
@@ -30,3 +30,13 @@ ReadIs read bytes (Err fault) = (f : FieldFault) × (read bytes ≡ Err f) × (f
 abbrev pub FrontIs : {A : Type 0} → (List ℕ → Reads A) → List ℕ → Result A WireFault → Type 0
 FrontIs read bytes (Ok x) = (rest : List ℕ) × (read bytes ≡ Ok (x, rest))
 FrontIs read bytes (Err fault) = (f : FieldFault) × (read bytes ≡ Err f) × (fault ≡ wire_fault bytes f)
+
+-- the answer is what reading these bytes from a place on gives, and the place behind it, or the fault of reading them
+abbrev pub ReadIsFrom : {A : Type 0} → (List ℕ → Reads A) → ℕ → List ℕ → Result (A × ℕ) WireFault → Type 0
+ReadIsFrom read at bytes (Ok x) = (read (drop at bytes) ≡ Ok (x.0, drop x.1 bytes)) × (x.1 ≤ length bytes)
+ReadIsFrom read at bytes (Err fault) = (f : FieldFault) × (read (drop at bytes) ≡ Err f) × (fault ≡ wire_fault bytes f)
+
+-- the same for a field of so many bytes, without the place behind it
+abbrev pub FieldIsFrom : {A : Type 0} → (List ℕ → Reads A) → ℕ → ℕ → List ℕ → Result A WireFault → Type 0
+FieldIsFrom read width at bytes (Ok x) = (read (drop at bytes) ≡ Ok (x, drop (at + width) bytes)) × (at + width ≤ length bytes)
+FieldIsFrom read width at bytes (Err fault) = (f : FieldFault) × (read (drop at bytes) ≡ Err f) × (fault ≡ wire_fault bytes f)

@@ -1,14 +1,19 @@
-//! Reads the bytes of events and of the header of a log. No call takes memory.
+//! Reads the bytes of events and of the header of a log, and writes those of events. No call takes memory.
 #![tactic(auto)]
 
+mod buffer;
 mod bytes;
 mod event;
 mod group;
 mod header;
+pub mod laws;
 mod read;
 mod style;
+mod write;
 
+pub use buffer::EventBytes;
 pub use bytes::Bytes;
 pub use gd_base::{WireFault, WireWhy};
 pub use header::LogHeader;
-pub use read::{read_event, read_header};
+pub use read::{read_event, read_header, read_label, read_stamp};
+pub use write::write_event;

@@ -2,6 +2,7 @@
 #![tactic(auto)]
 
 mod colours;
+mod faults;
 mod items;
 mod reply;
 mod reply_text;

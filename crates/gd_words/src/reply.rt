@@ -2,7 +2,7 @@ ghost use Rattle.std.specs.Prelude.{◌≡◌};
 ghost use Rattle.gd_words.specs.Replies.{reply_text};
 
 use crate::reply_text::ReplyText;
-use gd_base::Item;
+use gd_base::{Item, LogWhy};
 
 /// A printed line, before it is text.
 #[derive(Drop)]
@@ -11,6 +11,8 @@ pub enum Reply {
     Item { item: Item },
     /// The end of the drawing, with the number of its items.
     End { count: u64 },
+    /// The first fault of bytes that are no log, with its place, counted from the first byte.
+    BadLog { at: u64, why: LogWhy },
 }
 
 impl Reply {
@@ -22,6 +24,7 @@ impl Reply {
         match self {
             Reply::Item { item } => text.put_item(item),
             Reply::End { count } => text.put_end(*count),
+            Reply::BadLog { at, why } => text.put_bad_log(*at, *why),
         }
         text
     }

@@ -1,10 +1,11 @@
 ghost use Rattle.std.specs.Prelude.{◌≡◌, ◌≤◌, ◌+◌, ◌++◌, [], length, decimal};
 ghost use Rattle.std.specs.Fmt.{signed_decimal};
-ghost use Rattle.gd_model.specs.Text.{id_text, item_line, end_line};
+ghost use Rattle.gd_model.specs.Text.{id_text, item_line, end_line, bad_log_line};
 
+use crate::faults::why_word;
 use crate::items::{push_head, push_look_of};
 use arrayvec::ArrayVec;
-use gd_base::{Item, Stamp};
+use gd_base::{Item, LogWhy, Stamp};
 use itoa::Buffer;
 use std::marker::Model;
 
@@ -58,6 +59,19 @@ impl ReplyText {
         self.clear();
         self.word(b"end ");
         self.number(count);
+        self.word(b"\n");
+    }
+
+    /// Makes it the line of a log's first fault, with its LF.
+    #[tactic(auto, unfolding(gd_model::specs::Text::bad_log_line))]
+    pub fn put_bad_log(&mut self, at: u64, why: LogWhy)
+        ensures { self.new ≡ bad_log_line at why }
+    {
+        self.clear();
+        self.word(b"bad log at ");
+        self.number(at);
+        self.word(b": ");
+        self.word(why_word(why));
         self.word(b"\n");
     }
 

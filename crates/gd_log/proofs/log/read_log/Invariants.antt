@@ -1,5 +1,5 @@
 use Rattle.std.proofs.Common.{◌≡◌, ◌+◌, ◌-◌, ◌≤◌, length, sum}
-use Rattle.std.specs.Prelude.{IsSome}
+use Rattle.std.specs.Prelude.{IsSome, None}
 use Rattle.gd_model.specs.LogBytes.{log}
 use Rattle.gd_outside.specs.Told.{told}
 use Rattle.gd_log.specs.Stream.{stream}
@@ -11,6 +11,7 @@ abbrev pub invariant-records : goal.invariant-records
 invariant-records g l = record {
   was : IsSome (g.S.Source.seen l.source).left → IsSome (g.S.Source.seen l.fn.source).left;
   follows : Follows l.reader.turns l.events;
+  on : l.reader.stopped ≡ None;
   exact : IsSome (g.S.Source.seen l.source).left → log (told (g.S.Source.seen l.fn.source).left) ≡ log_from l.reader.header l.events (stream l.reader.ahead (g.S.Source.seen l.source).left);
   place : IsSome (g.S.Source.seen l.source).left → l.reader.place + length (stream l.reader.ahead (g.S.Source.seen l.source).left) ≡ length (told (g.S.Source.seen l.fn.source).left);
   counted : length l.events ≤ sum l.reader.turns.counts;
