@@ -3,11 +3,10 @@ use Rattle.std.proofs.Common.{◌≡◌, ℕ, true, false, List, [], ◌∷◌, 
 use Rattle.std.specs.Prelude.{None, Some}
 use Rattle.gd_outside.specs.Seen.{SeenJournal, SeenLink}
 use Rattle.gd_outside.specs.declared.status.Status.TheVariants.{Usage}
-use Rattle.gd_model.specs.LogBytes.{log}
 use Rattle.gd_model.specs.Effects.{Print}
 use Rattle.gd_model.specs.SlowRun.{is_replay, replayed, replayed_end, usage_line, slow_effects, slow_end}
 
-pub slow-replay : (words : List (List ℕ)) (input : List ℕ) → is_replay words ≡ true → (slow_effects words input ≡ replayed (log input)) × (slow_end words input ≡ replayed_end (log input))
+pub slow-replay : (words : List (List ℕ)) (input : List ℕ) → is_replay words ≡ true → (slow_effects words input ≡ replayed input) × (slow_end words input ≡ replayed_end input)
 unfolding slow_effects slow_end
 slow-replay words input e = (rw e refl, rw e refl)
 

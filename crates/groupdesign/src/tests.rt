@@ -2,6 +2,7 @@
 
 ghost use Rattle.std.specs.Prelude.{◌≡◌, ◌<◌};
 
+mod changes;
 mod cuts;
 mod deep;
 mod faults;
@@ -29,6 +30,11 @@ const TIE: [u8; 70] = [
 
 const TIE_TEXT: &str =
     "ellipse 1.1 in - at 0 0 size 20 20 stroke 000000 fill none width 1\nrect 1.2 in - at 5 5 size 10 10 stroke 000000 fill none width 1\nend 2\n";
+
+/// The line of a log's first fault.
+fn bad_log(alloc: Global, at: usize, why: &str) -> Result<String, AllocError> {
+    format!(in alloc; "bad log at {at}: {why}\n")
+}
 
 fn words_of(alloc: Global, texts: &[&str]) -> Result<WordList, AllocError> {
     let mut words = WordList::new(alloc);

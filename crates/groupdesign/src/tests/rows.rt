@@ -1,4 +1,4 @@
-use super::{TIE, TIE_TEXT, ran_over};
+use super::{TIE, TIE_TEXT, bad_log, ran_over};
 use gd_outside::Status;
 use std::test::Fail;
 
@@ -79,31 +79,56 @@ fn a_look_is_set(rt: HostRuntime) -> Result<(), Fail> {
 }
 
 // The resize's width and height; what is set of the look; the stroke; the fill; the width; the label's length and its
-// text, in which é loses its second byte; and a fill that is none but for its last byte.
+// text, in which é loses its second byte; and a fill that is none but for its last byte. Behind each byte that is changed
+// and its new value stands the place of the fault, which is the field's first byte.
 #[test]
 fn a_field_out_of_range_is_bad(rt: HostRuntime) -> Result<(), Fail> {
-    for (at, value) in [
-        (58, 0x7F),
-        (62, 1),
-        (84, 0),
-        (84, 4),
-        (85, 1),
-        (108, 1),
-        (131, 1),
-        (134, 0),
-        (134, 65),
-        (153, 65),
-        (154, 0x1F),
-        (158, b'e'),
-        (181, 0xFE),
+    for (at, value, place) in [
+        (58, 0x7F, 58),
+        (62, 1, 62),
+        (84, 0, 84),
+        (84, 4, 84),
+        (85, 1, 85),
+        (108, 1, 108),
+        (131, 1, 131),
+        (134, 0, 131),
+        (134, 65, 131),
+        (153, 65, 153),
+        (154, 0x1F, 154),
+        (158, b'e', 154),
+        (181, 0xFE, 178),
     ] {
         let mut bytes = LOOK;
         if let Some(byte) = bytes.get_mut(at) {
             *byte = value;
         }
         let (status, output) = ran_over(rt.alloc(), &["replay"], &bytes)?;
+        let line = bad_log(rt.alloc(), place, "Field")?;
         assert_eq!(rt; status.number(), 3, "at {at}");
-        assert_eq!(rt; output.bytes(), b"bad log\n".as_slice(), "at {at}");
+        assert_eq!(rt; output.bytes(), line.as_bytes(), "at {at}");
+    }
+    Ok(())
+}
+
+// A third site in a session of two, a number that isn't next, and two events of one site with one clock.
+#[test]
+fn an_event_out_of_turn_is_bad(rt: HostRuntime) -> Result<(), Fail> {
+    let changes: [(&[(usize, u8)], usize, &str); 3] = [
+        (&[(18, 3)], 18, "NoSite"),
+        (&[(20, 2)], 19, "Turn"),
+        (&[(47, 2), (49, 2)], 41, "Backdated"),
+    ];
+    for (changed, place, why) in changes {
+        let mut bytes = TIE;
+        for (at, value) in changed {
+            if let Some(byte) = bytes.get_mut(*at) {
+                *byte = *value;
+            }
+        }
+        let (status, output) = ran_over(rt.alloc(), &["replay"], &bytes)?;
+        let line = bad_log(rt.alloc(), place, why)?;
+        assert_eq!(rt; status, Status::BadLog, "{why}");
+        assert_eq!(rt; output.bytes(), line.as_bytes(), "{why}");
     }
     Ok(())
 }
