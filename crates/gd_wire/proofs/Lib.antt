@@ -7,5 +7,6 @@ pub mod Exact
 pub mod SoundFields
 pub mod ExactFields
 pub mod ExactEvent
+pub mod ExactFrame
 mod WriteLoop
 mod FromPlace

@@ -39,7 +39,7 @@ pub record Steady {A : Type 0} (most : ℕ) (read : List ℕ → Reads A) : Type
   pub inside : (bytes : List ℕ) (f : FieldFault) → read bytes ≡ Err f → f.left ≤ length bytes
 
 -- the value of a step that did not fail
-pub bind_ok : {A B : Type 0} (r : Result A FieldFault) (f : A → Result B FieldFault) (y : B) → (r >>= f) ≡ Ok y → (x : A) × (r ≡ Ok x) × (f x ≡ Ok y)
+pub bind_ok : {A B E : Type 0} (r : Result A E) (f : A → Result B E) (y : B) → (r >>= f) ≡ Ok y → (x : A) × (r ≡ Ok x) × (f x ≡ Ok y)
 bind_ok (Ok x) f y e = (x, refl, e)
 bind_ok (Err d) f y e = absurd cc
 
