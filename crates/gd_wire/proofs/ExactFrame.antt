@@ -290,3 +290,34 @@ frame-taken bytes f are e =
     let x = bind_ok (frame_at bytes) whole f e in
     let took : Took IsFrame frame_bytes bytes (f, []) = exact-frame-at.taken bytes (f, []) are (x.1 ∙ ap result_of (frame-ended x.0 f x.2)) in
     (took.sound, took.text.is ∙ append-nil (frame_bytes f))
+
+-- ---- how many bytes a frame has
+
+focus-length : (focus : Option Stamp) → length (focus_bytes focus) ≡ 7
+focus-length None = refl
+focus-length (Some stamp) = refl
+
+name-length : (name : Option (List ℕ)) → IsNameOrNone name → length (name_bytes name) ≤ 17
+name-length None s = omega arith
+name-length (Some text) s = omega (arith, (name-long text s).few)
+
+events-length : (head : Head) (last : Option Event) (es : List Event) → AreInTurn head last es → length (events_bytes es) ≤ 491 * length es
+unfolding AreInTurn events_bytes
+events-length head last [] s = omega arith
+events-length head last (e ∷ es) s =
+    omega (arith, length-append (spelling e) (events_bytes es), spelling-length e s.0, events-length head (Some e) es s.2)
+
+-- at most 3,976: 21 of the head, 26 of the note, the number of events, and 491 for each of at most 8
+pub frame-length : (f : Frame) → IsFrame f → length (frame_bytes f) ≤ 3976
+frame-length f s =
+    let few = leb-true (length f.events) most_frame_events s.few in
+    omega (
+      arith,
+      few,
+      length-append (head_bytes f.head) (note_bytes f.note ++ length f.events ∷ events_bytes f.events),
+      length-append (note_bytes f.note) (length f.events ∷ events_bytes f.events),
+      length-append (focus_bytes f.note.focus) (name_bytes f.note.name),
+      focus-length f.note.focus,
+      name-length f.note.name s.note.name,
+      events-length f.head None f.events s.turns,
+    )

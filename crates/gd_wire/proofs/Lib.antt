@@ -8,5 +8,6 @@ pub mod SoundFields
 pub mod ExactFields
 pub mod ExactEvent
 pub mod ExactFrame
+pub mod ExactHeader
 mod WriteLoop
 mod FromPlace
