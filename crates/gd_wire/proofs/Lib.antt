@@ -10,4 +10,6 @@ pub mod ExactEvent
 pub mod ExactFrame
 pub mod ExactHeader
 mod WriteLoop
+mod FrameLoop
+mod FrameParts
 mod FromPlace

@@ -4,6 +4,7 @@
 mod buffer;
 mod bytes;
 mod event;
+mod frame;
 mod group;
 mod header;
 pub mod laws;
@@ -13,6 +14,7 @@ mod write;
 
 pub use buffer::EventBytes;
 pub use bytes::Bytes;
+pub use frame::{Frame, FrameEvents, Head, read_frame};
 pub use gd_base::{WireFault, WireWhy};
 pub use header::LogHeader;
 pub use read::{read_event, read_header, read_label, read_stamp};
