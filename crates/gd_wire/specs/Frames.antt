@@ -44,6 +44,10 @@ unfoldable pub are_next : Head → Option Last → List Event → Bool
 are_next head last [] = true
 are_next head last (e ∷ es) = is_next head last e && are_next head (Some (last_of e)) es
 
+-- the head is in its ranges, and the events obey the order rules
+abbrev pub are_in_order : Head → List Event → Bool
+are_in_order head events = is_head head && are_next head None events
+
 unfoldable pub next_at : Head → Option Last → List ℕ → Result (Event × List ℕ) Misread
 next_at head last bytes = in_frame (event_at bytes) >>= λ e. if is_next head last e.0 then Ok e else Err (record { why = Disorder; left = length bytes })
 

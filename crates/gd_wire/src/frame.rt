@@ -1,6 +1,6 @@
 //! Frames: what one member of a session sends to another.
 ghost use Rattle.std.specs.Prelude.{◌≡◌, ◌↔◌, IsSome, IfSome};
-ghost use Rattle.gd_model.specs.FrameBytes.{IsFrame};
+ghost use Rattle.gd_model.specs.FrameBytes.{IsFocus, IsNameOrNone, IsFrame};
 ghost use Rattle.gd_wire.specs.Frames.{head_of};
 
 mod events;
@@ -13,9 +13,9 @@ pub use events::FrameEvents;
 pub use head::Head;
 pub use read::read_frame;
 
-use gd_base::Note;
+use gd_base::{Name, Note, Stamp};
 use gd_events::Event;
-use order::are_next;
+use order::are_in_order;
 use std::marker::Model;
 
 /// A head, what its sender says of itself, and some of its sender's events, which contracts see as a record of the three.
@@ -45,7 +45,9 @@ impl Frame {
         ensures value { IfSome result (λ f. f ≡ record { head = head_of head; note = note; events = events }) }
         ensures rules { IsSome result ↔ IsFrame (record { head = head_of head; note = note; events = events }) }
     {
-        if !head.is_in_range() || !are_next(&head, events.as_slice()) {
+        is_focus(note.focus);
+        is_name(&note.name);
+        if !are_in_order(&head, events.as_slice()) {
             return None;
         }
         Some(Frame { head, note, events })
@@ -82,5 +84,29 @@ impl Frame {
             note,
             events,
         }
+    }
+}
+
+/// What its type says of a focus.
+fn is_focus(focus: Option<Stamp>)
+    ensures { IsFocus focus }
+{
+    match focus {
+        Some(stamp) => {
+            let _ = stamp.clock();
+        }
+        None => {}
+    }
+}
+
+/// What its type says of a name.
+fn is_name(name: &Option<Name>)
+    ensures { IsNameOrNone name.now }
+{
+    match name {
+        Some(name) => {
+            let _ = name.as_str();
+        }
+        None => {}
     }
 }
