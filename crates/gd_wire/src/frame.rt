@@ -8,15 +8,16 @@ mod fields;
 mod head;
 mod order;
 mod read;
+mod write;
 
 pub use events::FrameEvents;
-pub use head::Head;
-pub use read::read_frame;
-
 use gd_base::{Name, Note, Stamp};
 use gd_events::Event;
+pub use head::Head;
 use order::are_in_order;
+pub use read::read_frame;
 use std::marker::Model;
+pub use write::write_frame;
 
 /// A head, what its sender says of itself, and some of its sender's events, which contracts see as a record of the three.
 /// The head is in its ranges, and the events obey the order rules: each is of the sender's site, its number is one above

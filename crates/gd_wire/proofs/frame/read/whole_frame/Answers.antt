@@ -28,17 +28,17 @@ pub returns-in_err-events : goal.returns-in_err-events
 returns-in_err-events c =
     let p = err_from_is_err_and c.from_residual-in_err-events.result c.from_residual-in_err-events.ensures.1 in
     rw (p.1, p.2) (events-faulty c.args.bytes.now (head_of c.in_ok-head.head, c.head.new.self) (c.in_ok-note.note, c.note.new.self) (c.in_ok-count.count, c.event_count.new.self) c.in_err-events.field-0.0
-        (record { head_is = rw c.new-rest.ensures at c.in_ok-head.ensures; note_is = c.in_ok-note.ensures; count_is = c.in_ok-count.ensures.read }) c.in_err-events.ensures)
+    (record { head_is = rw c.new-rest.ensures at c.in_ok-head.ensures; note_is = c.in_ok-note.ensures; count_is = c.in_ok-count.ensures.read }) c.in_err-events.ensures)
 
 pub returns-then-len-gt0 : goal.returns-then-len-gt0
 returns-then-len-gt0 c =
     rw c.len-then-len-gt0.ensures (frame-trailed c.args.bytes.now (head_of c.in_ok-head.head, c.head.new.self) (c.in_ok-note.note, c.note.new.self) (c.in_ok-count.count, c.event_count.new.self) (c.in_ok-events.events, c.frame_events.new.self)
-        (record { head_is = rw c.new-rest.ensures at c.in_ok-head.ensures; note_is = c.in_ok-note.ensures; count_is = c.in_ok-count.ensures.read }) c.in_ok-events.ensures (rw (← c.len.ensures) c.if-len-gt0.true))
+    (record { head_is = rw c.new-rest.ensures at c.in_ok-head.ensures; note_is = c.in_ok-note.ensures; count_is = c.in_ok-count.ensures.read }) c.in_ok-events.ensures (rw (← c.len.ensures) c.if-len-gt0.true))
 
 pub returns : goal.returns
 returns c =
     frame-read c.args.bytes.now (head_of c.in_ok-head.head, c.head.new.self) (c.in_ok-note.note, c.note.new.self) (c.in_ok-count.count, c.event_count.new.self) (c.in_ok-events.events, c.frame_events.new.self)
-        (record { head_is = rw c.new-rest.ensures at c.in_ok-head.ensures; note_is = c.in_ok-note.ensures; count_is = c.in_ok-count.ensures.read }) c.in_ok-events.ensures (rw (← c.len.ensures) c.if-len-gt0.false)
+    (record { head_is = rw c.new-rest.ensures at c.in_ok-head.ensures; note_is = c.in_ok-note.ensures; count_is = c.in_ok-count.ensures.read }) c.in_ok-events.ensures (rw (← c.len.ensures) c.if-len-gt0.false)
 
 pub invariant_of-result : goal.invariant_of-result
 invariant_of-result c = (frame-taken c.args.bytes.now _ (λ i. (c.type_inv.bytes i).fits) (returns c)).0
