@@ -1,10 +1,11 @@
-ghost use Rattle.std.specs.Prelude.{◌≡◌, ◌≤◌, Some, None, MatchResult, pos, nat_abs};
+ghost use Rattle.std.specs.Prelude.{◌≡◌, ◌≤◌, Some, None, MatchResult, pos, nat_abs, []};
 ghost use Rattle.std.specs.List.{list_all};
 ghost use Rattle.gd_base.specs.Ranges.{is_within};
+ghost use Rattle.gd_events.specs.Events.{first_event};
 ghost use Rattle.gd_events.specs.Sound.{event_fault, is_shift_in_range, is_in_range, has_members, is_member_before, names_before, is_above, rise_above, has_rising_members, IsSound};
 
 use crate::op::Op;
-use gd_base::{Member, PLACE_LIMIT, SIZE_LIMIT, Stamp};
+use gd_base::{Label, Member, PLACE_LIMIT, SIZE_LIMIT, Shape, Stamp};
 use std::marker::Model;
 
 /// Why an event isn't sound.
@@ -99,6 +100,35 @@ impl Event {
             number: self.number,
             op,
         }
+    }
+}
+
+impl Default for Event {
+    ghost is_default = { λ e. e ≡ first_event };
+
+    /// The first event of site 1, of clock 1: a rect at 0 0 of size 0 0 without a label.
+    fn default() -> Self {
+        let op = Op::Create {
+            kind: Shape::Rect,
+            x: 0,
+            y: 0,
+            w: 0,
+            h: 0,
+            label: no_label(),
+        };
+        match Event::new(Stamp::default(), 1, op) {
+            Ok(event) => event,
+            Err(_) => unreachable!(),
+        }
+    }
+}
+
+fn no_label() -> Label
+    ensures { result ≡ [] }
+{
+    match Label::new("") {
+        Ok(label) => label,
+        Err(_) => unreachable!(),
     }
 }
 

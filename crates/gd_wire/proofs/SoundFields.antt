@@ -1,7 +1,7 @@
 -- A sound event, said field by field, as reading meets the fields.
-use Rattle.std.proofs.Common.{◌≡◌, ℕ, ℤ, zero, suc, ◌<◌, ◌≤◌, ◌^◌, Bool, true, false, cond, List, [], ◌∷◌, length, get_or, Option, Some, None, refl, sym, ap, ◌∙◌, arith}
+use Rattle.std.proofs.Common.{◌≡◌, ℕ, ℤ, zero, suc, ◌<◌, ◌^◌, Bool, true, false, cond, List, [], ◌∷◌, length, Option, Some, None, refl, arith}
 use Rattle.std.specs.Prelude.{◌&&◌, not, nat_lt, nat_le, ◌==◌, ⊤}
-use Rattle.std.specs.List.{list_all, All}
+use Rattle.std.specs.List.{list_all}
 use Rattle.std.proofs.lemmas.Bool.{leb-true, le-leb, ltb-true, lt-ltb, ne_eqb, and_parts}
 use Rattle.gd_base.specs.Stamps.{Stamp, IsStamp, is_before}
 use Rattle.gd_base.specs.Labels.{IsLabel}
@@ -14,7 +14,7 @@ use Rattle.gd_events.specs.declared.op.Op.TheVariants.{Create, Delete, Move, Res
 use Rattle.gd_events.specs.declared.event.EventFault.{EventFault}
 use Rattle.gd_events.specs.declared.event.EventFault.TheVariants.{Seq, Range, MemberCount, FutureId, MemberOrder}
 use Rattle.gd_events.specs.Events.{Event}
-use Rattle.gd_events.specs.Sound.{is_shift_in_range, is_in_range, has_members, is_member_before, names_before, is_above, rise_above, has_rising_members, event_fault, IsWellTyped, IsSound}
+use Rattle.gd_events.specs.Sound.{is_shift_in_range, is_in_range, has_members, is_member_before, names_before, is_above, rise_above, has_rising_members, IsWellTyped, IsSound}
 use Rattle.gd_wire.specs.Rules.{KeepsRules}
 
 -- ---- the fields

@@ -1,7 +1,8 @@
 ghost use Rattle.std.specs.Prelude.{◌≡◌, ◌≤◌, ◌↔◌, IsSome, IfSome, IfOk};
 ghost use Rattle.gd_model.specs.Reading.{Gives};
-ghost use Rattle.gd_model.specs.LogBytes.{magic, magic_at, version_at, session_at, sites_at, header_at, IsHeader};
+ghost use Rattle.gd_model.specs.LogBytes.{magic, magic_at, version_at, session_at, sites_at, header_at, header_bytes, IsHeader};
 
+use crate::buffer::{EventBytes, HeaderBytes};
 use crate::bytes::Bytes;
 use gd_base::{FieldFault, FieldWhy};
 use std::marker::Model;
@@ -128,4 +129,18 @@ impl<'a> Bytes<'a> {
         }
         Ok(n)
     }
+}
+
+/// Writes the header's bytes in place of those that were there.
+pub fn write_header(header: &LogHeader, out: &mut HeaderBytes)
+    ensures { out.new ≡ header_bytes header.now }
+{
+    let mut bytes = EventBytes::new();
+    bytes.put_word(MAGIC);
+    bytes.put_byte(VERSION);
+    bytes.put_word(header.session);
+    bytes.put_byte(header.site);
+    bytes.put_byte(header.n);
+    out.clear();
+    out.put(bytes.as_slice());
 }

@@ -22,7 +22,7 @@ pub fn write_event(event: &Event, out: &mut EventBytes)
 }
 
 impl EventBytes {
-    fn put_clock(&mut self, clock: u64)
+    pub(crate) fn put_clock(&mut self, clock: u64)
         requires fits { clock < 2 ^ 48 }
         requires room { length self.old + 6 ≤ 491 }
         ensures bytes { self.new ≡ self.old ++ bytes_high_first 6 clock }
@@ -33,7 +33,7 @@ impl EventBytes {
         self.put(&bytes);
     }
 
-    fn put_stamp(&mut self, stamp: Stamp)
+    pub(crate) fn put_stamp(&mut self, stamp: Stamp)
         requires { length self.old + 7 ≤ 491 }
         ensures bytes { self.new ≡ self.old ++ stamp_bytes stamp }
         ensures grown { length self.new ≡ length self.old + 7 }
@@ -42,8 +42,8 @@ impl EventBytes {
         self.put_byte(stamp.site());
     }
 
-    /// The number of an event among those of its site.
-    fn put_number(&mut self, number: u16)
+    /// A number of two bytes.
+    pub(crate) fn put_number(&mut self, number: u16)
         requires { length self.old + 2 ≤ 491 }
         ensures bytes { self.new ≡ self.old ++ bytes_high_first 2 number }
         ensures grown { length self.new ≡ length self.old + 2 }
@@ -54,7 +54,7 @@ impl EventBytes {
     }
 
     /// A number of four bytes.
-    fn put_word(&mut self, word: u32)
+    pub(crate) fn put_word(&mut self, word: u32)
         requires { length self.old + 4 ≤ 491 }
         ensures bytes { self.new ≡ self.old ++ word_bytes word }
         ensures grown { length self.new ≡ length self.old + 4 }
@@ -92,7 +92,16 @@ impl EventBytes {
         requires { length self.old + 65 ≤ 491 }
         ensures { self.new ≡ self.old ++ label_bytes label.now }
     {
-        let text = label.as_str().as_bytes();
+        self.put_text(label.as_str());
+    }
+
+    /// A text, behind its length.
+    pub(crate) fn put_text(&mut self, text: &str)
+        requires few { length text.now < 256 }
+        requires room { length self.old + 1 + length text.now ≤ 491 }
+        ensures { self.new ≡ self.old ++ label_bytes text.now }
+    {
+        let text = text.as_bytes();
         self.put_byte(text.len() as u8);
         self.put(text);
     }
