@@ -10,6 +10,8 @@ mod header;
 pub mod laws;
 mod read;
 mod style;
+#[cfg(test)]
+mod tests;
 mod write;
 
 pub use buffer::{EventBytes, FrameBytes, HeaderBytes};
