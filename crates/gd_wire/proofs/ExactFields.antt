@@ -40,7 +40,7 @@ exact_byte = record {
   taken = λ bytes x are e. record { sound = tt; text = record { is = byte-taken bytes x e } };
 }
 
-clock-back : (six : List ℕ) → length six ≡ 6 → AreBytes six → (from_be_bytes w64 (0 ∷ 0 ∷ six) < 2 ^ 48) × (bytes_high_first 6 (from_be_bytes w64 (0 ∷ 0 ∷ six)) ≡ six)
+pub clock-back : (six : List ℕ) → length six ≡ 6 → AreBytes six → (from_be_bytes w64 (0 ∷ 0 ∷ six) < 2 ^ 48) × (bytes_high_first 6 (from_be_bytes w64 (0 ∷ 0 ∷ six)) ≡ six)
 clock-back six long are = (
   omega (arith, are 0, are 1, are 2, are 3, are 4, are 5),
   ap (λ (bs : List ℕ). drop 2 bs) (be_bytes_8 (0 ∷ 0 ∷ six) _ (omega arith) (small are) refl),
@@ -51,7 +51,7 @@ clock-back six long are = (
     small are (suc zero) = omega arith
     small are (suc (suc i)) = are i
 
-clock-there : (c : ℕ) → c < 2 ^ 48 → from_be_bytes w64 (0 ∷ 0 ∷ bytes_high_first 6 c) ≡ c
+pub clock-there : (c : ℕ) → c < 2 ^ 48 → from_be_bytes w64 (0 ∷ 0 ∷ bytes_high_first 6 c) ≡ c
 clock-there c h =
     let seven : nth_byte 7 c ≡ 0 = omega arith in
     let eight : nth_byte 6 c ≡ 0 = omega arith in
@@ -70,7 +70,7 @@ exact_clock = exact_field (exact_bytes 6) (λ six. from_be_bytes w64 (0 ∷ 0 �
 abbrev is_site : ℕ → Bool
 is_site site = nat_le 1 site && nat_le site 16
 
-exact_site : Exact site_at (λ s. is_site s ≡ true) (λ s. s ∷ [])
+pub exact_site : Exact site_at (λ s. is_site s ≡ true) (λ s. s ∷ [])
 unfolding site_at
 exact_site = exact_field exact_byte (λ b. b) (λ b. b) is_site Field (λ s. is_site s ≡ true) (λ s h. (tt, refl, h)) (λ b u are t. (t, refl))
 
@@ -80,7 +80,7 @@ exact_number = exact_field (exact_bytes 2) (λ two. from_be_bytes w16 two) (λ n
     (λ n s. (refl, from_be_bytes-to_be_bytes_2 n s.below, s.above))
     (λ two long are t. (record { above = t; below = omega (arith, are 0, are 1) }, be_bytes_2 two _ long are refl))
 
-exact_word : Exact word_at (λ n. n < 2 ^ 32) word_bytes
+pub exact_word : Exact word_at (λ n. n < 2 ^ 32) word_bytes
 unfolding word_at
 exact_word = record {
   written = λ n rest s. rw ((exact_bytes 4).written (word_bytes n) rest refl, from_be_bytes-to_be_bytes_4 n s) refl;
@@ -113,10 +113,10 @@ exact_size = exact_signed size_limit (omega arith)
 
 -- ---- stamps
 
-site-bounds : (s : ℕ) → is_site s ≡ true → (1 ≤ s) × (s ≤ 16)
+pub site-bounds : (s : ℕ) → is_site s ≡ true → (1 ≤ s) × (s ≤ 16)
 site-bounds s h = let b = and_parts _ _ h in (leb-true _ _ b.0, leb-true _ _ b.1)
 
-site-is : (s : ℕ) → 1 ≤ s → s ≤ 16 → is_site s ≡ true
+pub site-is : (s : ℕ) → 1 ≤ s → s ≤ 16 → is_site s ≡ true
 site-is s h k = rw (le-leb 1 s h, le-leb s 16 k) refl
 
 pub exact_stamp : Exact stamp_at IsStamp stamp_bytes
