@@ -3,4 +3,5 @@ pub mod Causes
 pub mod Seen
 pub mod Statuses
 pub mod Fails
+pub mod Journals
 pub mod Memory
