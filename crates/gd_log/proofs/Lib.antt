@@ -4,3 +4,4 @@ pub mod StepLemmas
 pub mod TurnLemmas
 pub mod EventLemmas
 pub mod ReplayLemmas
+pub mod WrittenLemmas

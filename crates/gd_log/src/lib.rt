@@ -2,6 +2,7 @@
 #![tactic(auto)]
 
 mod ahead;
+pub mod laws;
 mod log;
 mod reader;
 mod record;
