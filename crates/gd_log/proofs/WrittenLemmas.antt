@@ -73,7 +73,7 @@ log-broken h events e why rest is session next sound broken =
     ∙ from-err h events (gate ∷ (spelling e ++ rest)) (record { why = why; left = left_of why (length (spelling e ++ rest)) }) (step-refused h.n events e why rest sound broken)
 
 -- the bytes of a log, from the gate of one of its events on
-logged-at : (h : Header) (events more : List Event) (e : Event) → logged h (events ++ e ∷ more) ≡ header_bytes h ++ gated_bytes events ++ gate ∷ (spelling e ++ (gated_bytes more ++ 0 ∷ []))
+pub logged-at : (h : Header) (events more : List Event) (e : Event) → logged h (events ++ e ∷ more) ≡ header_bytes h ++ gated_bytes events ++ gate ∷ (spelling e ++ (gated_bytes more ++ 0 ∷ []))
 unfolding gated_bytes
 logged-at h events more e =
     ap (λ (l : List ℕ). header_bytes h ++ l) (
