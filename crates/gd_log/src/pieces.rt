@@ -16,29 +16,28 @@ const VERSION: u8 = 1;
 const CLOSED: u8 = 0;
 
 /// The bytes of a header, and a closed gate.
-pub fn header_piece(header: &LogHeader) -> ArrayVec<u8, 12>
+pub fn head_of(header: &LogHeader) -> ArrayVec<u8, 12>
     ensures { result.items ≡ header_bytes header.now ++ 0 ∷ [] }
 {
-    let mut piece = ArrayVec::new();
-    piece.try_extend_from_slice(&MAGIC.to_be_bytes()).unwrap();
-    piece.push(VERSION);
-    piece
-        .try_extend_from_slice(&header.session().to_be_bytes())
+    let mut head = ArrayVec::new();
+    head.try_extend_from_slice(&MAGIC.to_be_bytes()).unwrap();
+    head.push(VERSION);
+    head.try_extend_from_slice(&header.session().to_be_bytes())
         .unwrap();
-    piece.push(header.site());
-    piece.push(header.n());
-    piece.push(CLOSED);
-    piece
+    head.push(header.site());
+    head.push(header.n());
+    head.push(CLOSED);
+    head
 }
 
 /// The bytes of an event, and a closed gate.
-pub fn event_piece(event: &Event) -> ArrayVec<u8, 492>
+pub fn record_of(event: &Event) -> ArrayVec<u8, 492>
     ensures { result.items ≡ spelling event.now ++ 0 ∷ [] }
 {
     let mut bytes = EventBytes::new();
     write_event(event, &mut bytes);
-    let mut piece = ArrayVec::new();
-    piece.try_extend_from_slice(bytes.as_slice()).unwrap();
-    piece.push(CLOSED);
-    piece
+    let mut record = ArrayVec::new();
+    record.try_extend_from_slice(bytes.as_slice()).unwrap();
+    record.push(CLOSED);
+    record
 }

@@ -11,7 +11,7 @@ ghost use Rattle.gd_outside.specs.Told.{told, Stays};
 ghost use Rattle.gd_effects.specs.Done.{IsWithOrWithout};
 ghost use Rattle.gd_log.specs.Written.{IsLogAt, IsLogOf};
 
-use crate::pieces::{event_piece, header_piece};
+use crate::pieces::{head_of, record_of};
 use crate::record::GATE;
 use gd_events::Event;
 use gd_outside::{Failed, Journal};
@@ -53,9 +53,9 @@ impl LogWriter {
         ensures count { (J.seen journal.old).faults ≤ (J.seen journal.new).faults }
         ensures cause { IsErr result → Rose (J.seen journal.old).faults (J.seen journal.new).faults }
     {
-        let piece = header_piece(header);
+        let head = head_of(header);
         journal.create(name)?;
-        put(journal, 0, piece.as_slice())?;
+        put(journal, 0, head.as_slice())?;
         Ok(LogWriter { place: FIRST_GATE })
     }
 
@@ -73,6 +73,7 @@ impl LogWriter {
             → told (J.seen journal.old).contents ≡ logged h events → told (J.seen journal.new).contents ≡ logged h (events ++ event.now ∷ [])) }
         ensures log { OnOk result (IsSome (J.seen journal.new).contents → IsLogAt self.new (told (J.seen journal.new).contents)) }
         ensures place { OnOk result (self.new ≡ self.old + 1 + length (spelling event.now)) }
+        ensures few { OnOk result (self.new ≤ self.old + 492) }
         ensures torn { OnErr result (IsSome (J.seen journal.new).contents → (h : Header) (events : List EventValue) → IsLogOf h events (told (J.seen journal.old).contents)
             → IsWithOrWithout (told (J.seen journal.old).contents) (Record (spelling event.now)) (told (J.seen journal.new).contents)) }
         ensures err { OnErr result (self.new ≡ self.old) }
@@ -80,10 +81,10 @@ impl LogWriter {
         ensures count { (J.seen journal.old).faults ≤ (J.seen journal.new).faults }
         ensures cause { IsErr result → Rose (J.seen journal.old).faults (J.seen journal.new).faults }
     {
-        let piece = event_piece(event);
-        put(journal, self.place + 1, piece.as_slice())?;
+        let record = record_of(event);
+        put(journal, self.place + 1, record.as_slice())?;
         put(journal, self.place, &[GATE])?;
-        self.place += piece.len() as u64;
+        self.place += record.len() as u64;
         Ok(())
     }
 
