@@ -4,3 +4,5 @@ pub mod StepLemmas
 pub mod TurnLemmas
 pub mod EventLemmas
 pub mod ReplayLemmas
+pub mod WrittenLemmas
+pub mod WriterLemmas

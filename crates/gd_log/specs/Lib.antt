@@ -4,3 +4,4 @@ pub mod Reader
 pub mod Steps
 pub mod Logs
 pub mod Replays
+pub mod Written

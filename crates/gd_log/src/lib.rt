@@ -1,15 +1,19 @@
-//! Reading a log, and the drawing of its events.
+//! Reading and writing a log, and the drawing of its events.
 #![tactic(auto)]
 
 mod ahead;
+pub mod laws;
 mod log;
+mod pieces;
 mod reader;
 mod record;
 mod replaying;
 mod stopped;
 mod turns;
+mod writer;
 
 pub use log::{ReadError, read_log};
 pub use reader::LogReader;
 pub use replaying::replay;
 pub use stopped::{LogFault, Stopped};
+pub use writer::LogWriter;

@@ -17,7 +17,7 @@ use gd_outside::{Failed, Source};
 use gd_wire::Bytes;
 
 /// Stands in front of each record.
-const GATE: u8 = 0xC3;
+pub const GATE: u8 = 0xC3;
 
 /// The most bytes that a gate and an event take.
 pub const RECORD: usize = 492;
