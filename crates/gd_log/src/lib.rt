@@ -9,6 +9,8 @@ mod reader;
 mod record;
 mod replaying;
 mod stopped;
+#[cfg(test)]
+mod tests;
 mod turns;
 mod writer;
 
