@@ -57,6 +57,7 @@ clock-there c h =
     let eight : nth_byte 6 c ≡ 0 = omega arith in
     ap₂ (λ (a b : ℕ). from_be_bytes w64 (a ∷ b ∷ bytes_high_first 6 c)) (sym seven) (sym eight) ∙ from_be_bytes-to_be_bytes_8 c (omega arith)
 
+-- a clock of a stamp
 record IsClock (c : ℕ) : Type 0 where
   above : nat_lt 0 c ≡ true
   below : c < 2 ^ 48
@@ -194,6 +195,7 @@ exact_label_within most = record {
       record { sound = record { fits = rw text.sound.0 (ltb-false _ _ fits.0); plain = text.sound.1 }; text = spelt (joined len.text text.text) (ap (λ n. n ∷ z.0) (sym text.sound.0)) });
 }
 
+-- the label of an event has at most 64 bytes
 pub label_is : (bytes : List ℕ) → label_at bytes ≡ label_within most_label bytes
 unfolding label_at label_within
 label_is bytes = refl
@@ -229,10 +231,12 @@ exact_width = exact_field exact_word (λ n. n) (λ n. n) is_width Field (λ n. i
     (λ n s. (width-below n s, refl, s))
     (λ n below are t. (t, refl))
 
+-- the bytes of a fill, behind its part of the look
 abbrev fill_bytes : Option ℕ → List ℕ
 fill_bytes None = word_bytes 0xFFFFFFFF
 fill_bytes (Some colour) = word_bytes colour
 
+-- a fill in its range
 record IsFill (fill : Option ℕ) : Type 0 where
   within : is_style (Fill fill) ≡ true
 

@@ -39,17 +39,21 @@ pub record IsMember (stamp : Stamp) (last : Option Stamp) (member : Member) : Ty
   pub dx : IsWithin place_limit member.dx
   pub dy : IsWithin place_limit member.dy
 
+-- members of rising ids behind a last one, if there is one
 unfoldable pub AreMembers : Stamp → Option Stamp → List Member → Type 0
 AreMembers stamp last [] = ⊤
 AreMembers stamp last (m ∷ ms) = IsMember stamp last m × AreMembers stamp (Some m.id) ms
 
+-- how many members a group has
 abbrev pub is_member_count : ℕ → Bool
 is_member_count count = nat_le 2 count && nat_le count 32
 
+-- the members of a new group
 pub record IsGroup (stamp : Stamp) (ms : List Member) : Type 0 where
   pub count : is_member_count (length ms) ≡ true
   pub members : AreMembers stamp None ms
 
+-- the fields of a new shape
 pub record IsCreate (x y w h : ℤ) (text : List ℕ) : Type 0 where
   pub left : IsWithin place_limit x
   pub top : IsWithin place_limit y
@@ -57,6 +61,7 @@ pub record IsCreate (x y w h : ℤ) (text : List ℕ) : Type 0 where
   pub height : IsWithin size_limit h
   pub label : IsLabel text
 
+-- the fields of an operation of the event with that stamp
 abbrev pub IsOp : Stamp → Op → Type 0
 IsOp stamp (Create kind x y w h label) = IsCreate x y w h label
 IsOp stamp (Delete id) = IsId stamp id
@@ -68,10 +73,12 @@ IsOp stamp (Group members) = IsGroup stamp members
 IsOp stamp (Ungroup id) = IsId stamp id
 IsOp stamp (Raise id) = IsId stamp id
 
+-- a number from 1 to 65,535
 pub record IsNumber (number : ℕ) : Type 0 where
   pub above : nat_lt 0 number ≡ true
   pub below : number < 2 ^ 16
 
+-- an event whose fields are sound
 pub record HasSoundFields (event : Event) : Type 0 where
   pub stamp : IsStamp event.stamp
   pub number : IsNumber event.number
@@ -184,6 +191,7 @@ abbrev first_fault : Bool → Bool → Bool → Bool → Bool → Option EventFa
 first_fault none inside many earlier rising =
     cond none (Some Seq) (cond (not inside) (Some Range) (cond (not many) (Some MemberCount) (cond (not earlier) (Some FutureId) (cond (not rising) (Some MemberOrder) None))))
 
+-- none of them is broken
 record AllHold (none inside many earlier rising : Bool) : Type 0 where
   seq : none ≡ false
   range : inside ≡ true
