@@ -1,3 +1,3 @@
 pub mod SlotLemmas
 pub mod AtLemmas
-pub mod GroupLemmas
+pub mod NewObjectLemmas

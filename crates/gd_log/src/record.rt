@@ -57,7 +57,7 @@ fn log_why(why: FieldWhy) -> LogWhy
         FieldWhy::Version => LogWhy::Version,
         FieldWhy::Field => LogWhy::Field,
         FieldWhy::FutureId => LogWhy::FutureId,
-        FieldWhy::MemberOrder => LogWhy::NotBuilt,
+        FieldWhy::MemberOrder => LogWhy::MemberOrder,
     }
 }
 

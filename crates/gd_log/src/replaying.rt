@@ -1,34 +1,37 @@
 //! The picture of a log.
 
-ghost use Rattle.std.specs.Prelude.{◌≡◌, ℕ, map, Err, ◌⊎◌};
+ghost use Rattle.std.specs.Prelude.{◌≡◌, ◌≤◌, ℕ, [], ◌∷◌, length, map, IfOk, Err, ◌⊎◌};
 ghost use Rattle.gd_outside.specs.Seen.{SeenSource, SeenJournal, SeenLink};
 ghost use Rattle.gd_outside.specs.Told.{told};
-ghost use Rattle.gd_model.specs.Drawing.{picture};
+ghost use Rattle.gd_model.specs.Board.{board, listed};
+ghost use Rattle.gd_model.specs.Shown.{items};
 ghost use Rattle.gd_model.specs.Text.{text};
 ghost use Rattle.gd_model.specs.LogBytes.{log};
 ghost use Rattle.gd_model.specs.Effects.{Print};
-ghost use Rattle.gd_model.specs.SlowRun.{refused, refused_end, replayed, replayed_end};
+ghost use Rattle.gd_model.specs.SlowRun.{bad_log_line, replayed, replayed_end};
+ghost use Rattle.gd_canvas.specs.Slots.{board_of};
 ghost use Rattle.gd_effects.specs.Outside.{outside};
 ghost use Rattle.gd_effects.specs.Done.{Does};
 ghost use Rattle.gd_effects.specs.Endings.{EndsAs};
 ghost use Rattle.gd_log.specs.Replays.{IsReplayEnd, IsShowEnd};
+ghost use Rattle.gd_log.specs.Turns.{most_events};
 
 use crate::log::{ReadError, read_log};
 use crate::reader::LogFault;
-use gd_base::{LogWhy, Steps};
-use gd_canvas::{draw, write_text};
+use gd_base::Steps;
+use gd_canvas::{Canvas, draw};
 use gd_effects::{print, status_of};
 use gd_events::EventList;
 use gd_outside::{End, Sink, Source, Status};
-use std::alloc::Global;
+use gd_view::{Picture, write_text};
+use std::alloc::{AllocError, Global};
 use std::sync::ledger::Ledger;
 
 /// Reads a log to its end, and prints the drawing of its events.
 ///
-/// `Done` after the drawing's text; `BadLog` after the line `bad log` where the bytes are no log, and `NotBuilt` after
-/// nothing where the first fault is a record of an operation that isn't built yet. `ReadFault` where a read failed and
-/// `NoMemory` where memory ran out, both after nothing, and `WriteFault` where a write failed, with a front printed. The
-/// steps stay as they are.
+/// `Done` after the drawing's text, and `BadLog` after the line `bad log` where the bytes are no log. `ReadFault` where a
+/// read failed and `NoMemory` where memory ran out, both after nothing, and `WriteFault` where a write failed, with a
+/// front printed. The steps stay as they are.
 pub fn replay<S: Source, K: Sink, L: Ledger>(
     alloc: Global,
     source: &mut S,
@@ -47,14 +50,15 @@ pub fn replay<S: Source, K: Sink, L: Ledger>(
         Ok(events) => show(alloc, events, output),
         Err(ReadError::Memory) => Status::NoMemory,
         Err(ReadError::Log(LogFault::Read)) => Status::ReadFault,
-        Err(ReadError::Log(LogFault::Bad { why, .. })) => refuse(why, output),
+        Err(ReadError::Log(LogFault::Bad { .. })) => refuse(output),
     }
 }
 
 /// Prints the drawing of the events.
 fn show<K: Sink>(alloc: Global, events: EventList, output: &mut K) -> Status
+    requires { length events ≤ most_events }
     ensures ends { (input : SeenSource) (journal : SeenJournal) (link : SeenLink) (steps : ℕ)
-        → EndsAs (map Print (text (picture events))) Status.Done result (outside input (K.seen output.old) journal link steps) (outside input (K.seen output.new) journal link steps) }
+        → EndsAs (map Print (text (listed (board events)))) Status.Done result (outside input (K.seen output.old) journal link steps) (outside input (K.seen output.new) journal link steps) }
     ensures kinds { IsShowEnd result }
     ensures silent { result ≡ Status.NoMemory → K.seen output.new ≡ K.seen output.old }
 {
@@ -63,25 +67,39 @@ fn show<K: Sink>(alloc: Global, events: EventList, output: &mut K) -> Status
 
 /// Prints the drawing of the events. Want of memory comes before anything is printed.
 fn write_picture<K: Sink>(alloc: Global, events: EventList, output: &mut K) -> Result<(), End>
+    requires { length events ≤ most_events }
     ensures does { (input : SeenSource) (journal : SeenJournal) (link : SeenLink) (steps : ℕ)
-        → Does result (outside input (K.seen output.old) journal link steps) (map Print (text (picture events))) (outside input (K.seen output.new) journal link steps) }
+        → Does result (outside input (K.seen output.old) journal link steps) (map Print (text (listed (board events)))) (outside input (K.seen output.new) journal link steps) }
     ensures silent { result ≡ Err End.NoMemory → K.seen output.new ≡ K.seen output.old }
+{
+    let picture = picture_of(alloc, events)?;
+    write_text(&picture, output)
+}
+
+/// What is shown of the drawing of the events, which are let go.
+fn picture_of(alloc: Global, events: EventList) -> Result<Picture, AllocError>
+    requires { length events ≤ most_events }
+    ensures { IfOk result (λ p. p ≡ items (listed (board events))) }
+{
+    let canvas = drawing_of(alloc, events)?;
+    Picture::of(alloc, &canvas)
+}
+
+/// The drawing of the events, which are let go.
+fn drawing_of(alloc: Global, events: EventList) -> Result<Canvas, AllocError>
+    ensures { IfOk result (λ canvas. board_of canvas ≡ board events) }
 {
     let mut events = events;
     events.sort_by_stamp()?;
-    let canvas = draw(alloc, events.as_slice())?;
-    write_text(&canvas, output)
+    draw(alloc, events.as_slice())
 }
 
 /// Ends the run over bytes that are no log.
-fn refuse<K: Sink>(why: LogWhy, output: &mut K) -> Status
+fn refuse<K: Sink>(output: &mut K) -> Status
     ensures ends { (input : SeenSource) (journal : SeenJournal) (link : SeenLink) (steps : ℕ)
-        → EndsAs (refused why) (refused_end why) result (outside input (K.seen output.old) journal link steps) (outside input (K.seen output.new) journal link steps) }
+        → EndsAs (Print bad_log_line ∷ []) Status.BadLog result (outside input (K.seen output.old) journal link steps) (outside input (K.seen output.new) journal link steps) }
     ensures kinds { IsShowEnd result }
     ensures end { result ≡ Status.NoMemory → ⊥ }
 {
-    match why {
-        LogWhy::NotBuilt => Status::NotBuilt,
-        _ => status_of(print(output, b"bad log\n"), Status::BadLog),
-    }
+    status_of(print(output, b"bad log\n"), Status::BadLog)
 }

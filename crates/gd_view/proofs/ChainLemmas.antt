@@ -17,9 +17,11 @@ use Rattle.gd_view.specs.declared.places.Above.{Above}
 use Rattle.gd_view.specs.Seen.{told}
 use Rattle.gd_view.specs.Chains.{first_parent, joined, after_link, group_in, Within}
 
+-- the group of a link to a greater id
 pub group_found : (b : Board) (below : Stamp) (l : Link) (x : Option Object) → is_before below l.parent ≡ true → x ≡ map_of.get b l.parent → option_map body x ≡ group_in (listed b) below l
 group_found b below l x is e = ap (option_map body) e ∙ sym (find-listed b l.parent) ∙ ap (λ t. cond t (map_of.find stamp_cmp l.parent (listed b)) None) (sym is)
 
+-- a link to an id that is not greater leads nowhere
 pub group_absent : (b : Board) (below : Stamp) (l : Link) → is_before below l.parent ≡ false → None ≡ group_in (listed b) below l
 group_absent b below l is = ap (λ t. cond t (map_of.find stamp_cmp l.parent (listed b)) None) (sym is)
 
@@ -27,6 +29,7 @@ group_absent b below l is = ap (λ t. cond t (map_of.find stamp_cmp l.parent (li
 pub record Followed (n : ℕ) (d : Drawing) (id : Stamp) (start : Option Link) (left : ℕ) (sum : Above) (below : Stamp) (next : Option Link) : Type 0 where
   pub whole : joined sum (above_in left d below next) ≡ above_in n d id start
 
+-- an empty sum adds nothing
 started : (x : Option view.Above) → joined (record { parent = None; dx = pos 0; dy = pos 0 }) x ≡ x
 started None = refl
 started (Some a) =
@@ -34,14 +37,17 @@ started (Some a) =
     let ys : pos 0 +ℤ a.dy ≡ a.dy = omega (arith, ints) in
     λ i. Some record { parent = a.parent; dx = xs i; dy = ys i }
 
+-- before the first link
 pub start : (n : ℕ) (d : Drawing) (id : Stamp) (link : Option Link) (left : ℕ) → left ≡ n → Followed n d id link left (record { parent = None; dx = pos 0; dy = pos 0 }) id link
 start n d id link left e = record { whole = started (above_in left d id link) ∙ ap (λ m. above_in m d id link) e }
 
+-- the first parent along two parts of a chain
 parents : (p : Option Stamp) (b : Bool) (l : Stamp) (q : Option Stamp) → first_parent p (cond b q (Some l)) ≡ first_parent (first_parent p (cond b None (Some l))) q
 parents None true l q = refl
 parents None false l q = refl
 parents (Some r) b l q = refl
 
+-- a link in front of the rest is one behind the sum
 one_more : (s : Above) (l : Link) (g : Body) (x : Option view.Above) → joined s (option_map (above_by l g) x) ≡ joined (after_link s l g) x
 one_more s l g None = refl
 one_more s l g (Some a) =
@@ -49,13 +55,16 @@ one_more s l g (Some a) =
     let ys : s.dy +ℤ ((l.dy +ℤ g.y) +ℤ a.dy) ≡ (s.dy +ℤ (l.dy +ℤ g.y)) +ℤ a.dy = omega (arith, ints) in
     λ i. Some record { parent = parents s.parent g.dissolved l.parent a.parent i; dx = xs i; dy = ys i }
 
+-- no group, nothing above
 by_group : (m : ℕ) (d : Drawing) (below : Stamp) (l : Link) (t : Bool) (x : Option Body) → cond t (through l x (λ g. above_in m d l.parent g.link)) None ≡ through l (cond t x None) (λ g. above_in m d l.parent g.link)
 by_group m d below l true x = refl
 by_group m d below l false x = refl
 
+-- one link of the definition
 above_step : (m : ℕ) (d : Drawing) (below : Stamp) (l : Link) → above_in (suc m) d below (Some l) ≡ through l (group_in d below l) (λ g. above_in m d l.parent g.link)
 above_step m d below l = by_group m d below l (is_before below l.parent) (map_of.find stamp_cmp l.parent d)
 
+-- one link is followed
 pub step : {n : ℕ} {d : Drawing} {id : Stamp} {start : Option Link} {left : ℕ} {sum : Above} {below : Stamp} (next : Option Link) → Followed n d id start left sum below next
     → (l : Link) (o : Object) (m : ℕ) (s : Above) → next ≡ Some l → option_map body (Some o) ≡ group_in d below l → left ≡ suc m → s ≡ after_link sum l (body o) → Followed n d id start m s l.parent o.link
 step {d = d} {sum = sum} {below = below} next f l o m s e g h is =
@@ -69,6 +78,7 @@ step {d = d} {sum = sum} {below = below} next f l o m s e g h is =
           ∙ f.whole;
     }
 
+-- a link leads nowhere
 pub lost : {n : ℕ} {d : Drawing} {id : Stamp} {start : Option Link} {left : ℕ} {sum : Above} {below : Stamp} (next : Option Link) → Followed n d id start left sum below next
     → (l : Link) (m : ℕ) → next ≡ Some l → None ≡ group_in d below l → left ≡ suc m → None ≡ above_in n d id start
 lost {d = d} {sum = sum} {below = below} next f l m e g h =
@@ -77,20 +87,24 @@ lost {d = d} {sum = sum} {below = below} next f l m e g h =
     ∙ (λ i. joined sum (above_in (sym h i) d below (sym e i)))
     ∙ f.whole
 
+-- no parent behind the first one
 first_none : (p : Option Stamp) → p ≡ first_parent p None
 first_none None = refl
 first_none (Some r) = refl
 
+-- nothing stands above the end of a chain
 ended : (s : Above) → Some (told s) ≡ joined s (Some nothing_above)
 ended s =
     let xs : s.dx ≡ s.dx +ℤ pos 0 = omega (arith, ints) in
     let ys : s.dy ≡ s.dy +ℤ pos 0 = omega (arith, ints) in
     λ i. Some record { parent = first_none s.parent i; dx = xs i; dy = ys i }
 
+-- the chain ends
 pub finish : {n : ℕ} {d : Drawing} {id : Stamp} {start : Option Link} {left : ℕ} {sum : Above} {below : Stamp} (next : Option Link) → Followed n d id start left sum below next
     → next ≡ None → Some (told sum) ≡ above_in n d id start
 finish {d = d} {left = left} {sum = sum} {below = below} next f e = ended sum ∙ ap (λ x. joined sum (above_in left d below x)) (sym e) ∙ f.whole
 
+-- no link is followed beyond the bound
 at_bound : (s : Above) (d : Drawing) (below : Stamp) (l : Link) → None ≡ joined s (above_in zero d below (Some l))
 at_bound s d below l = refl
 
@@ -100,6 +114,7 @@ pub cut : {n : ℕ} {d : Drawing} {id : Stamp} {start : Option Link} {left : ℕ
 cut None f e h = cc
 cut {d = d} {sum = sum} {below = below} (Some l) f e h = at_bound sum d below l ∙ ap (λ m. joined sum (above_in m d below (Some l))) (sym h) ∙ f.whole
 
+-- a sum of few links is one of at most all
 pub wider : (n : ℕ) (s : Above) → n ≤ 1048560 → Within n s → Within 1048560 s
 wider n s h w =
     let left = w.left in

@@ -29,10 +29,12 @@ use Rattle.gd_view.specs.Levels.{pair, pairs, by_level, level_of, with_level, en
 
 -- ---- what the gathered levels answer
 
+-- an id without a slot has no object
 pub apart_none : (id : Stamp) (es : Slots) → AllByRecursion (λ y. is_same id y ≡ false) (ids es) → map_of.get (board_of es) id ≡ None
 apart_none id [] h = get-none id
 apart_none id (e ∷ es) h = get-step e es id ∙ ap (λ t. cond t e.1 (map_of.get (board_of es) id)) h.0 ∙ apart_none id es h.1
 
+-- one slot more, as a level finds it
 found_step : (r k id : Stamp) (o x : Option Object) (rest : Option Body) → rest ≡ at_rank r x → (is_same k id ≡ true → x ≡ None) → (es : List ((Stamp × Stamp) × Body)) → map_of.find level_cmp (r, k) es ≡ rest
     → map_of.find level_cmp (r, k) (entry_of id o es) ≡ at_rank r (cond (is_same k id) o x)
 found_step r k id None x rest is apart es h = h ∙ is ∙ gone (is_same k id) apart
@@ -51,6 +53,7 @@ found_step r k id (Some o) x rest is apart es h =
     both false true e h = ap (at_rank r) (h refl) ∙ sym (ap (λ t. cond t (Some (body o)) None) e)
     both false false e h = refl
 
+-- a level finds the object of its id and rank
 find-slots : (es : Slots) → IsDistinct is_same (ids es) → (r k : Stamp) → map_of.find level_cmp (r, k) (slot_levels es) ≡ at_rank r (map_of.get (board_of es) k)
 unfolding slot_levels IsDistinct
 find-slots [] d r k = sym (ap (at_rank r) (get-none k))
@@ -67,9 +70,11 @@ stack-slots es d =
 
 -- ---- the keys, put in one by one
 
+-- the levels of a list of objects
 abbrev pub level_keys : List ((Stamp × Stamp) × Body) → List (Stamp × Stamp)
 level_keys es = map_of.keys (map_of.from_entries {R = level_cmp} es)
 
+-- a level that is put in among the levels is put in among the keys
 put_keys : (l : Level) (b : Body) (ls : List Level) (es : List ((Stamp × Stamp) × Body)) → pairs ls ≡ map (λ e. e.0) es → pairs (insert_key by_level ls l) ≡ map (λ e. e.0) (put level_cmp (pair l) b es)
 put_keys l b [] [] h = refl
 put_keys l b [] (e ∷ es) h = cc
@@ -90,6 +95,7 @@ put_keys l b (k ∷ ls) (e ∷ es) h =
     by Equal f r m is = ap (λ o. pairs (match_ordering o (l ∷ k ∷ ls) (k ∷ ls) (k ∷ insert_key by_level ls l))) is ∙ (λ i. f i ∷ r i)
     by Greater f r m is = ap (λ o. pairs (match_ordering o (l ∷ k ∷ ls) (k ∷ ls) (k ∷ insert_key by_level ls l))) is ∙ (λ i. f i ∷ m i)
 
+-- one slot more
 with_one : (e : Stamp × Option Object) (es : List ((Stamp × Stamp) × Body)) (ls : List Level) → pairs ls ≡ level_keys es → pairs (with_level (level_of (object_of (Some e))) ls) ≡ level_keys (entry_of e.0 e.1 es)
 with_one (id, None) es ls h = h
 with_one (id, Some o) es ls h =
@@ -104,27 +110,33 @@ gathered [] k ls more below h is = absurd (omega arith)
 gathered (e ∷ es) zero ls more below h is = ap pairs is ∙ with_one e (slot_levels es) ls h
 gathered (e ∷ es) (suc k) ls more below h is = gathered es k ls more (omega arith) h is
 
+-- no slot, no level
 no_keys : level_keys [] ≡ []
 no_keys = ap (map (λ e. e.0)) (no_length (map_of.entries (map_of.empty {X = Body} {R = level_cmp})) (sym (map_of.len-entries (map_of.empty {X = Body} {R = level_cmp})) ∙ map_of.len-empty level_cmp Body))
 
+-- behind the last slot there is none
 pub gathered_none : (es : Slots) (n : ℕ) (ls : List Level) → n ≡ length es → ls ≡ [] → pairs ls ≡ level_keys (slot_levels (drop n es))
 unfolding slot_levels
 gathered_none es n ls e is = ap pairs is ∙ sym no_keys ∙ sym (ap (λ l. level_keys (slot_levels l)) (ap (λ m. drop m es) e ∙ drop-length es))
 
+-- once all slots are gathered, they are the stack
 pub gathered_all : (es : Slots) (ls : List Level) → IsDistinct is_same (ids es) → pairs ls ≡ level_keys (slot_levels es) → pairs ls ≡ map_of.keys (stack (board_of es))
 gathered_all es ls d h = h ∙ ap map_of.keys (stack-slots es d)
 
 -- ---- the items, by level
 
+-- less is not equal
 apart_from : (r : Ordering) → T (is_lt r) → is_eq r ≡ false
 apart_from Less h = refl
 apart_from Equal h = absurd h
 apart_from Greater h = absurd h
 
+-- a level before all of a list is not in it
 not_below : (q : board_words.Level) (es : List (board_words.Level × Body)) → T (below_all level_cmp q es) → map_of.find level_cmp q es ≡ None
 not_below q [] h = refl
 not_below q (e ∷ es) h = ap (λ t. cond t (Some e.1) (map_of.find level_cmp q es)) (apart_from (level_cmp q e.0) (t_first _ _ h)) ∙ not_below q es (t_second _ _ h)
 
+-- the test tells levels apart
 same_level : (p q : board_words.Level) → eq_by_cmp level_cmp p q ≡ true → p ≡ q
 same_level p q e = level_cmp-IsAntisymmetric p q (equal (level_cmp p q) e)
   where
@@ -133,6 +145,7 @@ same_level p q e = level_cmp-IsAntisymmetric p q (equal (level_cmp p q) e)
     equal Equal e = refl
     equal Greater e = cc
 
+-- a level is itself
 at_itself : (q : board_words.Level) → eq_by_cmp level_cmp q q ≡ true
 at_itself q = level_test q.0 q.1 q.0 q.1 ∙ (λ i. is_same-refl q.0 i && is_same-refl q.1 i)
 
@@ -145,6 +158,7 @@ found_later q v e es h f =
       | false ↦ λ is. f
     ] refl
 
+-- the items of a sorted list of levels
 items_in : (b : Board) (d : Drawing) (es : List (board_words.Level × Body)) → T (map_of.is_sorted level_cmp es)
     → ((q : board_words.Level) (v : Body) → map_of.find level_cmp q es ≡ Some v → option_map body (map_of.get b q.1) ≡ Some v)
     → filter_map (shown d) (without_ranks es) ≡ filter_map (λ q. item_of d q.1 (option_map body (map_of.get b q.1))) (map (λ e. e.0) es)
@@ -154,6 +168,7 @@ items_in b d (e ∷ es) h f =
     let rest = items_in b d es (t_second _ _ h) (λ q v g. f q v (found_later q v e es (t_first _ _ h) g)) in
     ap (λ y. cons_option (item_of d e.0.1 y) (filter_map (shown d) (without_ranks es))) (sym here) ∙ ap (cons_option (item_of d e.0.1 (option_map body (map_of.get b e.0.1)))) rest
 
+-- what a level finds is the object of its id
 ranked_body : (r : Stamp) (v : Body) (x : Option Object) → at_rank r x ≡ Some v → option_map body x ≡ Some v
 ranked_body r v None h = cc
 ranked_body r v (Some o) h =
@@ -168,13 +183,16 @@ shown_by_levels b =
     sym (items_in b (listed b) (map_of.entries (stack b)) (map_of.entries_sorted (stack b))
     (λ q v f. ranked_body q.0 v (map_of.get b q.1) (sym (get-stack b q.0 q.1) ∙ map_of.get-entries (stack b) q ∙ f)))
 
+-- an item in front, where there is one
 option_first : (x : Option Item) (xs : List Item) → cons_option x xs ≡ option_to_list x ++ xs
 option_first None xs = refl
 option_first (Some i) xs = refl
 
+-- before the first level
 pub listed_first : (b : Board) (ls : List Level) (items : List Item) → pairs ls ≡ map_of.keys (stack b) → items ≡ [] → items ++ filter_map (item_at_level b) (pairs ls) ≡ shown_items (listed b)
 listed_first b ls items h none = (λ i. none i ++ filter_map (item_at_level b) (h i)) ∙ shown_by_levels b
 
+-- one level
 pub listed_next : (b : Board) (ls rest : List Level) (l : Level) (items more : List Item) (x : Option Item) → items ++ filter_map (item_at_level b) (pairs ls) ≡ shown_items (listed b)
     → ls ≡ l ∷ rest → x ≡ item_of (listed b) l.id (option_map body (map_of.get b l.id)) → more ≡ items ++ option_to_list x
     → more ++ filter_map (item_at_level b) (pairs rest) ≡ shown_items (listed b)
@@ -185,5 +203,6 @@ listed_next b ls rest l items more x h e is pushed =
     ∙ ap (λ ks. items ++ filter_map (item_at_level b) (pairs ks)) (sym e)
     ∙ h
 
+-- after the last level
 pub listed_last : (b : Board) (ls : List Level) (items : List Item) → items ++ filter_map (item_at_level b) (pairs ls) ≡ shown_items (listed b) → ls ≡ [] → items ≡ shown_items (listed b)
 listed_last b ls items h e = sym (append-nil items) ∙ ap (λ ks. items ++ filter_map (item_at_level b) (pairs ks)) (sym e) ∙ h

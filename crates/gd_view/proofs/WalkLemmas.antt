@@ -11,7 +11,7 @@ use Rattle.gd_base.specs.contracts.stamp.StampPartialEq.TheImpl.{eq-value}
 use Rattle.indexmap.specs.IndexMap as index_map
 use Rattle.gd_base.specs.Stamps.{Stamp}
 use Rattle.gd_base.specs.declared.item.Item.{Item}
-use Rattle.gd_model.specs.Shown.{is_parent, is_top, under, in_printed_order, climbs}
+use Rattle.gd_model.specs.Shown.{is_parent, under, in_printed_order, climbs}
 use Rattle.gd_drawing.proofs.PrintedOrder.{under-step}
 use Rattle.gd_view.specs.Walk.{same_parent, first_from, nexts_from, first_in}
 use Rattle.gd_view.specs.declared.firsts.Firsts.{Firsts}
@@ -20,6 +20,7 @@ use Rattle.gd_view.specs.declared.firsts.Firsts.{Firsts}
 abbrev pub followed : List Item → Item → List Item
 followed all i = i ∷ under (length all) all i.id
 
+-- the item has that parent
 abbrev pub chosen : Option Stamp → Item → Bool
 chosen p i = same_parent p i.parent
 
@@ -32,6 +33,7 @@ branch_in all (i ∷ es) = followed all i ++ flat_map (followed all) (filter (ch
 unfoldable pub branch : List Item → ℕ → List Item
 branch all k = branch_in all (drop k all)
 
+-- the same from a place, where there is one
 unfoldable pub branch_of : List Item → Option ℕ → List Item
 branch_of all None = []
 branch_of all (Some k) = branch all k
@@ -41,18 +43,22 @@ unfoldable pub pending : List Item → List ℕ → List Item
 pending all [] = []
 pending all (k ∷ ks) = pending all ks ++ branch all k
 
+-- a parent that is none is that of the top
 same_none : (q : Option Stamp) → is_none q ≡ true → None ≡ q
 same_none None e = refl
 same_none (Some s) e = cc
 
+-- a parent of that id is that group
 same_some : (p : Stamp) (q : Option Stamp) → is_parent p q ≡ true → Some p ≡ q
 same_some p None e = cc
 same_some p (Some q) e = ap Some (is_same-true p q e)
 
+-- the test tells parents apart
 pub same_parent-true : (p q : Option Stamp) → same_parent p q ≡ true → p ≡ q
 same_parent-true None q e = same_none q e
 same_parent-true (Some p) q e = same_some p q e
 
+-- behind the first of the items left
 drop_more : {X : Type 0} (k : ℕ) (x : X) (xs all : List X) → drop k all ≡ x ∷ xs → drop (suc k) all ≡ xs
 drop_more zero x xs [] e = cc
 drop_more zero x xs (y ∷ all) e = ap (drop 1) e
@@ -71,10 +77,12 @@ found all p (i ∷ es) k e =
       | false ↦ λ is. found all p es (suc k) (drop_more k i es all e)
     ] refl
 
+-- no place puts nothing on the stack
 opened_none : (all : List Item) (ks : List ℕ) → pending all (ks ++ []) ≡ pending all ks
 unfolding branch_of
 opened_none all ks = ap (pending all) (append-nil ks)
 
+-- one place on the stack
 pub opened_some : (all : List Item) (ks : List ℕ) (k : ℕ) → pending all (ks ++ k ∷ []) ≡ branch all k ++ pending all ks
 unfolding pending
 opened_some all [] k = sym (append-nil (branch all k))
@@ -88,10 +96,12 @@ opened all ks (Some k) = opened_some all ks k
 
 -- ---- links
 
+-- the items from the place n on are linked, the last one first
 pub record Linked (items : List Item) (n : ℕ) (f : Firsts) (links : List (Option ℕ)) : Type 0 where
   pub first : (q : Option Stamp) → first_in f q ≡ first_from n q (drop n items)
   pub next : links ≡ reverse (nexts_from n (drop n items))
 
+-- before the last item nothing is linked
 pub linked_none : (items : List Item) (n : ℕ) (f : Firsts) (links : List (Option ℕ)) → n ≡ length items → ((q : Option Stamp) → first_in f q ≡ None) → links ≡ [] → Linked items n f links
 unfolding first_from nexts_from
 linked_none items n f links e h is =
@@ -101,6 +111,7 @@ linked_none items n f links e h is =
       next = is ∙ ap (λ es. reverse (nexts_from n es)) (sym none);
     }
 
+-- one item more is linked, in front of those behind it
 pub linked_more : {items : List Item} {n : ℕ} {f : Firsts} {next : List (Option ℕ)} → Linked items n f next
     → (k : ℕ) (d : Item) (g : Firsts) (later : Option ℕ) (p : Option Stamp) (more : List (Option ℕ))
     → n ≡ suc k → k < length items → p ≡ (get_or items k d).parent
@@ -123,16 +134,19 @@ linked_more {items = items} {n = n} {f = f} {next = next} l k d g later p more i
       next = pushed ∙ (λ j. nexts j ++ last j ∷ []) ∙ sym (reverse-append (first_from (suc k) i.parent (drop (suc k) items) ∷ []) (nexts_from (suc k) (drop (suc k) items))) ∙ ap (λ es. reverse (nexts_from k es)) (sym here);
     }
 
+-- once all items are linked, the next places are reversed
 pub linked_all : {items : List Item} {f : Firsts} {next back : List (Option ℕ)} → Linked items 0 f next → back ≡ reverse next → back ≡ nexts_from 0 items
 linked_all {items = items} l e = e ∙ ap reverse l.next ∙ reverse-reverse (nexts_from 0 items)
 
 -- ---- the walk
 
+-- there is a next place, or none, for each item
 pub length-nexts : (k : ℕ) (es : List Item) → length (nexts_from k es) ≡ length es
 unfolding nexts_from
 length-nexts k [] = refl
 length-nexts k (i ∷ es) = ap suc (length-nexts (suc k) es)
 
+-- the next place of an item, in a list that begins at the place j
 next_in : (j k : ℕ) (es : List Item) (d : Item) (e : Option ℕ) → k < length es → get_or (nexts_from j es) k e ≡ first_from (suc (k + j)) (get_or es k d).parent (drop (suc k) es)
 unfolding nexts_from
 next_in j k [] d e h = absurd (omega arith)
@@ -141,6 +155,7 @@ next_in j (suc k) (i ∷ es) d e h =
     let same : suc (k + suc j) ≡ suc (suc k + j) = omega arith in
     next_in (suc j) k es d e (omega arith) ∙ ap (λ m. first_from m (get_or es k d).parent (drop (suc k) es)) same
 
+-- the next place of an item
 pub next_at : (k : ℕ) (es : List Item) (d : Item) (e : Option ℕ) → k < length es → get_or (nexts_from 0 es) k e ≡ first_from (suc k) (get_or es k d).parent (drop (suc k) es)
 next_at k es d e h = let same : suc (k + 0) ≡ suc k = omega arith in next_in 0 k es d e h ∙ ap (λ m. first_from m (get_or es k d).parent (drop (suc k) es)) same
 
@@ -157,9 +172,11 @@ branch_step all c k d h =
 
 -- ---- the map of the first items
 
+-- the map of the first items compares ids as `is_same` does
 pub same_test : eq-value.it ≡ is_same
 same_test = λ i s t. is_same-eq s t i
 
+-- the first item of a group is put
 pub put_in_group : (f g : Firsts) (s : Stamp) (k : ℕ) (p : Option Stamp) → g.top ≡ f.top → p ≡ Some s
     → ((q : Stamp) → index_map.get eq-value.it g.groups q ≡ cond (eq-value.it s q) (Some k) (index_map.get eq-value.it f.groups q))
     → (q : Option Stamp) → first_in g q ≡ cond (same_parent q p) (Some k) (first_in f q)
@@ -173,18 +190,22 @@ put_in_group f g s k p top is h (Some q) =
 
 -- ---- the loop of the walk
 
+-- all places are below n
 abbrev pub within : ℕ → List ℕ → Type 0
 within n [] = Unit {0}
 within n (k ∷ ks) = (k < n) × within n ks
 
+-- so they stay when one is put last
 within-opened : (n : ℕ) (ks : List ℕ) (o : Option ℕ) → within n ks → within n (option_to_list o) → within n (ks ++ option_to_list o)
 within-opened n [] o h more = more
 within-opened n (k ∷ ks) o h more = (h.0, within-opened n ks o h.1 more)
 
+-- the last place and those before it
 within-last : (n : ℕ) (ks : List ℕ) (k : ℕ) → within n (ks ++ k ∷ []) → within n ks × (k < n)
 within-last n [] k h = (tt, h.0)
 within-last n (x ∷ ks) k h = let rest = within-last n ks k h.1 in ((h.0, rest.0), rest.1)
 
+-- the first item of a group is an item
 first-within : (n k : ℕ) (p : Option Stamp) (es : List Item) → k + length es ≤ n → within n (option_to_list (first_from k p es))
 unfolding first_from
 first-within n k p [] h = tt
@@ -194,15 +215,14 @@ first-within n k p (i ∷ es) h =
       | false ↦ first-within n (suc k) p es (omega arith)
     ]
 
+-- what is printed and what is left to print make the whole
 pub record Walking (all : List Item) (f : Firsts) (links : List (Option ℕ)) (out : List Item) (stack : List ℕ) : Type 0 where
   pub first : (q : Option Stamp) → first_in f q ≡ first_from 0 q all
   pub next : links ≡ nexts_from 0 all
   pub whole : out ++ pending all stack ≡ in_printed_order all
   pub inside : within (length all) stack
 
-top_only : (all es : List Item) → filter (chosen None) es ≡ filter is_top es
-top_only all es = refl
-
+-- the walk begins at the first top item
 pub walk_starts : (all : List Item) (f : Firsts) (links : List (Option ℕ)) (top : Option ℕ) (empty stack : List ℕ) (out : List Item)
     → ((q : Option Stamp) → first_in f q ≡ first_from 0 q all) → links ≡ nexts_from 0 all → top ≡ first_in f None → empty ≡ [] → stack ≡ empty ++ option_to_list top → out ≡ [] → Walking all f links out stack
 unfolding pending
@@ -224,6 +244,7 @@ walk_inside {all = all} {links = links} w rest k e =
     let same : length links ≡ length all = ap length w.next ∙ length-nexts 0 all in
     (here, omega arith)
 
+-- one item is printed, and less is left
 pub walk_goes_on : {all : List Item} {f : Firsts} {links : List (Option ℕ)} {out : List Item} {stack : List ℕ} → Walking all f links out stack
     → climbs all ≡ true
     → (rest : List ℕ) (k : ℕ) (d i : Item) (x later own : Option ℕ) (one two : List ℕ) (printed : List Item)
@@ -259,10 +280,12 @@ walk_goes_on {all = all} {f = f} {links = links} {out = out} {stack = stack} w c
       omega (arith, fewer),
     )
 
+-- nothing is left on an empty stack
 pub walk_ends : {all : List Item} {f : Firsts} {links : List (Option ℕ)} {out : List Item} {stack : List ℕ} → Walking all f links out stack → stack ≡ [] → out ≡ in_printed_order all
 unfolding pending
 walk_ends {all = all} {out = out} w e = sym (append-nil out) ∙ ap (λ ks. out ++ pending all ks) (sym e) ∙ w.whole
 
+-- a list of no length is empty
 pub no_length : {X : Type 0} (xs : List X) → length xs ≡ 0 → xs ≡ []
 no_length [] e = refl
 no_length (x ∷ xs) e = absurd (omega arith)

@@ -9,6 +9,7 @@ use Rattle.gd_model.specs.Drawing.{Drawing}
 use Rattle.gd_model.specs.Shown as view
 use Rattle.gd_view.specs.declared.places.Above.{Above}
 
+-- the parent of the part of a chain that comes first, or else of the rest
 abbrev pub first_parent : Option Stamp → Option Stamp → Option Stamp
 first_parent None q = q
 first_parent (Some p) q = Some p
@@ -17,6 +18,7 @@ first_parent (Some p) q = Some p
 abbrev pub joined_by : Above → view.Above → view.Above
 joined_by s a = record { parent = first_parent s.parent a.parent; dx = s.dx +ℤ a.dx; dy = s.dy +ℤ a.dy }
 
+-- the same, where the rest is known
 abbrev pub joined : Above → Option view.Above → Option view.Above
 joined s x = option_map (joined_by s) x
 
@@ -33,7 +35,7 @@ after_link s l g =
 abbrev pub group_in : Drawing → Stamp → Link → Option Body
 group_in d below l = if is_before below l.parent then map_of.find stamp_cmp l.parent d else None
 
--- the sum of at most n links
+-- the sum of at most n links: a shift and a place are each within 2^31, so a link adds 2^32 at most
 pub record Within (n : ℕ) (s : Above) : Type 0 where
   pub left : neg_ℤ (pos (4294967296 * n)) ≤ℤ s.dx
   pub right : s.dx ≤ℤ pos (4294967296 * n)

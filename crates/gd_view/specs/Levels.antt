@@ -17,9 +17,11 @@ use Rattle.gd_view.specs.declared.levels.Level.{Level}
 abbrev pub pair : Level → Stamp × Stamp
 pair l = (l.rank, l.id)
 
+-- the rank and the id of each
 abbrev pub pairs : List Level → List (Stamp × Stamp)
 pairs ls = map pair ls
 
+-- levels are ordered as in the stack
 abbrev pub by_level : Level → Level → Ordering
 by_level k l = level_cmp (pair k) (pair l)
 
@@ -28,10 +30,12 @@ abbrev pub level_of : Option (Stamp × Object) → Option Level
 level_of None = None
 level_of (Some e) = Some record { rank = e.1.rank; id = e.0 }
 
+-- one level more, where there is one
 abbrev pub with_level : Option Level → List Level → List Level
 with_level None ls = ls
 with_level (Some l) ls = insert_key by_level ls l
 
+-- one object more, with its level, where the slot has one
 abbrev pub entry_of : Stamp → Option Object → List ((Stamp × Stamp) × Body) → List ((Stamp × Stamp) × Body)
 entry_of id None es = es
 entry_of id (Some o) es = ((o.rank, id), body o) ∷ es
@@ -41,6 +45,7 @@ unfoldable pub slot_levels : Slots → List ((Stamp × Stamp) × Body)
 slot_levels [] = []
 slot_levels (e ∷ es) = entry_of e.0 e.1 (slot_levels es)
 
+-- the item of an object of that id, where it is there and shown
 abbrev pub item_of : Drawing → Stamp → Option Body → Option Item
 item_of d id None = None
 item_of d id (Some b) = shown d (id, b)

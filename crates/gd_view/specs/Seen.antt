@@ -14,6 +14,7 @@ use Rattle.gd_view.specs.declared.places.Shown.{Shown}
 abbrev pub told : Above → view.Above
 told a = record { parent = a.parent; dx = a.dx; dy = a.dy }
 
+-- an object with what stands above it
 abbrev pub shown_at : Body → view.Above → Shown
 shown_at b a =
     record {
@@ -23,17 +24,20 @@ shown_at b a =
       kind = b.kind;
     }
 
+-- an object of that id as it is shown, or none where it is hidden or a dissolved group
 abbrev pub seen_as : Drawing → Stamp → Body → Option Shown
 seen_as d id b = if is_gone b then None else option_map (shown_at b) (above d id b.link)
 
+-- the same, where it is there
 abbrev pub seen_of : Drawing → Stamp → Option Body → Option Shown
 seen_of d id None = None
 seen_of d id (Some b) = seen_as d id b
 
--- the object of that id as it is shown, or none where it isn't
+-- the object of that id as it is shown, or none where it isn't shown
 abbrev pub seen : Drawing → Stamp → Option Shown
 seen d id = seen_of d id (map_of.find stamp_cmp id d)
 
+-- it is shown, and in no group
 abbrev pub has_no_parent : Option Shown → Bool
 has_no_parent None = false
 has_no_parent (Some s) = is_none s.parent

@@ -20,17 +20,20 @@ use Rattle.gd_view.specs.Chains.{Within}
 abbrev pub known : Known → Stamp → Option Above
 known k q = option_flatten (index_map.get is_same k.sums q)
 
+-- what stands above an object of that id, where it is there and not hidden
 abbrev pub above_of : Drawing → Stamp → Option Body → Option view.Above
 above_of d q None = None
 above_of d q (Some g) = above d q g.link
 
--- what stands above the object of that id, where it is there and not hidden
+-- what stands above the object of that id in the drawing, where it is there and not hidden
 abbrev pub above_at : Drawing → Stamp → Option view.Above
 above_at d q = above_of d q (map_of.find stamp_cmp q d)
 
+-- the id is among these
 abbrev pub is_member : Stamp → List Stamp → Bool
 is_member q ks = list_any (is_same q) ks
 
+-- one id more in its order, where there is one
 abbrev pub with_id : Option Stamp → List Stamp → List Stamp
 with_id None ks = ks
 with_id (Some id) ks = insert_key stamp_cmp ks id

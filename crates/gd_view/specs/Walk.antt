@@ -7,6 +7,7 @@ use Rattle.gd_base.specs.declared.item.Item.{Item}
 use Rattle.gd_model.specs.Shown.{is_parent}
 use Rattle.gd_view.specs.declared.firsts.Firsts.{Firsts}
 
+-- two items with these parents are in one group, or both at the top
 abbrev pub same_parent : Option Stamp → Option Stamp → Bool
 same_parent None q = is_none q
 same_parent (Some p) q = is_parent p q

@@ -1,6 +1,6 @@
 //! The table of what stands above the objects.
 
-ghost use Rattle.std.specs.Prelude.{◌≡◌, None, OnOk, if◌then◌else◌};
+ghost use Rattle.std.specs.Prelude.{◌≡◌, None, IfOk, OnOk, if◌then◌else◌};
 ghost use Rattle.gd_base.specs.Stamps as stamps;
 ghost use Rattle.gd_base.specs.Stamps.{is_same};
 ghost use Rattle.gd_view.specs.Sums.{known};
@@ -17,12 +17,13 @@ pub(crate) struct Known {
 }
 
 impl Known {
-    pub(crate) fn new(alloc: Global) -> Known
-        ensures { (q : stamps.Stamp) → known result q ≡ None }
+    /// An empty table with room for n objects.
+    pub(crate) fn with_room(alloc: Global, n: usize) -> Result<Known, AllocError>
+        ensures { IfOk result (λ table. (q : stamps.Stamp) → known table q ≡ None) }
     {
-        Known {
-            sums: IndexMap::new(alloc),
-        }
+        Ok(Known {
+            sums: IndexMap::with_capacity(alloc, n)?,
+        })
     }
 
     pub(crate) fn get(&self, id: Stamp) -> Option<Above>

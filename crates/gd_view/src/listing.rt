@@ -28,7 +28,7 @@ pub(crate) fn shown_items(alloc: Global, canvas: &Canvas) -> Result<Vec<Item>, A
 {
     let table = sums(alloc, canvas)?;
     let mut levels = levels(alloc, canvas)?;
-    let mut items = Vec::new(alloc);
+    let mut items = Vec::with_capacity(alloc, levels.len())?;
     while let Some(level) = levels.pop_first() {
         put_last(&mut items, item_of(canvas, &table, level.id))?;
     }

@@ -28,7 +28,7 @@ pub(crate) fn sums(alloc: Global, canvas: &Canvas) -> Result<Known, AllocError>
     ensures { IfOk result (λ table. AreKnown (listed (board_of canvas.now)) table) }
 {
     let mut ids = ids(alloc, canvas)?;
-    let mut table = Known::new(alloc);
+    let mut table = Known::with_room(alloc, ids.len())?;
     let mut turn: u32 = 0;
     while let Some(id) = ids.pop_last() {
         let sum = sum_at(canvas, &table, id, turn);

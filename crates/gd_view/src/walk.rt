@@ -22,7 +22,7 @@ fn link_up(alloc: Global, items: &[Item]) -> Result<Links, AllocError>
     ensures next { IfOk result (λ l. l.next.items ≡ nexts_from 0 items.now) }
 {
     let mut firsts = Firsts::new(alloc);
-    let mut next = Vec::new(alloc);
+    let mut next = Vec::with_capacity(alloc, items.len())?;
     for place in (0..items.len()).rev() {
         let later = firsts.put(items[place].parent, place)?;
         next.push(later)?;
@@ -47,7 +47,7 @@ pub(crate) fn in_printed_order(alloc: Global, items: &[Item]) -> Result<Vec<Item
     ensures { IfOk result (λ printed. printed.items ≡ in_printed_order items.now) }
 {
     let links = link_up(alloc, items)?;
-    let mut printed = Vec::new(alloc);
+    let mut printed = Vec::with_capacity(alloc, items.len())?;
     let mut stack = Vec::new(alloc);
     open(&mut stack, links.firsts.get(None))?;
     while let Some(place) = stack.pop() {

@@ -1,4 +1,4 @@
-use Rattle.std.proofs.Common.{[], ◌∷◌, sym, ◌∙◌, arith}
+use Rattle.std.proofs.Common.{[], ◌∷◌, ◌∙◌, arith}
 use Rattle.std.proofs.lemmas.List.{length-append}
 use Rattle.std.proofs.lemmas.Result.{err_from_is_err_and}
 use Rattle.gd_log.proofs.EventLemmas.{log-start, from-some, from-none, log-refused, log-stopped}
@@ -37,7 +37,7 @@ records-preserved g c =
       exact = λ is_told. let step = taken.exact c.records.events c.records.invariant.follows is_told in
           c.records.invariant.exact (c.in_ok-event.ensures.was is_told) ∙ from-some c.records.reader.header c.records.events _ _ step.0;
       place = λ is_told. let step = taken.exact c.records.events c.records.invariant.follows is_told in
-          sym step.1 ∙ c.records.invariant.place (c.in_ok-event.ensures.was is_told);
+          omega (arith, step.1, c.records.invariant.place (c.in_ok-event.ensures.was is_told));
       counted = omega (arith, taken.one_more.counted, length-append c.records.events (c.in-Some.event ∷ []));
       few = omega (arith, taken.one_more.counted, taken.one_more.few, length-append c.records.events (c.in-Some.event ∷ []));
       count = omega (arith, c.in_ok-event.ensures.count);

@@ -5,7 +5,7 @@ use Rattle.gd_view.proofs.LevelLemmas.{listed_first, listed_next, listed_last}
 use Rattle.gd_view.proofs.listing.shown_items.Goals as goal
 
 pub loop-level-init : goal.loop-level-init
-loop-level-init c = listed_first (board_of c.args.canvas.now) c.in_ok-levels.levels.keys c.new-items.result.items c.in_ok-levels.ensures c.new-items.ensures.items
+loop-level-init c = listed_first (board_of c.args.canvas.now) c.in_ok-levels.levels.keys c.in_ok-items.items.items c.in_ok-levels.ensures c.in_ok-items.ensures.items
 
 pub loop-level-preserved : goal.loop-level-preserved
 loop-level-preserved c =

@@ -4,7 +4,7 @@ use Rattle.gd_view.proofs.WalkLemmas.{linked_none, linked_more}
 use Rattle.gd_view.proofs.walk.link_up.Goals as goal
 
 pub loop-place-init : goal.loop-place-init
-loop-place-init c = linked_none c.args.items.now _ c.new-firsts.result c.new-next.result.items refl c.new-firsts.ensures c.new-next.ensures.items
+loop-place-init c = linked_none c.args.items.now _ c.new-firsts.result c.in_ok-next.next.items refl c.new-firsts.ensures c.in_ok-next.ensures.items
 
 pub loop-place-preserved : goal.loop-place-preserved
 loop-place-preserved c =

@@ -1,7 +1,7 @@
 use Rattle.std.proofs.Common.{◌∙◌, sym, ap, cond}
 use Rattle.std.specs.FinMap as map_of
 use Rattle.gd_canvas.specs.Slots.{board_of}
-use Rattle.gd_canvas.proofs.GroupLemmas.{group-board}
+use Rattle.gd_canvas.proofs.NewObjectLemmas.{group-board}
 use Rattle.gd_canvas.proofs.canvas.Canvas.group.Goals as goal
 
 pub returns-then-branch-clause-board : goal.returns-then-branch-clause-board

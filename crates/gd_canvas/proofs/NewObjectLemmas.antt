@@ -1,22 +1,33 @@
--- A group that is made before its members are linked leaves the same board as one that is made after, and has an empty label.
-use Rattle.std.proofs.Common.{◌≡◌, ℕ, Bool, true, false, not, cond, List, [], Option, None, Some, Ok, Err, refl, sym, ap, ◌∙◌, arith, if◌then◌else◌}
+-- What a create and a group make of a board. A group that is made before its members are linked leaves the same board as one
+-- that is made after.
+use Rattle.std.proofs.Common.{◌≡◌, ℕ, Bool, true, false, not, cond, ℤ, List, [], Option, None, Some, Ok, Err, refl, sym, ap, ◌∙◌, arith, if◌then◌else◌}
 use Rattle.std.specs.Prelude.{Result, IsOk, MatchResult, option_map}
 use Rattle.std.specs.FinMap as map_of
 use Rattle.std.specs.List.{list_any}
 use Rattle.std.proofs.lemmas.Str.{chars-nil}
+use Rattle.gd_base.specs.declared.shape.Shape as shape
 use Rattle.gd_base.specs.declared.label.LabelFault.{LabelFault}
 use Rattle.gd_base.specs.declared.label.LabelFault.TheVariants.{TooLong, Control}
 use Rattle.gd_base.specs.declared.member.Member.{Member}
 use Rattle.gd_base.specs.Labels.{IsLabel, IsLabelFault, is_control}
 use Rattle.gd_base.specs.Stamps.{Stamp, is_same, is_before}
 use Rattle.gd_base.proofs.StampLemmas.{stamp_cmp-total, is_before-apart}
+use Rattle.gd_events.specs.declared.op.Op.TheVariants.{Create}
 use Rattle.gd_model.specs.declared.object.Link.{Link}
 use Rattle.gd_model.specs.declared.object.Object.{Object}
-use Rattle.gd_model.specs.Objects.{ranked, new_group, linked}
+use Rattle.gd_model.specs.Objects.{ranked, new_shape, new_group, linked}
 use Rattle.gd_model.specs.Forms.{Groups}
 use Rattle.gd_model.specs.Drawing.{first_naming, link_given}
-use Rattle.gd_model.specs.Board.{Board, link_members, board_with}
+use Rattle.gd_model.specs.Board.{Board, link_members, board_with, apply}
 use Rattle.gd_drawing.proofs.Lookups.{get-link_members, same_board}
+
+-- new is put where no object is
+pub board-create : (stamp : Stamp) (kind : shape.Shape) (x y w h : ℤ) (label : List ℕ) (b now : Board) (new : Object) → new ≡ ranked (new_shape kind x y w h label) stamp
+    → now ≡ (if map_of.contains_key b stamp then b else map_of.insert b stamp new) → now ≡ apply stamp (Create kind x y w h label) b
+unfolding apply
+board-create stamp kind x y w h label b now new made e = e ∙ ap (λ o. cond (map_of.contains_key b stamp) b (map_of.insert b stamp o)) made
+
+-- ---- groups
 
 not_given : (same before : Bool) (given : Option Link) → (before ≡ true → same ≡ false) → same ≡ true → cond before given None ≡ None
 not_given true true given apart is = let e = apart refl in cc
