@@ -3,11 +3,13 @@
 ghost use Rattle.std.specs.Prelude.{◌≡◌, ◌++◌, ◌∷◌, [], Ok, Err, take};
 ghost use Rattle.gd_base.specs.declared.fault.LogWhy.TheVariants.{Short, Magic, Version, Field, FutureId, MemberOrder, NoSite, Turn, Backdated};
 ghost use Rattle.gd_outside.specs.declared.status.Status.TheVariants as status;
+ghost use Rattle.gd_base.specs.declared.fault.WireWhy.TheVariants as wire;
+ghost use Rattle.gd_model.specs.FrameBytes.{frame, frame_bytes};
 ghost use Rattle.gd_model.specs.LogBytes.{log};
 ghost use Rattle.gd_model.specs.Drawing.{picture};
 ghost use Rattle.gd_model.specs.Text.{text};
 ghost use Rattle.gd_model.specs.SlowRun.{slow_effects, slow_end, usage_line};
-ghost use Rattle.gd_model.specs.Worked.{header, header_bytes, empty_log, tie_log, tie_events, tie_text, rank_events, rank_text, effect_before_cause, end_alone, replay_words, other_words, prints_of, cut_text, moved_log, moved_events, moved_text, styled_log, styled_events, styled_text, no_tag_log, grouped_log, grouped_events, unordered_log, one_member_log, many_members_log, regrouped_events, regrouped_text, nested_events, nested_text, no_magic, no_version, no_field, future_log, future_resize_log, no_colour_log, no_site_log, turn_log, backdated_log, fault_at};
+ghost use Rattle.gd_model.specs.Worked.{header, header_bytes, empty_log, tie_log, tie_events, tie_text, rank_events, rank_text, effect_before_cause, end_alone, replay_words, other_words, prints_of, cut_text, moved_log, moved_events, moved_text, styled_log, styled_events, styled_text, no_tag_log, grouped_log, grouped_events, unordered_log, one_member_log, many_members_log, regrouped_events, regrouped_text, nested_events, nested_text, no_magic, no_version, no_field, future_log, future_resize_log, no_colour_log, no_site_log, turn_log, backdated_log, fault_at, frame_row, frame_value, frame_of_version_2, frame_of_site_17, frame_of_another_site, frame_above_its_count, frame_above_its_clock, frame_of_number_0, frame_of_no_kind, frame_too_wide, frame_without_its_label, misread};
 
 /// A log without events prints no object, with its closed gate and without.
 pub fn an_empty_log_prints_its_end()
@@ -89,4 +91,25 @@ pub fn other_words_are_refused()
     ensures end { slow_end other_words tie_log ≡ status.Usage }
     ensures none { slow_end [] tie_log ≡ status.Usage }
     ensures twice { slow_end (replay_words ++ replay_words) tie_log ≡ status.Usage }
+{}
+
+/// A frame is read from its bytes, and written as them.
+pub fn a_frame_is_read_and_written()
+    ensures read { frame frame_row ≡ Ok frame_value }
+    ensures written { frame_bytes frame_value ≡ frame_row }
+{}
+
+/// The first fault of bytes that are no frame, with its place as the number of bytes that stand from it on.
+pub fn a_fault_of_a_frame_has_its_place()
+    ensures cut { frame (take 33 frame_row) ≡ misread wire.Short 0 }
+    ensures version { frame frame_of_version_2 ≡ misread wire.Version 56 }
+    ensures site { frame frame_of_site_17 ≡ misread wire.Field 51 }
+    ensures sender { frame frame_of_another_site ≡ misread wire.Disorder 28 }
+    ensures count { frame frame_above_its_count ≡ misread wire.Disorder 28 }
+    ensures clock { frame frame_above_its_clock ≡ misread wire.Disorder 28 }
+    ensures number { frame frame_of_number_0 ≡ misread wire.Field 21 }
+    ensures kind { frame frame_of_no_kind ≡ misread wire.Field 18 }
+    ensures width { frame frame_too_wide ≡ misread wire.Field 9 }
+    ensures label { frame frame_without_its_label ≡ misread wire.Short 0 }
+    ensures tail { frame (frame_row ++ 0 ∷ []) ≡ misread wire.Trailing 1 }
 {}
