@@ -1,5 +1,5 @@
 -- The place of a stamp parts the events into the earlier and the later ones.
-use Rattle.std.proofs.Common.{◌≡◌, ◌≢◌, ℕ, ◌+◌, ◌-◌, ◌<◌, true, false, cond, List, [], ◌∷◌, ◌++◌, length, take, drop, get_or, take-append-drop, length-take, sym, ap, ◌∙◌, refl, IsTrue, arith, subst, suc, inl, inr}
+use Rattle.std.proofs.Common.{◌≡◌, ◌≢◌, ℕ, ◌+◌, ◌-◌, ◌<◌, true, false, cond, List, [], ◌∷◌, ◌++◌, length, take, drop, get_or, take-append-drop, length-take, sym, ap, ◌∙◌, refl, IsTrue, arith, subst, zero, suc, inl, inr}
 use mathlib.Core.Bool.{true≢false}
 use Rattle.std.specs.List.{insert}
 use Rattle.std.proofs.lemmas.List.{length-append, get_or-drop, length-drop, length-map, get_or-map}
@@ -7,9 +7,9 @@ use Rattle.gd_base.specs.Stamps.{Stamp, is_before}
 use Rattle.gd_base.proofs.StampLemmas.{is_before-trans}
 use Rattle.gd_history.proofs.StampOrder.{is_before-asym, is_before-total}
 use Rattle.gd_repair.specs.Repair.{Stamped}
-use Rattle.gd_history.specs.Entry.{EntryValue}
-use Rattle.gd_history.specs.Entries.{AllOf, IsPlaceOf, event_of, events_of}
-use Rattle.gd_history.specs.Order.{later_than, inserted, IsRising, HasNone}
+use Rattle.gd_history.specs.Entries.{EntryValue, AllOf, event_of, events_of}
+use Rattle.gd_history.specs.Places.{IsPlaceOf}
+use Rattle.gd_history.specs.Orders.{later_than, inserted, IsRising, HasNone}
 use Rattle.gd_history.proofs.TakeAndPut.{last_of, AllOf-append, AllOf-append_left, AllOf-append_right, AllOf-map}
 
 module _ {O : Type 0} where
@@ -162,10 +162,29 @@ module _ {O : Type 0} where
       let split = subst (AllOf P) (sym (take-append-drop place es)) all in
       AllOf-append P (take place es) (x ∷ drop place es) (AllOf-append_left P (take place es) (drop place es) split) (here, AllOf-append_right P (take place es) (drop place es) split)
 
--- the entry in front of the place is earlier
-pub fresh_read : {O B : Type 0} (s : Stamp) (xs : List (EntryValue O B)) (i : ℕ) (x : EntryValue O B) → IsPlaceOf s (events_of xs) i → IsRising (events_of xs) → x ≡ get_or xs (i - 1) x → IsTrue (is_before x.stamp s) → HasNone s (events_of xs)
-fresh_read s xs i x at rising read earlier =
-    none-place s (events_of xs) i at rising
-    (λ y positive.
-    let inside : i - 1 < length xs = omega (arith, at.within, positive, length-map xs event_of) in
-    ap (λ (z : Stamped _). is_before z.stamp s) (get_or-map event_of xs (i - 1) x y inside ∙ ap event_of (sym read)) ∙ earlier)
+-- all events are later than the stamp
+pub fresh_front : {O : Type 0} (s : Stamp) (es : List (Stamped O)) (place : ℕ) → IsPlaceOf s es place → IsRising es → place ≡ 0 → HasNone s es
+fresh_front s es place at rising none = none-place s es place at rising (λ x positive. absurd (omega arith))
+
+AllOf-at : {E : Type 0} (P : E → Type 0) (es : List E) (k : ℕ) (x : E) → AllOf P es → k < length es → P (get_or es k x)
+AllOf-at P [] k x all inside = absurd (omega arith)
+AllOf-at P (e ∷ es) zero x all inside = all.0
+AllOf-at P (e ∷ es) (suc k) x all inside = AllOf-at P es k x all.1 (omega arith)
+
+-- no entry has the stamp exactly where the one in front of the place is earlier
+module _ {O B : Type 0} (s : Stamp) (xs : List (EntryValue O B)) (place : ℕ) (x : EntryValue O B) (at : IsPlaceOf s (events_of xs) place) (some : 0 < place) (read : x ≡ get_or xs (place - 1) x) where
+  event_read : (y : Stamped O) → get_or (events_of xs) (place - 1) y ≡ event_of x
+  event_read y =
+      let inside : place - 1 < length xs = omega (arith, at.within, some, length-map xs event_of) in
+      get_or-map event_of xs (place - 1) x y inside ∙ ap event_of (sym read)
+
+  pub fresh_from_earlier : IsRising (events_of xs) → IsTrue (is_before x.stamp s) → HasNone s (events_of xs)
+  fresh_from_earlier rising earlier = none-place s (events_of xs) place at rising (λ y positive. ap (λ (z : Stamped O). is_before z.stamp s) (event_read y) ∙ earlier)
+
+  pub earlier_from_fresh : HasNone s (events_of xs) → IsTrue (is_before x.stamp s)
+  earlier_from_fresh none =
+      let e = event_of x in
+      let inside : place - 1 < length (events_of xs) = omega (arith, at.within, some) in
+      let other : e.stamp ≢ s = subst (λ (z : Stamped O). z.stamp ≢ s) (event_read e) (AllOf-at (λ f. f.stamp ≢ s) (events_of xs) (place - 1) e none inside) in
+      let not_later : is_before s e.stamp ≡ false = ap (λ (z : Stamped O). is_before s z.stamp) (sym (event_read e)) ∙ at.not_later e some in
+      is_before-total s e.stamp not_later (λ same. other (sym same))

@@ -1,14 +1,14 @@
 -- Places of a stamp and of a closure among entries.
-use Rattle.std.proofs.Common.{◌≡◌, ℕ, ◌+◌, ◌-◌, ◌<◌, ◌≤◌, Bool, true, false, cond, List, [], ◌∷◌, ◌++◌, length, get_or, sym, ap, ◌∙◌, refl, arith, ⊎_elim, IsTrue, subst}
+use Rattle.std.proofs.Common.{◌≡◌, ℕ, ◌+◌, ◌-◌, ◌<◌, ◌≤◌, Bool, true, false, cond, List, [], ◌∷◌, ◌++◌, length, get_or, sym, ap, ◌∙◌, refl, arith, ⊎_elim, IsTrue, subst, ◌&&◌}
 use Rattle.std.proofs.Common.{eqb, take, drop, add-one, drop-cons, take-append-drop, length-take}
 use Rattle.std.proofs.Math.Seq.{append_snoc}
-use Rattle.std.proofs.lemmas.List.{get_or-map, map-append, length-append, get_or_push, get_or_append_left, nil_from_length}
+use Rattle.std.proofs.lemmas.List.{get_or-map, map-append, length-append, length-drop, get_or_push, get_or_append_left, nil_from_length}
 use Rattle.std.proofs.lemmas.Bool.{cases_lt}
 use Rattle.gd_base.specs.Stamps.{Stamp, is_before}
 use Rattle.gd_repair.specs.Repair.{Stamped, Rules, is_free, closure_from, closure, outcome, outcome_by}
 use Rattle.gd_repair.specs.Repair.Outcome.{applied, dropped, reworked}
-use Rattle.gd_history.specs.Entry.{EntryValue}
-use Rattle.gd_history.specs.Entries.{event_of, events_of, event_at, events_at, places_from, AreLaterFrom, BeginsWith}
+use Rattle.gd_history.specs.Entries.{EntryValue, event_of, events_of}
+use Rattle.gd_history.specs.Places.{event_at, events_at, places_from, AreLaterFrom, BeginsWith, IsFirstMember}
 
 module _ {O B : Type 0} where
   -- one entry more, from the end
@@ -32,6 +32,28 @@ module _ {E B M : Type 0} (d : Rules E B M) (e : E) where
 
   drop_at : (es : List E) (at : ℕ) → at < length es → drop at es ≡ event_at e es at ∷ drop (at + 1) es
   drop_at es at within = rw (add-one, drop-cons es at e) refl
+
+  -- one turn of the search for the first member
+  pub first_free : (es : List E) (from at : ℕ) → at < length es → places_from d e [] from (drop from es) ≡ places_from d e [] at (drop at es) → d.independent e (event_at e es at) ≡ true
+      → places_from d e [] from (drop from es) ≡ places_from d e [] (at + 1) (drop (at + 1) es)
+  first_free es from at within found free =
+      found
+      ∙ ap (places_from d e [] at) (drop_at es at within)
+      ∙ places_from-free [] at (event_at e es at) (drop (at + 1) es) (ap (λ b. b && true) free)
+
+  pub first_taken : (es : List E) (from at : ℕ) → at < length es → places_from d e [] from (drop from es) ≡ places_from d e [] at (drop at es) → d.independent e (event_at e es at) ≡ false
+      → IsFirstMember d e es from at
+  first_taken es from at within found taken =
+      record {
+        within = within;
+        places =
+            found
+            ∙ ap (places_from d e [] at) (drop_at es at within)
+            ∙ places_from-taken [] at (event_at e es at) (drop (at + 1) es) (ap (λ b. b && true) taken);
+      }
+
+  pub first_none : (es : List E) (from at : ℕ) → length es ≤ at → places_from d e [] from (drop from es) ≡ places_from d e [] at (drop at es) → places_from d e [] from (drop from es) ≡ []
+  first_none es from at past found = found ∙ ap (places_from d e [] at) (nil_from_length (drop at es) (omega (arith, length-drop at es)))
 
   pub found_free : (es : List E) (all places : List ℕ) (at : ℕ) → at < length es
       → all ≡ places ++ places_from d e (events_at e es places) at (drop at es)
@@ -98,38 +120,22 @@ module _ {E B M : Type 0} (d : Rules E B M) (e : E) where
   outcome-places : (es : List E) (i : ℕ) (places : List ℕ) → i ≤ length es → places ≡ places_from d e [] i (drop i es) → outcome d e (drop i es) ≡ outcome_by d e (events_at e es places)
   outcome-places es i places within is = ap (outcome_by d e) (sym (closure-places es i within) ∙ ap (events_at e es) (sym is))
 
-  pub outcome_none : (es : List E) (i : ℕ) (places : List ℕ) → i ≤ length es → places ≡ places_from d e [] i (drop i es) → length places ≡ 0 → outcome d e (drop i es) ≡ applied
-  outcome_none es i places within is none = outcome-places es i places within is ∙ ap (λ l. outcome_by d e (events_at e es l)) (nil_from_length places none)
+  -- the places of the closure behind its first member
+  abbrev pub places_behind : List E → ℕ → List ℕ
+  places_behind es k = places_from d e (event_at e es k ∷ []) (k + 1) (drop (k + 1) es)
 
-  head_case : (es : List E) (places : List ℕ) (cover : ℕ) (covers : Bool) → 0 < length places → get_or places 0 0 ≡ cover → d.covers (event_at e es cover) e ≡ covers
-      → outcome_by d e (events_at e es places) ≡ cond covers (dropped (event_at e es cover)) (reworked (events_at e es places))
-  head_case es [] cover covers some first is = absurd (omega arith)
-  head_case es (k ∷ ks) cover covers some first is =
-      ap (λ n. cond (d.covers (event_at e es n) e) (dropped (event_at e es n)) (reworked (events_at e es (k ∷ ks)))) first
-      ∙ ap (λ b. cond b (dropped (event_at e es cover)) (reworked (events_at e es (k ∷ ks)))) is
+  pub outcome_none : (es : List E) (i : ℕ) → i ≤ length es → places_from d e [] i (drop i es) ≡ [] → outcome d e (drop i es) ≡ applied
+  outcome_none es i within none = outcome-places es i [] within (sym none)
 
-  pub outcome_dropped : (es : List E) (i : ℕ) (places : List ℕ) (cover : ℕ) → i ≤ length es → places ≡ places_from d e [] i (drop i es) → 0 < length places → get_or places 0 0 ≡ cover
-      → d.covers (event_at e es cover) e ≡ true → outcome d e (drop i es) ≡ dropped (event_at e es cover)
-  outcome_dropped es i places cover within is some first covers = outcome-places es i places within is ∙ head_case es places cover true some first covers
+  -- the first member tells what comes of the event
+  pub outcome_first : (es : List E) (i k : ℕ) (covers : Bool) → i ≤ length es → IsFirstMember d e es i k → d.covers (event_at e es k) e ≡ covers
+      → outcome d e (drop i es) ≡ cond covers (dropped (event_at e es k)) (reworked (events_at e es (k ∷ places_behind es k)))
+  outcome_first es i k covers within first is =
+      outcome-places es i (k ∷ places_behind es k) within (sym first.places)
+      ∙ ap (λ (b : Bool). cond b (dropped (event_at e es k)) (reworked (events_at e es (k ∷ places_behind es k)))) is
 
-  pub outcome_reworked : (es : List E) (i : ℕ) (places : List ℕ) (cover : ℕ) → i ≤ length es → places ≡ places_from d e [] i (drop i es) → 0 < length places → get_or places 0 0 ≡ cover
-      → d.covers (event_at e es cover) e ≡ false → outcome d e (drop i es) ≡ reworked (events_at e es places)
-  outcome_reworked es i places cover within is some first covers = outcome-places es i places within is ∙ head_case es places cover false some first covers
-
-  pub begins_with : (places list : List ℕ) (k : ℕ) → places ≡ list → 0 < length places → get_or places 0 0 ≡ k → BeginsWith k list
-  begins_with places list k is some first = subst (BeginsWith k) is (begins_case places some first)
-    where
-      begins_case : (ps : List ℕ) → 0 < length ps → get_or ps 0 0 ≡ k → BeginsWith k ps
-      begins_case [] h f = absurd (omega arith)
-      begins_case (p ∷ ps) h f = f
+  pub begins_with : (es : List E) (i k : ℕ) → IsFirstMember d e es i k → BeginsWith k (places_from d e [] i (drop i es))
+  begins_with es i k first = subst (BeginsWith k) (sym first.places) refl
 
 pub event_at-read : {O B : Type 0} (xs ys : List (EntryValue O B)) (e : Stamped O) (i : ℕ) (x : EntryValue O B) → ys ≡ xs → i < length xs → x ≡ get_or ys i x → event_at e (events_of xs) i ≡ event_of x
 event_at-read xs ys e i x same inside read = get_or-map event_of xs i x e inside ∙ ap event_of (sym (ap (λ l. get_or l i x) same) ∙ sym read)
-
-pub some_place : (n : ℕ) (xs : List ℕ) → n ≡ length xs → false ≡ eqb n 0 → 0 < length xs
-some_place n [] is test = let wrong : false ≡ true = test ∙ ap (λ k. eqb k 0) is in cc
-some_place n (x ∷ xs) is test = omega arith
-
-pub first_inside : (xs : List ℕ) (n m : ℕ) → 0 < length xs → ((k : ℕ) → k < length xs → get_or xs k 0 < n) → m ≡ get_or xs 0 m → (m < n) × (get_or xs 0 0 ≡ m)
-first_inside [] n m some within is = absurd (omega arith)
-first_inside (x ∷ xs) n m some within is = (subst (λ k. k < n) (sym is) (within 0 some), sym is)

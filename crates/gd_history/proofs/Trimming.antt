@@ -5,10 +5,9 @@ use Rattle.std.proofs.lemmas.Bool.Decides.{nat_tests}
 use Rattle.gd_base.specs.Stamps.{Stamp, is_before}
 use Rattle.gd_repair.specs.Repair.{Stamped, Rules, Laws, after, recorded, unwound}
 use Rattle.gd_repair.proofs.Moves.{IsFold-recorded, unwound-recorded, after-append, recorded-append, length-recorded}
-use Rattle.gd_history.specs.Entry.{EntryValue}
-use Rattle.gd_history.specs.Entries.{event_of, events_of, as_held, all_held, AllOf}
-use Rattle.gd_history.specs.Order.{IsRising, IsAbove, leading, events_upto, entries_above}
-use Rattle.gd_history.specs.History.{HistoryValue, IsHistory, base_of}
+use Rattle.gd_history.specs.Entries.{EntryValue, event_of, events_of, as_held, all_held, AllOf}
+use Rattle.gd_history.specs.Orders.{IsRising, IsAbove, leading, events_upto, entries_above}
+use Rattle.gd_history.specs.Histories.{HistoryValue, IsHistory, base_of}
 use Rattle.gd_history.proofs.TakeAndPut.{events-all_held, AllOf-map, AllOf-append_right}
 use Rattle.gd_history.proofs.StampOrder.{is_before-clocks}
 use Rattle.gd_history.proofs.Ordering.{IsRising-append_right}

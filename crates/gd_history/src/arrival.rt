@@ -1,44 +1,25 @@
+//! What is answered of an event that arrives.
+
 ghost use Rattle.std.specs.Prelude.{◌≡◌, ℕ, ◌<◌, List, [], ◌∷◌, length, map, slice_index, IfOk};
 ghost use Rattle.gd_repair.specs.Repair.{Stamped};
-ghost use Rattle.gd_history.specs.Entries.{events_of, events_at, stamps_of};
+ghost use Rattle.gd_history.specs.Entries.{events_of, stamps_of};
+ghost use Rattle.gd_history.specs.Places.{events_at};
 
 use crate::entry::Entry;
+use crate::lists::StampList;
 use gd_base::Stamp;
 use gd_repair::Document;
 use std::alloc::{AllocError, Global};
-use std::marker::Model;
-
-/// Stamps in the order of their events.
-#[derive(Drop)]
-pub struct StampList {
-    items: Vec<Stamp>,
-}
-
-impl Model for StampList {
-    ghost use Rattle.std.specs.Prelude.{List};
-    ghost use Rattle.gd_base.specs.Stamps.{Stamp as StampValue};
-
-    ghost Value = { List StampValue };
-
-    ghost view = { λ l. l.items.items };
-}
-
-impl StampList {
-    pub fn as_slice(&self) -> &[Stamp]
-        ensures { result.now ≡ self.now }
-    {
-        self.items.as_slice()
-    }
-}
 
 /// What came of an event that arrived.
 #[derive(Drop)]
 pub enum Arrival {
-    /// It was applied, and nothing was undone.
+    /// It was applied, since no later event depends on it. One step.
     Applied,
-    /// It was not run, since the event `by` leaves nothing of it.
+    /// It is entered without being applied, since `by`, the first later event that depends on it, leaves nothing of it. No step.
     Dropped { by: Stamp },
-    /// The events `undone` depend on it, and were undone and redone.
+    /// It was applied, and the later events that depend on it, itself or through others of them, were undone and redone: theirs are the
+    /// stamps `undone`, in order. One step, and two for each stamp.
     Reworked { undone: StampList },
 }
 

@@ -1,16 +1,19 @@
-ghost use Rattle.std.specs.Prelude.{◌≡◌, ℕ, ◌<◌, ◌≤◌, true, false, IsTrue, length, map, slice_index, take, drop, List, [], ◌∷◌, IfOk};
+//! Where an event stands among the entries, and which of the later ones depend on it.
+
+ghost use Rattle.std.specs.Prelude.{◌≡◌, ◌↔◌, ℕ, ◌+◌, ◌<◌, ◌≤◌, Option, true, false, IsTrue, length, map, slice_index, take, drop, List, [], ◌∷◌, IfOk};
 ghost use Rattle.gd_repair.specs.Repair.{Stamped, stamped, events, is_free};
 ghost use Rattle.gd_base.specs.Stamps.{is_before};
-ghost use Rattle.gd_history.specs.Entries.{events_of, places_from, event_at, events_at, IsPlaceOf};
-ghost use Rattle.gd_history.specs.Order.{leading, IsRising, HasNone};
+ghost use Rattle.gd_history.specs.Entries.{events_of};
+ghost use Rattle.gd_history.specs.Places.{places_from, event_at, events_at, IsPlaceOf, IsFirstPlace};
+ghost use Rattle.gd_history.specs.Orders.{leading, IsRising, HasNone};
 
 use crate::entry::Entry;
 use gd_base::Stamp;
 use gd_repair::Document;
 use std::alloc::{AllocError, Global};
 
-/// How many entries are not later than the stamp.
-pub fn place_of<D: Document>(entries: &[Entry<D>], stamp: Stamp) -> usize
+/// How many entries are not later than the stamp. It walks from the end, since most events come late in the order.
+pub(crate) fn place_of<D: Document>(entries: &[Entry<D>], stamp: Stamp) -> usize
     ensures { IsPlaceOf stamp (events_of entries.now) result }
 {
     let mut place = entries.len();
@@ -20,10 +23,10 @@ pub fn place_of<D: Document>(entries: &[Entry<D>], stamp: Stamp) -> usize
     place
 }
 
-/// Whether no entry has the stamp.
-pub fn is_fresh<D: Document>(entries: &[Entry<D>], stamp: Stamp) -> bool
+/// Whether no entry has the stamp. Of the entries that are not later only the last one can have it.
+pub(crate) fn is_fresh<D: Document>(entries: &[Entry<D>], stamp: Stamp) -> bool
     requires { IsRising (events_of entries.now) }
-    ensures { IsTrue result → HasNone stamp (events_of entries.now) }
+    ensures { IsTrue result ↔ HasNone stamp (events_of entries.now) }
 {
     let place = place_of(entries, stamp);
     if place == 0 {
@@ -33,7 +36,7 @@ pub fn is_fresh<D: Document>(entries: &[Entry<D>], stamp: Stamp) -> bool
 }
 
 /// Whether the entry at `at` is independent of the event and of each entry at the places.
-pub fn is_free_at<D: Document>(
+pub(crate) fn is_free_at<D: Document>(
     entries: &[Entry<D>],
     stamp: Stamp,
     op: &D::Op,
@@ -57,20 +60,40 @@ pub fn is_free_at<D: Document>(
     true
 }
 
-/// The places of the closure of an event that stands before the entry at `from`.
-pub fn find_closure<D: Document>(
-    alloc: Global,
+/// The place of the first entry, from `from` on, that depends on the event, if there is one. It looks at no entry behind that.
+pub(crate) fn find_dependent<D: Document>(
     entries: &[Entry<D>],
     from: usize,
     stamp: Stamp,
     op: &D::Op,
-) -> Result<Vec<usize>, AllocError>
+) -> Option<usize>
     requires { from ≤ length entries.now }
-    ensures places { IfOk result (λ places. places.items ≡ places_from D.rules (stamped stamp op.now) [] from (drop from (events_of entries.now))) }
+    ensures { IsFirstPlace D.rules (stamped stamp op.now) (events_of entries.now) from result }
+{
+    for at in from..entries.len() {
+        let entry = &entries[at];
+        if !D::independent(stamp, op, entry.stamp(), entry.op()) {
+            return Some(at);
+        }
+    }
+    None
+}
+
+/// The places of the closure of an event whose first dependent is the entry at `first`.
+pub(crate) fn find_closure<D: Document>(
+    alloc: Global,
+    entries: &[Entry<D>],
+    first: usize,
+    stamp: Stamp,
+    op: &D::Op,
+) -> Result<Vec<usize>, AllocError>
+    requires { first < length entries.now }
+    ensures places { IfOk result (λ places. places.items ≡ first ∷ places_from D.rules (stamped stamp op.now) (event_at (stamped stamp op.now) (events_of entries.now) first ∷ []) (first + 1) (drop (first + 1) (events_of entries.now))) }
     ensures within { IfOk result (λ places. (k : ℕ) → k < length places.items → slice_index places.items k < length entries.now) }
 {
     let mut places = Vec::new(alloc);
-    for at in from..entries.len() {
+    places.push(first)?;
+    for at in first + 1..entries.len() {
         if !is_free_at(entries, stamp, op, &places, at) {
             places.push(at)?;
         }
@@ -79,7 +102,7 @@ pub fn find_closure<D: Document>(
 }
 
 /// How many of the first entries have a clock of at most the line.
-pub fn count_leading<D: Document>(entries: &[Entry<D>], line: u64) -> usize
+pub(crate) fn count_leading<D: Document>(entries: &[Entry<D>], line: u64) -> usize
     ensures { result ≡ leading line (events_of entries.now) }
 {
     let mut count = 0;
