@@ -26,7 +26,6 @@ abbrev pub places_from : {E B M : Type 0} → Rules E B M → E → List E → �
 places_from d e cs i [] = []
 places_from d e cs i (f ∷ fs) = cond (is_free d (e ∷ cs) f) (places_from d e cs (i + 1) fs) (i ∷ places_from d e (cs ++ f ∷ []) (i + 1) fs)
 
-
 -- the first of the places is k
 abbrev pub BeginsWith : ℕ → List ℕ → Type 0
 BeginsWith k [] = ⊥

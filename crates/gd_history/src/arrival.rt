@@ -16,10 +16,11 @@ use std::alloc::{AllocError, Global};
 pub enum Arrival {
     /// It was applied, since no later event depends on it. One step.
     Applied,
-    /// It is entered without being applied, since `by`, the first later event that depends on it, leaves nothing of it. No step.
+    /// It is entered without being applied, since `by`, the first later event that depends on it, leaves nothing of it.
+    /// No step.
     Dropped { by: Stamp },
-    /// It was applied, and the later events that depend on it, itself or through others of them, were undone and redone: theirs are the
-    /// stamps `undone`, in order. One step, and two for each stamp.
+    /// It was applied, and the later events that depend on it, itself or through others of them, were undone and
+    /// redone: theirs are the stamps `undone`, in order. One step, and two for each stamp.
     Reworked { undone: StampList },
 }
 

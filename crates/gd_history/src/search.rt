@@ -60,7 +60,8 @@ pub(crate) fn is_free_at<D: Document>(
     true
 }
 
-/// The place of the first entry, from `from` on, that depends on the event, if there is one. It looks at no entry behind that.
+/// The place of the first entry, from `from` on, that depends on the event, if there is one. It looks at no entry
+/// behind that.
 pub(crate) fn find_dependent<D: Document>(
     entries: &[Entry<D>],
     from: usize,

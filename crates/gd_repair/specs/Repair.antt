@@ -7,6 +7,7 @@ pub record Stamped (O : Type 0) : Type 0 where
   pub stamp : Stamp
   pub op : O
 
+-- the operation under the stamp
 abbrev pub stamped : {O : Type 0} → Stamp → O → Stamped O
 stamped s o = record { stamp = s; op = o }
 
@@ -19,6 +20,7 @@ pub record Rules (E B M : Type 0) : Type 0 where
   pub covers : E → E → Bool
   pub splice : E → E → B → B × B
 
+-- what the rules keep: undo is the inverse of apply, the order of independent events is free, what is covered leaves nothing, and splice gives both before-values
 pub record Laws {E B M : Type 0} (d : Rules E B M) : Type 0 where
   pub inverse : (e : E) (m : M) → d.undo e (d.before e m) (d.apply e m) ≡ m
   pub commute : (e f : E) (m : M) → IsTrue (d.independent e f) → d.apply f (d.apply e m) ≡ d.apply e (d.apply f m)
@@ -32,6 +34,7 @@ pub record Held (E B : Type 0) : Type 0 where
   pub event : E
   pub before : B
 
+-- the event with the before-value
 abbrev pub held : {E B : Type 0} → E → B → Held E B
 held e b = record { event = e; before = b }
 
@@ -65,19 +68,22 @@ abbrev pub closure_from : {E B M : Type 0} → Rules E B M → E → List E → 
 closure_from d e cs [] = []
 closure_from d e cs (f ∷ fs) = cond (is_free d (e ∷ cs) f) (closure_from d e cs fs) (f ∷ closure_from d e (cs ++ f ∷ []) fs)
 
+-- the later events that depend on e, themselves or through others of them
 abbrev pub closure : {E B M : Type 0} → Rules E B M → E → List E → List E
 closure d e fs = closure_from d e [] fs
 
--- what comes of an event that arrives before the later events
+-- an event that arrives is applied, or dropped by the event that covers it, or the closure is reworked
 pub data Outcome (E : Type 0) : Type 0 where
   applied : Outcome E
   dropped : E → Outcome E
   reworked : List E → Outcome E
 
+-- what comes of an event with this closure: its first member drops it where that covers it
 abbrev pub outcome_by : {E B M : Type 0} → Rules E B M → E → List E → Outcome E
 outcome_by d e [] = applied
 outcome_by d e (c ∷ cs) = cond (d.covers c e) (dropped c) (reworked (c ∷ cs))
 
+-- what comes of an event that arrives before the later events
 abbrev pub outcome : {E B M : Type 0} → Rules E B M → E → List E → Outcome E
 outcome d e fs = outcome_by d e (closure d e fs)
 
