@@ -1,6 +1,6 @@
 -- Places of a stamp and of a closure among entries.
 use Rattle.std.proofs.Common.{◌≡◌, ℕ, ◌+◌, ◌-◌, ◌<◌, ◌≤◌, Bool, true, false, cond, List, [], ◌∷◌, ◌++◌, length, get_or, sym, ap, ◌∙◌, refl, arith, ⊎_elim, IsTrue, subst, ◌&&◌}
-use Rattle.std.proofs.Common.{eqb, take, drop, add-one, drop-cons, take-append-drop, length-take}
+use Rattle.std.proofs.Common.{take, drop, add-one, drop-cons, take-append-drop, length-take}
 use Rattle.std.proofs.Math.Seq.{append_snoc}
 use Rattle.std.proofs.lemmas.List.{get_or-map, map-append, length-append, length-drop, get_or_push, get_or_append_left, nil_from_length}
 use Rattle.std.proofs.lemmas.Bool.{cases_lt}
