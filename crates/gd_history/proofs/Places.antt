@@ -24,10 +24,10 @@ module _ {O B : Type 0} where
 
 -- ---- the closure, place by place
 module _ {E B M : Type 0} (d : Rules E B M) (e : E) where
-  places_from-free : (cs : List E) (i : ℕ) (f : E) (fs : List E) → is_free d (e ∷ cs) f ≡ true → places_from d e cs i (f ∷ fs) ≡ places_from d e cs (i + 1) fs
+  places_from-free : (cs : List E) (i : ℕ) (f : E) (fs : List E) → is_free d.independent (e ∷ cs) f ≡ true → places_from d e cs i (f ∷ fs) ≡ places_from d e cs (i + 1) fs
   places_from-free cs i f fs free = ap (λ (b : Bool). cond b (places_from d e cs (i + 1) fs) (i ∷ places_from d e (cs ++ f ∷ []) (i + 1) fs)) free
 
-  places_from-taken : (cs : List E) (i : ℕ) (f : E) (fs : List E) → is_free d (e ∷ cs) f ≡ false → places_from d e cs i (f ∷ fs) ≡ i ∷ places_from d e (cs ++ f ∷ []) (i + 1) fs
+  places_from-taken : (cs : List E) (i : ℕ) (f : E) (fs : List E) → is_free d.independent (e ∷ cs) f ≡ false → places_from d e cs i (f ∷ fs) ≡ i ∷ places_from d e (cs ++ f ∷ []) (i + 1) fs
   places_from-taken cs i f fs taken = ap (λ (b : Bool). cond b (places_from d e cs (i + 1) fs) (i ∷ places_from d e (cs ++ f ∷ []) (i + 1) fs)) taken
 
   drop_at : (es : List E) (at : ℕ) → at < length es → drop at es ≡ event_at e es at ∷ drop (at + 1) es
@@ -57,7 +57,7 @@ module _ {E B M : Type 0} (d : Rules E B M) (e : E) where
 
   pub found_free : (es : List E) (all places : List ℕ) (at : ℕ) → at < length es
       → all ≡ places ++ places_from d e (events_at e es places) at (drop at es)
-      → is_free d (e ∷ events_at e es places) (event_at e es at) ≡ true
+      → is_free d.independent (e ∷ events_at e es places) (event_at e es at) ≡ true
       → all ≡ places ++ places_from d e (events_at e es places) (at + 1) (drop (at + 1) es)
   found_free es all places at within found free =
       found ∙ ap (λ l. places ++ l)
@@ -66,7 +66,7 @@ module _ {E B M : Type 0} (d : Rules E B M) (e : E) where
 
   pub found_taken : (es : List E) (all places new : List ℕ) (at : ℕ) → at < length es
       → all ≡ places ++ places_from d e (events_at e es places) at (drop at es)
-      → is_free d (e ∷ events_at e es places) (event_at e es at) ≡ false
+      → is_free d.independent (e ∷ events_at e es places) (event_at e es at) ≡ false
       → new ≡ places ++ at ∷ []
       → all ≡ new ++ places_from d e (events_at e es new) (at + 1) (drop (at + 1) es)
   found_taken es all places new at within found taken pushed =
@@ -94,42 +94,42 @@ below_push n xs ys y below here pushed k within =
 
 module _ {E B M : Type 0} (d : Rules E B M) (e : E) where
   at_case : (es cs : List E) (i : ℕ) (f : E) (fs : List E) (free : Bool) → event_at e es i ≡ f
-      → events_at e es (places_from d e cs (i + 1) fs) ≡ closure_from d e cs fs
-      → events_at e es (places_from d e (cs ++ f ∷ []) (i + 1) fs) ≡ closure_from d e (cs ++ f ∷ []) fs
-      → events_at e es (cond free (places_from d e cs (i + 1) fs) (i ∷ places_from d e (cs ++ f ∷ []) (i + 1) fs)) ≡ cond free (closure_from d e cs fs) (f ∷ closure_from d e (cs ++ f ∷ []) fs)
+      → events_at e es (places_from d e cs (i + 1) fs) ≡ closure_from d.independent e cs fs
+      → events_at e es (places_from d e (cs ++ f ∷ []) (i + 1) fs) ≡ closure_from d.independent e (cs ++ f ∷ []) fs
+      → events_at e es (cond free (places_from d e cs (i + 1) fs) (i ∷ places_from d e (cs ++ f ∷ []) (i + 1) fs)) ≡ cond free (closure_from d.independent e cs fs) (f ∷ closure_from d.independent e (cs ++ f ∷ []) fs)
   at_case es cs i f fs true here free_case taken_case = free_case
-  at_case es cs i f fs false here free_case taken_case = ap (λ l. event_at e es i ∷ l) taken_case ∙ ap (λ x. x ∷ closure_from d e (cs ++ f ∷ []) fs) here
+  at_case es cs i f fs false here free_case taken_case = ap (λ l. event_at e es i ∷ l) taken_case ∙ ap (λ x. x ∷ closure_from d.independent e (cs ++ f ∷ []) fs) here
 
   get_first : (pre : List E) (f : E) (fs : List E) (i : ℕ) → length pre ≡ i → get_or (pre ++ f ∷ fs) i e ≡ f
   get_first [] f fs i at = ap (λ n. get_or (f ∷ fs) n e) (sym at)
   get_first (x ∷ pre) f fs i at = ap (λ n. get_or (x ∷ (pre ++ f ∷ fs)) n e) (sym at) ∙ get_first pre f fs (length pre) refl
 
-  events_at-places_from : (es pre cs : List E) (i : ℕ) (fs : List E) → es ≡ pre ++ fs → length pre ≡ i → events_at e es (places_from d e cs i fs) ≡ closure_from d e cs fs
+  events_at-places_from : (es pre cs : List E) (i : ℕ) (fs : List E) → es ≡ pre ++ fs → length pre ≡ i → events_at e es (places_from d e cs i fs) ≡ closure_from d.independent e cs fs
   events_at-places_from es pre cs i [] whole at = refl
   events_at-places_from es pre cs i (f ∷ fs) whole at =
       let next : es ≡ (pre ++ f ∷ []) ++ fs = whole ∙ sym (append_snoc pre f fs) in
       let next_at : length (pre ++ f ∷ []) ≡ i + 1 = omega (arith, length-append pre (f ∷ [])) in
       let here : event_at e es i ≡ f = ap (λ l. get_or l i e) whole ∙ get_first pre f fs i at in
-      at_case es cs i f fs (is_free d (e ∷ cs) f) here
+      at_case es cs i f fs (is_free d.independent (e ∷ cs) f) here
       (events_at-places_from es (pre ++ f ∷ []) cs (i + 1) fs next next_at)
       (events_at-places_from es (pre ++ f ∷ []) (cs ++ f ∷ []) (i + 1) fs next next_at)
 
-  pub closure-places : (es : List E) (i : ℕ) → i ≤ length es → events_at e es (places_from d e [] i (drop i es)) ≡ closure d e (drop i es)
+  pub closure-places : (es : List E) (i : ℕ) → i ≤ length es → events_at e es (places_from d e [] i (drop i es)) ≡ closure d.independent e (drop i es)
   closure-places es i within = events_at-places_from es (take i es) [] i (drop i es) (sym (take-append-drop i es)) (omega (arith, length-take i es))
 
-  outcome-places : (es : List E) (i : ℕ) (places : List ℕ) → i ≤ length es → places ≡ places_from d e [] i (drop i es) → outcome d e (drop i es) ≡ outcome_by d e (events_at e es places)
-  outcome-places es i places within is = ap (outcome_by d e) (sym (closure-places es i within) ∙ ap (events_at e es) (sym is))
+  outcome-places : (es : List E) (i : ℕ) (places : List ℕ) → i ≤ length es → places ≡ places_from d e [] i (drop i es) → outcome d.independent d.covers e (drop i es) ≡ outcome_by d.covers e (events_at e es places)
+  outcome-places es i places within is = ap (outcome_by d.covers e) (sym (closure-places es i within) ∙ ap (events_at e es) (sym is))
 
   -- the places of the closure behind its first member
   abbrev pub places_behind : List E → ℕ → List ℕ
   places_behind es k = places_from d e (event_at e es k ∷ []) (k + 1) (drop (k + 1) es)
 
-  pub outcome_none : (es : List E) (i : ℕ) → i ≤ length es → places_from d e [] i (drop i es) ≡ [] → outcome d e (drop i es) ≡ applied
+  pub outcome_none : (es : List E) (i : ℕ) → i ≤ length es → places_from d e [] i (drop i es) ≡ [] → outcome d.independent d.covers e (drop i es) ≡ applied
   outcome_none es i within none = outcome-places es i [] within (sym none)
 
   -- the first member tells what comes of the event
   pub outcome_first : (es : List E) (i k : ℕ) (covers : Bool) → i ≤ length es → IsFirstMember d e es i k → d.covers (event_at e es k) e ≡ covers
-      → outcome d e (drop i es) ≡ cond covers (dropped (event_at e es k)) (reworked (events_at e es (k ∷ places_behind es k)))
+      → outcome d.independent d.covers e (drop i es) ≡ cond covers (dropped (event_at e es k)) (reworked (events_at e es (k ∷ places_behind es k)))
   outcome_first es i k covers within first is =
       outcome-places es i (k ∷ places_behind es k) within (sym first.places)
       ∙ ap (λ (b : Bool). cond b (dropped (event_at e es k)) (reworked (events_at e es (k ∷ places_behind es k)))) is

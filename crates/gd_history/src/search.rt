@@ -45,7 +45,7 @@ pub(crate) fn is_free_at<D: Document>(
 ) -> bool
     requires at { at < length entries.now }
     requires places { (k : ℕ) → k < length places.now → slice_index places.now k < length entries.now }
-    ensures { result ≡ is_free D.rules (stamped stamp op.now ∷ events_at (stamped stamp op.now) (events_of entries.now) places.now) (event_at (stamped stamp op.now) (events_of entries.now) at) }
+    ensures { result ≡ is_free D.rules.independent (stamped stamp op.now ∷ events_at (stamped stamp op.now) (events_of entries.now) places.now) (event_at (stamped stamp op.now) (events_of entries.now) at) }
 {
     let entry = &entries[at];
     if !D::independent(stamp, op, entry.stamp(), entry.op()) {
