@@ -1,8 +1,7 @@
 //! Where an event stands among the entries, and which of the later ones depend on it.
 
-ghost use Rattle.std.specs.Prelude.{◌≡◌, ◌↔◌, ℕ, ◌+◌, ◌<◌, ◌≤◌, Option, true, false, IsTrue, length, map, slice_index, take, drop, List, [], ◌∷◌, IfOk};
-ghost use Rattle.gd_repair.specs.Repair.{Stamped, stamped, events, is_free};
-ghost use Rattle.gd_base.specs.Stamps.{is_before};
+ghost use Rattle.std.specs.Prelude.{◌≡◌, ◌↔◌, ℕ, ◌+◌, ◌<◌, ◌≤◌, IsTrue, length, slice_index, drop, [], ◌∷◌, IfOk};
+ghost use Rattle.gd_repair.specs.Repair.{stamped, is_free};
 ghost use Rattle.gd_history.specs.Entries.{events_of};
 ghost use Rattle.gd_history.specs.Places.{places_from, event_at, events_at, IsPlaceOf, IsFirstPlace};
 ghost use Rattle.gd_history.specs.Orders.{leading, IsRising, HasNone};
