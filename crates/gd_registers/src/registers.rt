@@ -98,12 +98,7 @@ impl Document for Registers {
         Ok(())
     }
 
-    fn apply<L: Ledger>(
-        &mut self,
-        _stamp: Stamp,
-        op: &Edit,
-        steps: &mut Steps<L>,
-    ) -> Option<u32> {
+    fn apply<L: Ledger>(&mut self, _stamp: Stamp, op: &Edit, steps: &mut Steps<L>) -> Option<u32> {
         steps.tick();
         let target = op.target() as usize;
         let old = self.cells[target];
