@@ -1,0 +1,152 @@
+ghost use Rattle.std.specs.Prelude.{◌≡◌, ℕ, ◌+◌, ◌<◌, ◌≤◌, List, [], length, Option};
+ghost use Rattle.gd_registers.specs.Registers.{target_of, reads, overwrites, content, rules, registers_laws};
+
+use gd_base::{Stamp, Steps};
+use gd_repair::Document;
+use std::alloc::{AllocError, Global};
+use std::sync::ledger::Ledger;
+
+/// What changes a register.
+#[derive(Clone, Copy, Debug)]
+pub enum Edit {
+    Set { cell: u8, value: u32 },
+    Remove { cell: u8 },
+    Copy { from: u8, to: u8 },
+}
+
+/// Registers that hold nothing until they are set.
+#[derive(Drop)]
+pub struct Registers {
+    cells: Vec<Option<u32>>,
+}
+
+impl Edit {
+    fn target(&self) -> u8
+        ensures { result ≡ target_of self.now }
+    {
+        match self {
+            Edit::Set { cell, value: _ } => *cell,
+            Edit::Remove { cell } => *cell,
+            Edit::Copy { from: _, to } => *to,
+        }
+    }
+
+    fn reads(&self, cell: u8) -> bool
+        ensures { result ≡ reads self.now cell }
+    {
+        match self {
+            Edit::Set { cell: _, value: _ } => false,
+            Edit::Remove { cell: _ } => false,
+            Edit::Copy { from, to: _ } => *from == cell,
+        }
+    }
+
+    /// Whether it writes the register, and reads none.
+    fn overwrites(&self, other: u8) -> bool
+        ensures { result ≡ overwrites self.now other }
+    {
+        match self {
+            Edit::Set { cell, value: _ } => *cell == other,
+            Edit::Remove { cell } => *cell == other,
+            Edit::Copy { from: _, to: _ } => false,
+        }
+    }
+}
+
+impl Registers {
+    pub fn new(alloc: Global) -> Registers
+        ensures { result.cells.items ≡ [] }
+    {
+        Registers {
+            cells: Vec::new(alloc),
+        }
+    }
+
+    /// The content of a register.
+    pub fn get(&self, cell: u8) -> Option<u32>
+        ensures { result ≡ content self.now.cells.items cell }
+    {
+        let at = cell as usize;
+        if at < self.cells.len() {
+            self.cells[at]
+        } else {
+            None
+        }
+    }
+}
+
+impl Document for Registers {
+    type Op = Edit;
+
+    type Before = Option<u32>;
+
+    ghost Meaning = { ℕ → Option ℕ };
+
+    ghost meaning = { λ d. content d.cells.items };
+
+    ghost rules = { rules };
+
+    ghost is_admitted = { λ d e. target_of e.op < length d.cells.items };
+
+    ghost laws = { registers_laws };
+
+    fn admit(&mut self, _stamp: Stamp, op: &Edit) -> Result<(), AllocError> {
+        let target = op.target() as usize;
+        while self.cells.len() <= target {
+            self.cells.push(None)?;
+        }
+        Ok(())
+    }
+
+    fn apply<L: Ledger>(&mut self, _stamp: Stamp, op: &Edit, steps: &mut Steps<L>) -> Option<u32> {
+        steps.tick();
+        let target = op.target() as usize;
+        let old = self.cells[target];
+        let new = match op {
+            Edit::Set { cell: _, value } => Some(*value),
+            Edit::Remove { cell: _ } => None,
+            Edit::Copy { from, to: _ } => self.get(*from),
+        };
+        self.cells[target] = new;
+        old
+    }
+
+    fn undo<L: Ledger>(
+        &mut self,
+        _stamp: Stamp,
+        op: &Edit,
+        before: Option<u32>,
+        steps: &mut Steps<L>,
+    ) {
+        steps.tick();
+        let target = op.target() as usize;
+        self.cells[target] = before;
+    }
+
+    fn independent(_s: Stamp, e: &Edit, _t: Stamp, f: &Edit) -> bool {
+        e.target() != f.target() && !e.reads(f.target()) && !f.reads(e.target())
+    }
+
+    fn covers(_t: Stamp, f: &Edit, _s: Stamp, e: &Edit) -> bool {
+        match e {
+            Edit::Set { cell, value: _ } => f.overwrites(*cell),
+            Edit::Remove { cell } => f.overwrites(*cell),
+            Edit::Copy { from: _, to: _ } => false,
+        }
+    }
+
+    fn splice(
+        _s: Stamp,
+        e: &Edit,
+        _t: Stamp,
+        _f: &Edit,
+        before: Option<u32>,
+    ) -> (Option<u32>, Option<u32>) {
+        let second = match e {
+            Edit::Set { cell: _, value } => Some(*value),
+            Edit::Remove { cell: _ } => None,
+            Edit::Copy { from: _, to: _ } => before,
+        };
+        (before, second)
+    }
+}
