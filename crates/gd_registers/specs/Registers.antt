@@ -8,6 +8,7 @@ use Rattle.gd_repair.specs.Repair.{Stamped, Rules, Laws}
 use Rattle.gd_registers.specs.declared.registers.Edit.{Edit}
 use Rattle.gd_registers.specs.declared.registers.Edit.TheVariants.{Set, Remove, Copy}
 
+-- the register that the edit writes
 abbrev pub target_of : Edit → ℕ
 target_of (Set cell value) = cell
 target_of (Remove cell) = cell
@@ -29,6 +30,7 @@ overwrites (Copy from to) k = false
 abbrev pub content : List (Option ℕ) → ℕ → Option ℕ
 content cells = λ k. slice_index_or cells k None
 
+-- the registers with v in t
 abbrev pub put : ℕ → Option ℕ → (ℕ → Option ℕ) → ℕ → Option ℕ
 put t v m = λ k. cond (k == t) v (m k)
 
@@ -38,9 +40,11 @@ value_of (Set cell value) m = Some value
 value_of (Remove cell) m = None
 value_of (Copy from to) m = m from
 
+-- neither writes what the other one writes or reads
 abbrev pub are_independent : Edit → Edit → Bool
 are_independent e f = not (target_of e == target_of f) && (not (reads e (target_of f)) && not (reads f (target_of e)))
 
+-- f writes what the edit writes, and reads nothing; a copy is covered by nothing
 abbrev pub is_covered_by : Edit → Edit → Bool
 is_covered_by (Set cell value) f = overwrites f cell
 is_covered_by (Remove cell) f = overwrites f cell
@@ -52,6 +56,7 @@ second_before (Set cell value) b = Some value
 second_before (Remove cell) b = None
 second_before (Copy from to) b = b
 
+-- how edits change what the registers hold
 abbrev pub rules : Rules (Stamped Edit) (Option ℕ) (ℕ → Option ℕ)
 rules = record {
   apply = λ e m. put (target_of e.op) (value_of e.op m) m;

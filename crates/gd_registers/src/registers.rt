@@ -1,3 +1,5 @@
+//! Registers under numbers, which events set, remove and copy.
+
 ghost use Rattle.std.specs.Prelude.{◌≡◌, ℕ, ◌+◌, ◌<◌, ◌≤◌, List, [], length, Option};
 ghost use Rattle.gd_registers.specs.Registers.{target_of, reads, overwrites, content, rules, registers_laws};
 
@@ -9,18 +11,22 @@ use std::sync::ledger::Ledger;
 /// What changes a register.
 #[derive(Clone, Copy, Debug)]
 pub enum Edit {
+    /// Puts a value into a register.
     Set { cell: u8, value: u32 },
+    /// Empties a register.
     Remove { cell: u8 },
+    /// Puts into a register what another one holds, a value or nothing.
     Copy { from: u8, to: u8 },
 }
 
-/// Registers that hold nothing until they are set.
+/// Registers with the numbers from 0 to 255, which hold nothing until they are set.
 #[derive(Drop)]
 pub struct Registers {
     cells: Vec<Option<u32>>,
 }
 
 impl Edit {
+    /// The register that it writes.
     fn target(&self) -> u8
         ensures { result ≡ target_of self.now }
     {
@@ -31,6 +37,7 @@ impl Edit {
         }
     }
 
+    /// Whether it reads the register.
     fn reads(&self, cell: u8) -> bool
         ensures { result ≡ reads self.now cell }
     {
@@ -54,6 +61,7 @@ impl Edit {
 }
 
 impl Registers {
+    /// Registers that hold nothing. It takes no memory.
     pub fn new(alloc: Global) -> Registers
         ensures { result.cells.items ≡ [] }
     {
@@ -62,7 +70,7 @@ impl Registers {
         }
     }
 
-    /// The content of a register.
+    /// What a register holds: a value or nothing.
     pub fn get(&self, cell: u8) -> Option<u32>
         ensures { result ≡ content self.now.cells.items cell }
     {
