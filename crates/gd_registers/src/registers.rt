@@ -107,7 +107,6 @@ impl Document for Registers {
     }
 
     fn apply<L: Ledger>(&mut self, _stamp: Stamp, op: &Edit, steps: &mut Steps<L>) -> Option<u32> {
-        steps.tick();
         let target = op.target() as usize;
         let old = self.cells[target];
         let new = match op {
@@ -116,6 +115,7 @@ impl Document for Registers {
             Edit::Copy { from, to: _ } => self.get(*from),
         };
         self.cells[target] = new;
+        steps.tick();
         old
     }
 
