@@ -1,6 +1,8 @@
-//! What every crate speaks of: stamps, labels, names, notes, shapes, styles, items, short lists, faults of reading, and steps.
+//! What every crate speaks of: stamps, labels, names, notes, shapes, styles, items, short lists, edits, offers, faults and
+//! refusals, and steps.
 #![tactic(auto)]
 
+mod edit;
 mod fault;
 mod ids;
 mod item;
@@ -8,13 +10,17 @@ mod label;
 mod member;
 mod name;
 mod note;
+mod offer;
 mod place;
 mod ranges;
+mod refusal;
 mod shape;
+mod site_status;
 mod stamp;
 mod steps;
 mod style;
 
+pub use edit::Edit;
 pub use fault::{FieldFault, FieldWhy, LogWhy, WireFault, WireWhy};
 pub use ids::Ids;
 pub use item::{Item, ShapeItem};
@@ -22,9 +28,12 @@ pub use label::{Label, LabelFault};
 pub use member::{Member, Members};
 pub use name::Name;
 pub use note::Note;
+pub use offer::Offer;
 pub use place::Place;
 pub use ranges::{COLOUR_LIMIT, PLACE_LIMIT, SIZE_LIMIT, WIDTH_LIMIT};
+pub use refusal::{EditRefusal, FrameFault, LineFault, OverAck, Refusal};
 pub use shape::Shape;
+pub use site_status::SiteStatus;
 pub use stamp::Stamp;
 pub use steps::Steps;
 pub use style::Style;

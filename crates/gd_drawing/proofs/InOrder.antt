@@ -1,13 +1,12 @@
 -- Events in the order of their stamps, and the induction over them: the board of a list of events lists its drawing.
-use Rattle.std.proofs.Common.{◌≡◌, Bool, true, false, cond, not, ◌&&◌, List, [], ◌∷◌, fold, refl, sym, ap, ◌∙◌, Ordering}
+use Rattle.std.proofs.Common.{◌≡◌, Bool, true, false, cond, not, ◌&&◌, List, [], ◌∷◌, fold, refl, sym, ap, ◌∙◌}
 use Rattle.std.specs.Prelude.{IsTrue}
 use Rattle.std.specs.List.{list_all}
 use Rattle.std.specs.FinMap as map_of
-use Rattle.std.specs.Ordering.{is_lt, is_eq, ordering_reverse}
-use Rattle.std.specs.declared.cmp.Ordering.TheVariants.{Less, Equal, Greater}
 use Rattle.std.proofs.lemmas.Bool.{and_parts, not-true}
 use Rattle.gd_base.specs.Stamps.{Stamp, stamp_cmp, is_same, is_before}
-use Rattle.gd_base.proofs.StampLemmas.{stamp_cmp-total, is_same-comm}
+use Rattle.gd_base.proofs.StampLemmas.{is_same-comm}
+use Rattle.gd_base.proofs.StampOrder.{is_before-other_way}
 use Rattle.gd_events.specs.Events.{Event}
 use Rattle.gd_events.specs.Ordered.{inserted, ordered, is_new, are_distinct}
 use Rattle.gd_events.proofs.OrderLemmas.{NoneBefore, InOrder, InOrder-ordered}
@@ -94,23 +93,13 @@ abbrev pub is_rising : List Event → Bool
 is_rising [] = true
 is_rising (e ∷ es) = all_after e.stamp es && is_rising es
 
--- what is neither less nor equal is greater
-other_way_by : (r q : Ordering) → r ≡ ordering_reverse q → is_lt q ≡ false → is_eq q ≡ false → is_lt r ≡ true
-other_way_by r Less e a b = cc
-other_way_by r Equal e a b = cc
-other_way_by r Greater e a b = ap is_lt e
-
--- of two stamps one is before the other, or they are the same
-other_way : (s t : Stamp) → is_before s t ≡ false → is_same s t ≡ false → is_before t s ≡ true
-other_way s t a b = other_way_by (stamp_cmp t s) (stamp_cmp s t) (stamp_cmp-total.antisymm t s) a b
-
 -- where none comes before e, and none has its stamp, all come after it
 after-new : (e : Event) (es : List Event) → NoneBefore e es → is_new es e ≡ true → all_after e.stamp es ≡ true
 after-new e [] h n = refl
 after-new e (f ∷ fs) h n =
     let parts = and_parts (not (is_same e.stamp f.stamp)) (is_new fs e) n in
     let apart : is_same f.stamp e.stamp ≡ false = is_same-comm f.stamp e.stamp ∙ not-true (is_same e.stamp f.stamp) parts.0 in
-    λ i. other_way f.stamp e.stamp h.0 apart i && after-new e fs h.1 parts.1 i
+    λ i. is_before-other_way f.stamp e.stamp h.0 apart i && after-new e fs h.1 parts.1 i
 
 -- events in order with distinct stamps rise
 rising : (es : List Event) → InOrder es → are_distinct es ≡ true → is_rising es ≡ true
