@@ -7,6 +7,10 @@ pub mod Objects
 pub mod Forms
 pub mod Drawing
 pub mod Board
+pub mod Undoing
+pub mod Relations
+pub mod Splices
+pub mod Arrivals
 pub mod Shown
 pub mod Text
 pub mod Effects

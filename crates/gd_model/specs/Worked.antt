@@ -179,6 +179,39 @@ effect_before_cause =
     ∷ event 1 1 1 (Create Rect (pos 0) (pos 0) (pos 10) (pos 10) [])
     ∷ []
 
+-- a rect, its moves, and the moves and the delete of another site that come late
+abbrev pub move_to : ℕ → ℕ → ℤ → Event
+move_to clock site x = event clock site clock (Move (at_stamp 1 1) x x)
+
+abbrev pub moves_held : List Event
+moves_held = event 1 1 1 (square (pos 0)) ∷ move_to 2 1 (pos 50) ∷ move_to 3 1 (pos 60) ∷ []
+
+abbrev pub late_move : Event
+late_move = move_to 2 2 (pos 90)
+
+abbrev pub late_delete : Event
+late_delete = event 2 3 1 (Delete (at_stamp 1 1))
+
+-- Shapes of two sites. A late group takes 2.1, which 4.1 takes from it, and the move of 4.1 depends on 4.1 alone.
+abbrev pub tied_held : List Event
+tied_held =
+    event 1 1 1 (square (pos 0))
+    ∷ event 2 1 2 (square (pos 20))
+    ∷ event 3 1 3 (Raise (at_stamp 1 1))
+    ∷ event 4 1 4 (Group (member 1 1 (pos 0) (pos 0) ∷ member 2 1 (pos 0) (pos 0) ∷ []))
+    ∷ event 5 1 5 (Move (at_stamp 4 1) (pos 5) (pos 5))
+    ∷ event 1 2 1 (square (pos 40))
+    ∷ []
+
+abbrev pub late_group : Event
+late_group = event 3 2 2 (Group (member 1 2 (pos 0) (pos 0) ∷ member 2 1 (pos 0) (pos 0) ∷ []))
+
+abbrev pub undone_by_the_group : List Event
+undone_by_the_group =
+    event 4 1 4 (Group (member 1 1 (pos 0) (pos 0) ∷ member 2 1 (pos 0) (pos 0) ∷ []))
+    ∷ event 5 1 5 (Move (at_stamp 4 1) (pos 5) (pos 5))
+    ∷ []
+
 abbrev pub end_alone : List (List ℕ)
 end_alone = codes "end 0\n" ∷ []
 

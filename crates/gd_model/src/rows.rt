@@ -1,15 +1,19 @@
 //! The definitions, computed on worked rows.
 
-ghost use Rattle.std.specs.Prelude.{◌≡◌, ◌++◌, ◌∷◌, [], Ok, Err, take};
+ghost use Rattle.std.specs.Prelude.{◌≡◌, ◌++◌, ◌∷◌, [], Ok, Err, pos, take};
 ghost use Rattle.gd_base.specs.declared.fault.LogWhy.TheVariants.{Short, Magic, Version, Field, FutureId, MemberOrder, NoSite, Turn, Backdated};
 ghost use Rattle.gd_outside.specs.declared.status.Status.TheVariants as status;
 ghost use Rattle.gd_base.specs.declared.fault.WireWhy.TheVariants as wire;
+ghost use Rattle.gd_model.specs.declared.before.Before.TheVariants.{Place};
+ghost use Rattle.gd_repair.specs.Repair.Outcome.{applied, dropped, reworked};
 ghost use Rattle.gd_model.specs.FrameBytes.{frame, frame_bytes};
 ghost use Rattle.gd_model.specs.LogBytes.{log};
 ghost use Rattle.gd_model.specs.Drawing.{picture};
+ghost use Rattle.gd_model.specs.Splices.{splice};
+ghost use Rattle.gd_model.specs.Arrivals.{drawn, all_drawn, outcome_of, total_cost};
 ghost use Rattle.gd_model.specs.Text.{text};
 ghost use Rattle.gd_model.specs.SlowRun.{slow_effects, slow_end, usage_line};
-ghost use Rattle.gd_model.specs.Worked.{header, header_bytes, empty_log, tie_log, tie_events, tie_text, rank_events, rank_text, effect_before_cause, end_alone, replay_words, other_words, prints_of, cut_text, moved_log, moved_events, moved_text, styled_log, styled_events, styled_text, no_tag_log, grouped_log, grouped_events, unordered_log, one_member_log, many_members_log, regrouped_events, regrouped_text, nested_events, nested_text, no_magic, no_version, no_field, future_log, future_resize_log, no_colour_log, no_site_log, turn_log, backdated_log, fault_at, frame_row, frame_value, frame_of_version_2, frame_of_site_17, frame_of_another_site, frame_above_its_count, frame_above_its_clock, frame_of_number_0, frame_of_no_kind, frame_too_wide, frame_without_its_label, misread};
+ghost use Rattle.gd_model.specs.Worked.{header, header_bytes, empty_log, tie_log, tie_events, tie_text, rank_events, rank_text, effect_before_cause, end_alone, replay_words, other_words, prints_of, cut_text, moved_log, moved_events, moved_text, styled_log, styled_events, styled_text, no_tag_log, grouped_log, grouped_events, unordered_log, one_member_log, many_members_log, regrouped_events, regrouped_text, nested_events, nested_text, no_magic, no_version, no_field, future_log, future_resize_log, no_colour_log, no_site_log, turn_log, backdated_log, fault_at, frame_row, frame_value, frame_of_version_2, frame_of_site_17, frame_of_another_site, frame_above_its_count, frame_above_its_clock, frame_of_number_0, frame_of_no_kind, frame_too_wide, frame_without_its_label, misread, at_stamp, move_to, moves_held, late_move, late_delete, tied_held, late_group, undone_by_the_group};
 
 /// A log without events prints no object, with its closed gate and without.
 pub fn an_empty_log_prints_its_end()
@@ -59,6 +63,30 @@ pub fn deleted_and_dissolved_groups_are_seen_through()
 /// A delete that comes before the create of its object by arrival alone still deletes it.
 pub fn an_effect_before_its_cause_counts()
     ensures { text (picture effect_before_cause) ≡ end_alone }
+{}
+
+/// A late move is dropped by the next move of its object, and a late delete has that one redone.
+pub fn a_late_event_is_dropped_or_has_others_redone()
+    ensures dropped { outcome_of moves_held late_move ≡ dropped (drawn (move_to 3 1 (pos 60))) }
+    ensures redone { outcome_of (moves_held ++ late_move ∷ []) late_delete ≡ reworked (all_drawn (move_to 3 1 (pos 60) ∷ [])) }
+    ensures first { outcome_of [] late_move ≡ applied }
+    ensures steps { total_cost (moves_held ++ late_move ∷ late_delete ∷ []) ≡ 6 }
+{}
+
+/// Where a move is dropped, its before-value is that of the move that drops it, which now finds the place that the dropped one sets.
+pub fn a_dropped_event_is_spliced_in()
+    ensures { splice (at_stamp 2 2) late_move.op (at_stamp 3 1) (move_to 3 1 (pos 60)).op (Place (pos 50) (pos 50)) ≡ (Place (pos 50) (pos 50), Place (pos 90) (pos 90)) }
+{}
+
+/// An event that depends on a late one through another event alone is undone with it.
+pub fn dependents_of_dependents_are_redone()
+    ensures { outcome_of tied_held late_group ≡ reworked (all_drawn undone_by_the_group) }
+{}
+
+/// A raise doesn't depend on that of another object, and a delete covers the create of its object.
+pub fn what_others_do_costs_nothing()
+    ensures ranks { total_cost rank_events ≡ 4 }
+    ensures before_its_cause { total_cost effect_before_cause ≡ 1 }
 {}
 
 /// The first fault of a log, with its place as the number of bytes that stand from it on.
