@@ -1,3 +1,4 @@
-pub mod SlotLemmas
-pub mod AtLemmas
-pub mod NewObjectLemmas
+mod SlotLemmas
+mod AtLemmas
+mod NewObjectLemmas
+mod RelationLemmas

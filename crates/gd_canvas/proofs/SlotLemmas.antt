@@ -2,12 +2,13 @@
 use Rattle.std.proofs.Common.{◌≡◌, Bool, true, false, cond, ◌||◌, List, [], ◌∷◌, ◌++◌, Option, None, Some, refl, sym, ap, ◌∙◌, if◌then◌else◌}
 use Rattle.std.specs.Prelude.{is_some, unwrap_or}
 use Rattle.std.specs.FinMap as map_of
+use Rattle.std.specs.List.{list_any}
 use Rattle.std.specs.Map.{lookup, set_value}
 use Rattle.std.specs.Option.{option_flatten}
 use Rattle.indexmap.specs.IndexMap.{insert_entry}
 use Rattle.gd_base.specs.contracts.stamp.StampPartialEq.TheImpl.{eq-value}
 use Rattle.gd_base.specs.Stamps.{Stamp, stamp_cmp, is_same}
-use Rattle.gd_base.proofs.StampLemmas.{stamp_cmp-total, is_same-true, is_same-eq}
+use Rattle.gd_base.proofs.StampLemmas.{stamp_cmp-total, is_same-true, is_same-refl, is_same-eq}
 use Rattle.gd_model.specs.declared.object.Object.{Object}
 use Rattle.gd_model.specs.Board.{Board, put_at}
 use Rattle.gd_drawing.proofs.Lookups.{get-put_at, same_board}
@@ -102,11 +103,11 @@ set_value-present (e ∷ es) id w h =
 -- ---- what a method that lends a slot leaves. es are the entries of the map, and now is the canvas.
 
 -- the map holds x in the slot of that id
-slot_holds : (es now : Slots) (id : Stamp) (x : Option Object) → es ≡ now → Some x ≡ lookup (eq-value.it id) es → x ≡ map_of.get (board_of now) id
+pub slot_holds : (es now : Slots) (id : Stamp) (x : Option Object) → es ≡ now → Some x ≡ lookup (eq-value.it id) es → x ≡ map_of.get (board_of now) id
 slot_holds es now id x view h = ap option_flatten h ∙ sym (get-slot es id) ∙ ap (λ s. map_of.get (board_of s) id) view
 
 -- the map has no slot of that id
-slot_absent : (es now : Slots) (id : Stamp) → es ≡ now → None ≡ lookup (eq-value.it id) es → map_of.get (board_of now) id ≡ None
+pub slot_absent : (es now : Slots) (id : Stamp) → es ≡ now → None ≡ lookup (eq-value.it id) es → map_of.get (board_of now) id ≡ None
 slot_absent es now id view h = ap (λ s. map_of.get (board_of s) id) (sym view) ∙ get-slot es id ∙ sym (ap option_flatten h)
 
 -- the slot was there with x in it, and is left with what f makes of x
@@ -145,28 +146,72 @@ insert-again : (b : Board) (id : Stamp) (o : Object) → map_of.get b id ≡ Som
 insert-again b id o e =
     same_board _ _ (λ q. map_of.get-insert stamp_cmp-total b id o q ∙ again_cell (is_same q id) (map_of.get b id) (map_of.get b q) o (λ t. ap (map_of.get b) (sym (is_same-true q id t))) e)
 
-filled : (b : Board) (id : Stamp) (new : Object) (x : Option Object) → map_of.get b id ≡ x → map_of.insert b id (unwrap_or x new) ≡ cond (is_some x) b (map_of.insert b id new)
-filled b id new None e = refl
-filled b id new (Some o) e = insert-again b id o e
+filled_by : (b : Board) (id : Stamp) (new : Object) (x : Option Object) → map_of.get b id ≡ x → map_of.insert b id (unwrap_or x new) ≡ cond (is_some x) b (map_of.insert b id new)
+filled_by b id new None e = refl
+filled_by b id new (Some o) e = insert-again b id o e
+
+-- a slot that is filled where it was empty
+pub filled : (b : Board) (id : Stamp) (new : Object) → put_at b id (Some (unwrap_or (map_of.get b id) new)) ≡ cond (map_of.contains_key b id) b (map_of.insert b id new)
+filled b id new = filled_by b id new (map_of.get b id) refl
 
 flatten-or : (x : Option (Option Object)) → unwrap_or x None ≡ option_flatten x
 flatten-or None = refl
 flatten-or (Some y) = refl
 
 -- the slot holds x, which is None where it is new
-pub entry_holds : (es now : Slots) (id : Stamp) (x : Option Object) → es ≡ now → x ≡ unwrap_or (lookup (eq-value.it id) es) None → x ≡ map_of.get (board_of now) id
+entry_holds : (es now : Slots) (id : Stamp) (x : Option Object) → es ≡ now → x ≡ unwrap_or (lookup (eq-value.it id) es) None → x ≡ map_of.get (board_of now) id
 entry_holds es now id x view h = h ∙ flatten-or (lookup (eq-value.it id) es) ∙ sym (get-slot es id) ∙ ap (λ s. map_of.get (board_of s) id) view
 
--- the new object stands where none was
-pub entry-board : (es now fs : Slots) (id : Stamp) (x w : Option Object) (new : Object) → es ≡ now → x ≡ unwrap_or (lookup (eq-value.it id) es) None
-    → fs ≡ insert_entry eq-value.it es id w → w ≡ Some (unwrap_or x new)
-    → board_of fs ≡ (if map_of.contains_key (board_of now) id then board_of now else map_of.insert (board_of now) id new)
-entry-board es now fs id x w new view h written is =
+same_by : (b : Board) (id : Stamp) (x : Option Object) → map_of.get b id ≡ x → put_at b id x ≡ b
+same_by b id None e = remove-absent b id e
+same_by b id (Some o) e = insert-again b id o e
+
+-- a slot that is made, or was there, holds what the board had
+pub entry-kept : (es now fs : Slots) (id : Stamp) (x : Option Object) → es ≡ now → x ≡ unwrap_or (lookup (eq-value.it id) es) None
+    → fs ≡ insert_entry eq-value.it es id x → board_of fs ≡ board_of now
+entry-kept es now fs id x view h written =
     ap board_of written
-    ∙ (λ i. board_of (insert_entry (same_is i) (view i) id ((is ∙ ap (λ o. Some (unwrap_or o new)) (entry_holds es now id x view h)) i)))
-    ∙ board-inserted now id (Some (unwrap_or (map_of.get (board_of now) id) new))
-    ∙ filled (board_of now) id new (map_of.get (board_of now) id) refl
+    ∙ (λ i. board_of (insert_entry (same_is i) (view i) id (entry_holds es now id x view h i)))
+    ∙ board-inserted now id (map_of.get (board_of now) id)
+    ∙ same_by (board_of now) id (map_of.get (board_of now) id) refl
 
 -- the slot stands behind the others, unless it was there
 pub entry-ids : (es now fs : Slots) (id : Stamp) (w : Option Object) → es ≡ now → fs ≡ insert_entry eq-value.it es id w → ids fs ≡ with_id id (ids now)
 entry-ids es now fs id w view written = ap ids written ∙ (λ i. ids (insert_entry (same_is i) (view i) id w)) ∙ ids-inserted now id w
+
+-- a slot that is there is found
+pub no_slot : (es now : Slots) (id : Stamp) → es ≡ now → None ≡ lookup (eq-value.it id) es → has_slot id now ≡ true → ⊥
+no_slot es now id view h there =
+    let found : is_some (lookup (is_same id) es) ≡ true = found-same es id ∙ ap (has_slot id) view ∙ there in
+    let none : false ≡ is_some (lookup (is_same id) es) = ap is_some (h ∙ ap (λ same. lookup (same id) es) same_is) in
+    cc
+
+-- ---- what is admitted
+
+or-left : (a b : Bool) → a ≡ true → (a || b) ≡ true
+or-left true b e = refl
+or-left false b e = cc
+
+any-last : (p : Stamp → Bool) (all : List Stamp) (id : Stamp) → list_any p (all ++ id ∷ []) ≡ (list_any p all || p id)
+any-last p [] id = elim (p id) as (λ t. (t || false) ≡ t) [ true ↦ refl | false ↦ refl ]
+any-last p (x ∷ xs) id = elim (p x) as (λ t. (t || list_any p (xs ++ id ∷ [])) ≡ ((t || list_any p xs) || p id)) [ true ↦ refl | false ↦ any-last p xs id ]
+
+with_id-more : (p : Stamp → Bool) (t : Bool) (id : Stamp) (all : List Stamp) → list_any p all ≡ true → list_any p (cond t all (all ++ id ∷ [])) ≡ true
+with_id-more p true id all h = h
+with_id-more p false id all h = any-last p all id ∙ or-left (list_any p all) (p id) h
+
+-- the slots that were there are there
+pub with_id-kept : (q id : Stamp) (all : List Stamp) → list_any (is_same q) all ≡ true → list_any (is_same q) (with_id id all) ≡ true
+with_id-kept q id all h = with_id-more (is_same q) (list_any (is_same id) all) id all h
+
+or-right : (a b : Bool) → b ≡ true → (a || b) ≡ true
+or-right true b e = refl
+or-right false b e = e
+
+with_id-new : (t : Bool) (id : Stamp) (all : List Stamp) → list_any (is_same id) all ≡ t → list_any (is_same id) (cond t all (all ++ id ∷ [])) ≡ true
+with_id-new true id all e = e
+with_id-new false id all e = any-last (is_same id) all id ∙ or-right (list_any (is_same id) all) (is_same id id) (is_same-refl id)
+
+-- and the one that is made
+pub with_id-there : (id : Stamp) (all : List Stamp) → list_any (is_same id) (with_id id all) ≡ true
+with_id-there id all = with_id-new (list_any (is_same id) all) id all refl

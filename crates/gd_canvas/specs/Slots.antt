@@ -1,9 +1,8 @@
--- The slots of a drawing, and the board that they hold. There is a slot for each id that was ever made.
+-- The slots of a drawing, and the board that they hold. There is a slot for each id that an admitted event makes or deletes.
 use Rattle.std.specs.Prelude.{◌≡◌, ℕ, Bool, true, false, if◌then◌else◌, List, [], ◌∷◌, ◌++◌, Option, None, Some, map, slice_get}
 use Rattle.std.specs.FinMap as map_of
 use Rattle.std.specs.List.{list_any}
 use Rattle.gd_base.specs.Stamps.{Stamp, is_same}
-use Rattle.gd_events.specs.Events.{Event}
 use Rattle.gd_events.specs.declared.op.Op.{Op}
 use Rattle.gd_events.specs.declared.op.Op.TheVariants.{Create, Delete, Move, Resize, Restyle, Retext, Group, Ungroup, Raise}
 use Rattle.gd_model.specs.declared.object.Object.{Object}
@@ -30,21 +29,29 @@ has_slot id es = list_any (is_same id) (ids es)
 abbrev pub with_id : Stamp → List Stamp → List Stamp
 with_id id all = if list_any (is_same id) all then all else all ++ id ∷ []
 
--- the operation makes an object, with the event's stamp as its id
-abbrev pub makes_object : Op → Bool
-makes_object (Create kind x y w h label) = true
-makes_object (Group members) = true
-makes_object (Delete id) = false
-makes_object (Move id x y) = false
-makes_object (Resize id w h) = false
-makes_object (Restyle id style) = false
-makes_object (Retext id label) = false
-makes_object (Ungroup id) = false
-makes_object (Raise id) = false
+-- the ids of the slots with one for what the event makes or deletes
+abbrev pub ids_with : Stamp → Op → List Stamp → List Stamp
+ids_with stamp (Create kind x y w h label) all = with_id stamp all
+ids_with stamp (Group members) all = with_id stamp all
+ids_with stamp (Delete id) all = with_id id all
+ids_with stamp (Move id x y) all = all
+ids_with stamp (Resize id w h) all = all
+ids_with stamp (Restyle id style) all = all
+ids_with stamp (Retext id label) all = all
+ids_with stamp (Ungroup id) all = all
+ids_with stamp (Raise id) all = all
 
--- the ids of the slots after the event
-abbrev pub ids_with : Event → List Stamp → List Stamp
-ids_with e all = if makes_object e.op then with_id e.stamp all else all
+-- there is a slot for what the event makes or deletes
+abbrev pub is_admitted : Stamp → Op → Slots → Bool
+is_admitted stamp (Create kind x y w h label) es = has_slot stamp es
+is_admitted stamp (Group members) es = has_slot stamp es
+is_admitted stamp (Delete id) es = has_slot id es
+is_admitted stamp (Move id x y) es = true
+is_admitted stamp (Resize id w h) es = true
+is_admitted stamp (Restyle id style) es = true
+is_admitted stamp (Retext id label) es = true
+is_admitted stamp (Ungroup id) es = true
+is_admitted stamp (Raise id) es = true
 
 -- the object of a slot with its id, where there is such a slot and it isn't empty
 abbrev pub object_of : Option (Stamp × Option Object) → Option (Stamp × Object)

@@ -1,13 +1,15 @@
-//! The drawing, as a slot for each object, and what each event does to it.
+//! The drawing, as a slot for each object, and what each event does to it and how that is undone.
 #![tactic(auto)]
 
 mod canvas;
+mod changes;
 mod contents;
-mod drawing;
+mod events;
 pub mod laws;
 mod new_objects;
+mod relations;
 mod slots;
+mod splices;
 
 pub use canvas::Canvas;
-pub use drawing::draw;
-pub use gd_model::{Kind, Link, Object};
+pub use gd_model::{Before, Kind, Link, Object, OldLink, OldLinks};
