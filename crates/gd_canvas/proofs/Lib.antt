@@ -2,3 +2,4 @@ mod SlotLemmas
 mod AtLemmas
 mod NewObjectLemmas
 mod RelationLemmas
+mod Admitted

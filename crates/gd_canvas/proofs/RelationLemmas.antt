@@ -1,9 +1,7 @@
 -- Touches of an operation as a first one and the links of members, and what each form covers.
-use Rattle.std.proofs.Common.{◌≡◌, Bool, true, false, not, ◌&&◌, List, [], ◌∷◌, map, refl, sym, ap, ◌∙◌}
-use Rattle.std.specs.Prelude.{Option, None, Some}
+use Rattle.std.proofs.Common.{◌≡◌, Bool, true, false, ◌&&◌, List, [], ◌∷◌, map, refl, sym, ap, ◌∙◌}
 use Rattle.std.specs.List.{list_all}
 use Rattle.gd_base.specs.Stamps.{Stamp, is_same}
-use Rattle.gd_base.specs.declared.member.Member.{Member}
 use Rattle.gd_events.specs.declared.op.Op.{Op}
 use Rattle.gd_events.specs.declared.op.Op.TheVariants.{Create, Delete, Move, Resize, Restyle, Retext, Group, Ungroup, Raise}
 use Rattle.gd_model.specs.declared.before.Before.{Before}
@@ -11,11 +9,11 @@ use Rattle.gd_model.specs.declared.content.Content.{Content}
 use Rattle.gd_model.specs.declared.content.Content.TheVariants.{ToPlace, ToSize, ToStroke, ToFill, ToWidth, ToText, ToFlag, ToRank}
 use Rattle.gd_model.specs.declared.content.Part.TheVariants.{Whole}
 use Rattle.gd_model.specs.Objects.{part_of, is_same_part}
-use Rattle.gd_model.specs.Forms.{Sets, Deletes, form}
+use Rattle.gd_model.specs.Forms.{Sets, form}
 use Rattle.gd_model.specs.Relations.{Touch, link_touch, touches, covers_by}
 use Rattle.gd_model.specs.Splices.{splice_by}
 use Rattle.gd_canvas.specs.Touches.{first_touch, members_of, is_same_touch}
-use Rattle.gd_canvas.specs.Splicing.{content_set, splice_set_by, splice_deleted_by}
+use Rattle.gd_canvas.specs.Splicing.{content_set, splice_set_by}
 
 all-mapped : {A B : Type 0} (p : B → Bool) (f : A → B) (xs : List A) → list_all (λ x. p (f x)) xs ≡ list_all p (map f xs)
 all-mapped p f [] = refl

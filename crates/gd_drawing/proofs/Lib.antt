@@ -8,3 +8,9 @@ pub mod Sizes
 pub mod Entries
 pub mod StackSteps
 pub mod InOrder
+pub mod ObjectParts
+pub mod Frames
+pub mod Inverse
+pub mod Covers
+pub mod DrawingParts
+pub mod DrawingLaws

@@ -13,10 +13,7 @@ use Rattle.gd_model.specs.Objects.{ranked, new_group, set, with_link, linked}
 use Rattle.gd_model.specs.Forms.{Form, Sets, Creates, Deletes, Groups, form}
 use Rattle.gd_model.specs.Drawing.{first_naming, link_given}
 use Rattle.gd_model.specs.Board.{Board, put_at, change, link_members, board_with, apply}
-
--- what a board answers at each id
-abbrev pub Lookup : Type 0
-Lookup = Stamp → Option Object
+use Rattle.gd_model.specs.Undoing.{Lookup}
 
 -- a look-up after an event
 abbrev pub after : Stamp → Form → Lookup → Lookup
