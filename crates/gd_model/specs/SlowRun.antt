@@ -7,10 +7,8 @@ use Rattle.gd_model.specs.LogBytes.{Header, LogFault, log}
 use Rattle.gd_model.specs.Drawing.{picture}
 use Rattle.gd_model.specs.Reading.{place}
 use Rattle.gd_model.specs.Text.{text, bad_log_line}
+use Rattle.gd_model.specs.Replies.{usage_line}
 use Rattle.gd_model.specs.Effects.{Effect, Print}
-
-abbrev pub usage_line : List ℕ
-usage_line = codes "usage: groupdesign COMMAND OPTIONS\n"
 
 -- what `replay` does with bytes that were read so, a log or none
 abbrev pub replayed_as : List ℕ → Result (Header × List Event) LogFault → List Effect

@@ -8,7 +8,8 @@ ghost use Rattle.gd_model.specs.FrameBytes.{frame, frame_bytes};
 ghost use Rattle.gd_model.specs.LogBytes.{log};
 ghost use Rattle.gd_model.specs.Drawing.{picture};
 ghost use Rattle.gd_model.specs.Text.{text};
-ghost use Rattle.gd_model.specs.SlowRun.{slow_effects, slow_end, usage_line};
+ghost use Rattle.gd_model.specs.SlowRun.{slow_effects, slow_end};
+ghost use Rattle.gd_model.specs.Replies.{usage_line};
 ghost use Rattle.gd_model.specs.Worked.{header, header_bytes, empty_log, tie_log, tie_events, tie_text, rank_events, rank_text, effect_before_cause, end_alone, replay_words, other_words, prints_of, cut_text, moved_log, moved_events, moved_text, styled_log, styled_events, styled_text, no_tag_log, grouped_log, grouped_events, unordered_log, one_member_log, many_members_log, regrouped_events, regrouped_text, nested_events, nested_text, no_magic, no_version, no_field, future_log, future_resize_log, no_colour_log, no_site_log, turn_log, backdated_log, fault_at, frame_row, frame_value, frame_of_version_2, frame_of_site_17, frame_of_another_site, frame_above_its_count, frame_above_its_clock, frame_of_number_0, frame_of_no_kind, frame_too_wide, frame_without_its_label, misread};
 
 /// A log without events prints no object, with its closed gate and without.
