@@ -2,8 +2,12 @@
 //! takes memory.
 #![tactic(auto)]
 
+mod answers;
+mod arrivals;
 mod colours;
+mod counts;
 mod faults;
+mod frames;
 mod items;
 mod laws;
 mod line;

@@ -15,6 +15,7 @@ use gd_base::Steps;
 use gd_effects::{print, status_of};
 use gd_log::replay;
 use gd_outside::{Sink, Source, Status, WordList};
+use gd_words::Reply;
 use std::alloc::Global;
 use std::sync::ledger::Ledger;
 
@@ -68,8 +69,6 @@ fn refuse_words<K: Sink>(output: &mut K) -> Status
         → EndsAs (Print usage_line ∷ []) Status.Usage result (outside input (K.seen output.old) journal link steps) (outside input (K.seen output.new) journal link steps) }
     ensures kinds { (result ≡ Status.Usage) ⊎ (result ≡ Status.WriteFault) }
 {
-    status_of(
-        print(output, b"usage: groupdesign COMMAND OPTIONS\n"),
-        Status::Usage,
-    )
+    let line = Reply::Usage.text();
+    status_of(print(output, line.as_slice()), Status::Usage)
 }
