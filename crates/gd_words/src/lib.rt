@@ -16,6 +16,8 @@ mod reply;
 mod reply_text;
 mod script;
 mod spelling;
+#[cfg(test)]
+mod tests;
 mod verbs;
 mod words;
 
