@@ -23,7 +23,7 @@ use gd_effects::{print, status_of};
 use gd_events::EventList;
 use gd_outside::{End, Sink, Source, Status};
 use gd_view::{Picture, write_text};
-use gd_words::ReplyText;
+use gd_words::Reply;
 use std::alloc::{AllocError, Global};
 use std::sync::ledger::Ledger;
 
@@ -101,7 +101,6 @@ fn refuse<K: Sink>(output: &mut K, at: u64, why: LogWhy) -> Status
     ensures kinds { IsShowEnd result }
     ensures end { result ≡ Status.NoMemory → ⊥ }
 {
-    let mut line = ReplyText::new();
-    line.put_bad_log(at, why);
+    let line = Reply::BadLog { at, why }.text();
     status_of(print(output, line.as_slice()), Status::BadLog)
 }

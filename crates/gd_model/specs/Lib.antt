@@ -13,6 +13,11 @@ pub mod Splices
 pub mod Arrivals
 pub mod Shown
 pub mod Text
+pub mod LineWords
+pub mod WordKinds
+pub mod Lines
+pub mod ScriptLines
+pub mod Replies
 pub mod Effects
 pub mod SlowRun
 pub mod Worked

@@ -2,10 +2,14 @@
 #![tactic(auto)]
 
 mod before;
+mod command;
 mod content;
 mod object;
 pub mod rows;
+mod verb;
 
 pub use before::{Before, OldLink, OldLinks};
+pub use command::{Command, ScriptLine};
 pub use content::{Content, Part};
 pub use object::{Kind, Link, Object};
+pub use verb::{ScriptVerb, Verb};

@@ -59,7 +59,8 @@ fn shape_word(kind: Shape) -> &'static [u8]
     }
 }
 
-fn push_parent(text: &mut ReplyText, parent: Option<Stamp>)
+/// Puts the id last, or that there is none.
+pub(crate) fn push_parent(text: &mut ReplyText, parent: Option<Stamp>)
     requires { length text.old ≤ 400 }
     ensures value { text.new ≡ text.old ++ parent_text parent }
     ensures grown { length text.new ≤ length text.old + 41 }

@@ -1,11 +1,13 @@
 ghost use Rattle.std.specs.Prelude.{◌≡◌, ◌≤◌, ◌+◌, ◌++◌, [], length, decimal};
 ghost use Rattle.std.specs.Fmt.{signed_decimal};
-ghost use Rattle.gd_model.specs.Text.{id_text, item_line, end_line, bad_log_line};
+ghost use Rattle.gd_model.specs.Text.{id_text, item_line, end_line};
+ghost use Rattle.gd_words.specs.Replies.{reply_text};
 
-use crate::faults::why_word;
 use crate::items::{push_head, push_look_of};
+use crate::reply::Reply;
+use crate::{answers, arrivals, counts, frames};
 use arrayvec::ArrayVec;
-use gd_base::{Item, LogWhy, Stamp};
+use gd_base::{Item, Stamp};
 use itoa::Buffer;
 use std::marker::Model;
 
@@ -62,17 +64,53 @@ impl ReplyText {
         self.word(b"\n");
     }
 
-    /// Makes it the line of a log's first fault, with its LF.
-    #[tactic(auto, unfolding(gd_model::specs::Text::bad_log_line))]
-    pub fn put_bad_log(&mut self, at: u64, why: LogWhy)
-        ensures { self.new ≡ bad_log_line at why }
+    /// Makes it the line of a reply, with its LF.
+    pub fn put(&mut self, reply: &Reply)
+        ensures { self.new ≡ reply_text reply.now }
     {
         self.clear();
-        self.word(b"bad log at ");
-        self.number(at);
-        self.word(b": ");
-        self.word(why_word(why));
-        self.word(b"\n");
+        match reply {
+            Reply::Ready { site, n } => answers::push_ready(self, *site, *n),
+            Reply::Done { id } => answers::push_done(self, *id),
+            Reply::Refused { why } => answers::push_refused(self, *why),
+            Reply::Item { item } => self.put_item(item),
+            Reply::End { count } => self.put_end(u64::from(*count)),
+            Reply::Status { status } => answers::push_status(self, *status),
+            Reply::Noted { number } => answers::push_noted(self, *number),
+            Reply::Who { site, note } => answers::push_who(self, *site, note),
+            Reply::Applied { id } => arrivals::push_applied(self, *id),
+            Reply::Dropped { id, by } => arrivals::push_dropped(self, *id, *by),
+            Reply::Reworked { id, count } => arrivals::push_reworked(self, *id, *count),
+            Reply::Backdated { id, clock, sure } => {
+                arrivals::push_backdated(self, *id, *clock, *sure)
+            }
+            Reply::BadFrame { fault } => frames::push_bad_frame(self, *fault),
+            Reply::NotTaken { fault } => frames::push_not_taken(self, *fault),
+            Reply::LongFrame => self.word(b"frame refused: TooLong\n"),
+            Reply::Polled { count } => frames::push_polled(self, *count),
+            Reply::LinkFault { count } => frames::push_link_fault(self, *count),
+            Reply::Mail { number } => frames::push_mail(self, *number),
+            Reply::Delivered { number } => frames::push_delivered(self, *number),
+            Reply::BadLog { at, why } => answers::push_bad_log(self, *at, *why),
+            Reply::Usage => self.word(b"usage: groupdesign COMMAND OPTIONS\n"),
+            Reply::LineLimit => self.word(b"line limit\n"),
+            Reply::Arrivals {
+                applied,
+                dropped,
+                reworked,
+                undone,
+            } => counts::push_arrivals(self, *applied, *dropped, *reworked, *undone),
+            Reply::SiteLine { site, status } => counts::push_site(self, *site, *status),
+            Reply::Churned {
+                edits,
+                refused,
+                sent,
+                delivered,
+                idle,
+            } => counts::push_churned(self, *edits, *refused, *sent, *delivered, *idle),
+            Reply::Same { yes: true } => self.word(b"same yes\n"),
+            Reply::Same { yes: false } => self.word(b"same no\n"),
+        }
     }
 
     fn clear(&mut self)

@@ -5,7 +5,8 @@ ghost use Rattle.gd_outside.specs.Causes.{Rose};
 ghost use Rattle.gd_outside.specs.Seen.{SeenSource, SeenJournal, SeenLink};
 ghost use Rattle.gd_outside.specs.Told.{told};
 ghost use Rattle.gd_model.specs.Effects.{Print};
-ghost use Rattle.gd_model.specs.SlowRun.{is_replay, slow_effects, slow_end, usage_line};
+ghost use Rattle.gd_model.specs.SlowRun.{is_replay, slow_effects, slow_end};
+ghost use Rattle.gd_model.specs.Replies.{usage_line};
 ghost use Rattle.gd_effects.specs.Outside.{outside};
 ghost use Rattle.gd_effects.specs.Endings.{EndsAs};
 ghost use Rattle.groupdesign.specs.Runs.{IsRunEnd};
@@ -14,6 +15,7 @@ use gd_base::Steps;
 use gd_effects::{print, status_of};
 use gd_log::replay;
 use gd_outside::{Sink, Source, Status, WordList};
+use gd_words::Reply;
 use std::alloc::Global;
 use std::sync::ledger::Ledger;
 
@@ -67,8 +69,6 @@ fn refuse_words<K: Sink>(output: &mut K) -> Status
         → EndsAs (Print usage_line ∷ []) Status.Usage result (outside input (K.seen output.old) journal link steps) (outside input (K.seen output.new) journal link steps) }
     ensures kinds { (result ≡ Status.Usage) ⊎ (result ≡ Status.WriteFault) }
 {
-    status_of(
-        print(output, b"usage: groupdesign COMMAND OPTIONS\n"),
-        Status::Usage,
-    )
+    let line = Reply::Usage.text();
+    status_of(print(output, line.as_slice()), Status::Usage)
 }

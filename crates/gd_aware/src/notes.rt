@@ -1,0 +1,81 @@
+ghost use Rattle.std.specs.Prelude.{◌≡◌, ◌≤◌, length};
+ghost use Rattle.gd_aware.specs.Notes.{no_note, no_notes, note_of, noted};
+
+use gd_base::Note;
+use std::marker::Model;
+
+/// The newest note of each site from 1 to 16, which contracts see as a list of 16 notes in the order of the sites.
+#[derive(Drop)]
+pub struct Notes {
+    notes: [Note; 16],
+}
+
+impl Model for Notes {
+    ghost use Rattle.std.specs.Prelude.{List};
+    ghost use Rattle.gd_base.specs.declared.note.Note as note;
+
+    ghost Value = { List note.Note };
+
+    ghost view = { λ n. n.notes };
+}
+
+impl Notes {
+    /// No note of any site.
+    pub fn new() -> Self
+        ensures { result ≡ no_notes }
+    {
+        Notes {
+            notes: [
+                none(),
+                none(),
+                none(),
+                none(),
+                none(),
+                none(),
+                none(),
+                none(),
+                none(),
+                none(),
+                none(),
+                none(),
+                none(),
+                none(),
+                none(),
+                none(),
+            ],
+        }
+    }
+
+    /// Keeps the note where its number is greater than that of the site's kept one. The notes of other sites stay.
+    pub fn put(&mut self, site: u8, note: Note)
+        requires above { 1 ≤ site }
+        requires below { site ≤ 16 }
+        ensures notes { self.new ≡ noted self.old site note }
+        ensures sites { length self.new ≡ 16 }
+    {
+        let kept = &mut self.notes[usize::from(site) - 1];
+        if kept.number < note.number {
+            *kept = note;
+        }
+    }
+
+    /// The kept note of the site, which is number 0 with neither name nor focus where there is none.
+    pub fn get(&self, site: u8) -> Note
+        requires above { 1 ≤ site }
+        requires below { site ≤ 16 }
+        ensures note { result ≡ note_of self.now site }
+        ensures sites { length self.now ≡ 16 }
+    {
+        self.notes[usize::from(site) - 1].copy()
+    }
+}
+
+fn none() -> Note
+    ensures { result ≡ no_note }
+{
+    Note {
+        number: 0,
+        name: None,
+        focus: None,
+    }
+}
