@@ -44,7 +44,7 @@ Reached seen [] = Unit {0}
 Reached seen (f ∷ fs) = (f.stamp.clock ≤ last_clock f.stamp.site seen) × Reached seen fs
 
 -- it stays so with an event behind them whose clock is above the last one of its site
-reached-push : (seen es : List Event) (e : Event) → last_clock e.stamp.site seen < e.stamp.clock → Reached seen es → Reached (seen ++ e ∷ []) (es ++ e ∷ [])
+pub reached-push : (seen es : List Event) (e : Event) → last_clock e.stamp.site seen < e.stamp.clock → Reached seen es → Reached (seen ++ e ∷ []) (es ++ e ∷ [])
 reached-push seen [] e above h = (omega (arith, last_clock-own seen e), tt)
 reached-push seen (f ∷ fs) e above h = (omega (arith, h.0, no_lower f.stamp.site seen e above), reached-push seen fs e above h.1)
 
@@ -62,7 +62,7 @@ distinct-cons : (f e : Event) (fs : List Event) → is_new fs f ≡ true → not
 distinct-cons f e fs new apart rest = rw (list_all-append (λ (g : Event). not (is_same f.stamp g.stamp)) fs (e ∷ []), new, apart, rest) refl
 
 -- distinct stamps stay distinct with an event behind them whose clock is above the last one of its site
-distinct-push : (seen es : List Event) (e : Event) → last_clock e.stamp.site seen < e.stamp.clock → Reached seen es → are_distinct es ≡ true → are_distinct (es ++ e ∷ []) ≡ true
+pub distinct-push : (seen es : List Event) (e : Event) → last_clock e.stamp.site seen < e.stamp.clock → Reached seen es → are_distinct es ≡ true → are_distinct (es ++ e ∷ []) ≡ true
 distinct-push seen [] e above h apart = refl
 distinct-push seen (f ∷ fs) e above h apart =
     let parts = and_parts (is_new fs f) (are_distinct fs) apart in

@@ -91,6 +91,15 @@ impl Event {
         &self.op
     }
 
+    /// Its stamp and its operation, which is moved.
+    pub fn into_parts(self) -> (Stamp, Op)
+        ensures stamp { result.0 ≡ self.stamp }
+        ensures op { result.1 ≡ self.op }
+        ensures sound { IsSound self }
+    {
+        (self.stamp, self.op)
+    }
+
     pub fn copy(&self) -> Self
         ensures { result ≡ self.now }
     {

@@ -7,5 +7,5 @@ mod list;
 mod op;
 
 pub use event::{Event, EventFault};
-pub use list::{EventList, ListedEvent};
+pub use list::{EventList, Events, ListedEvent};
 pub use op::Op;

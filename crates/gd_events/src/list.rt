@@ -1,9 +1,10 @@
-ghost use Rattle.std.specs.Prelude.{◌≡◌, [], ◌∷◌, ◌++◌, OnOk, OnErr};
+ghost use Rattle.std.specs.Prelude.{◌≡◌, [], ◌∷◌, ◌++◌, OnOk, OnErr, MatchOption};
 ghost use Rattle.gd_events.specs.Ordered.{ordered};
 
 use crate::event::Event;
 use std::alloc::{AllocError, Global};
 use std::marker::Model;
+use std::vec::IntoIter;
 
 /// An event of a list, which contracts see as the event. It lies in a box of its own, so that the list is grown and sorted
 /// by moving one word for each event.
@@ -69,6 +70,15 @@ impl EventList {
         self.items.as_slice()
     }
 
+    /// The events, to be taken one after another. It takes no memory.
+    pub fn into_events(self) -> Events
+        ensures { result ≡ self }
+    {
+        Events {
+            items: self.items.into_iter(),
+        }
+    }
+
     /// Puts the events into the order of their stamps; those of one stamp stay in their order.
     pub fn sort_by_stamp(&mut self) -> Result<(), AllocError>
         ensures ok { OnOk result (self.new ≡ ordered self.old) }
@@ -76,5 +86,33 @@ impl EventList {
     {
         self.items
             .sort_by_cached_key(|listed| listed.event().stamp())
+    }
+}
+
+/// The events of a list, taken one after another. Contracts see those that are left.
+#[derive(Drop)]
+pub struct Events {
+    items: IntoIter<ListedEvent, Global>,
+}
+
+impl Model for Events {
+    ghost use Rattle.std.specs.Prelude.{List};
+    ghost use Rattle.std.specs.Vec.Iter.{into_iter_items};
+    ghost use Rattle.gd_events.specs.Events.{Event as EventValue};
+
+    ghost Value = { List EventValue };
+
+    ghost view = { λ l. into_iter_items l.items };
+}
+
+impl Events {
+    /// Takes the first event. None exactly where none is left.
+    pub fn next(&mut self) -> Option<Event>
+        ensures { MatchOption result ((self.old ≡ []) × (self.new ≡ [])) (λ e. self.old ≡ e ∷ self.new) }
+    {
+        match self.items.next() {
+            Some(listed) => Some(Box::into_inner(listed.event)),
+            None => None,
+        }
     }
 }

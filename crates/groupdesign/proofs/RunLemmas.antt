@@ -1,7 +1,5 @@
 -- What the slow run is, by what the words name.
 use Rattle.std.proofs.Common.{◌≡◌, ℕ, true, false, List, [], ◌∷◌, refl}
-use Rattle.std.specs.Prelude.{None, Some}
-use Rattle.gd_outside.specs.Seen.{SeenJournal, SeenLink}
 use Rattle.gd_outside.specs.declared.status.Status.TheVariants.{Usage}
 use Rattle.gd_model.specs.Effects.{Print}
 use Rattle.gd_model.specs.SlowRun.{is_replay, replayed, replayed_end, slow_effects, slow_end}
@@ -14,10 +12,3 @@ slow-replay words input e = (rw e refl, rw e refl)
 pub slow-usage : (words : List (List ℕ)) (input : List ℕ) → is_replay words ≡ false → (slow_effects words input ≡ Print usage_line ∷ []) × (slow_end words input ≡ Usage)
 unfolding slow_effects slow_end
 slow-usage words input e = (rw e refl, rw e refl)
-
--- a journal and a link that nothing was done with, where nothing is still to come
-abbrev pub idle_journal : SeenJournal
-idle_journal = record { contents = None; name = None; faults = 0 }
-
-abbrev pub idle_link : SeenLink
-idle_link = record { entries = Some []; tried = None; addresses = None; me = None; faults = 0 }

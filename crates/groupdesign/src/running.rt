@@ -1,14 +1,14 @@
 //! The run that the words name, over objects that tell their content or don't.
 
-ghost use Rattle.std.specs.Prelude.{◌≡◌, ℕ, [], ◌∷◌, ◌⊎◌, Bool, true, false, IsSome};
+ghost use Rattle.std.specs.Prelude.{◌≡◌, ◌≤◌, ℕ, ◌+◌, [], ◌∷◌, ◌⊎◌, Bool, true, false, IsSome};
 ghost use Rattle.gd_outside.specs.Causes.{Rose};
 ghost use Rattle.gd_outside.specs.Seen.{SeenSource, SeenJournal, SeenLink};
 ghost use Rattle.gd_outside.specs.Told.{told};
-ghost use Rattle.gd_model.specs.Effects.{Print};
+ghost use Rattle.gd_model.specs.Effects.{Print, cost};
 ghost use Rattle.gd_model.specs.SlowRun.{is_replay, slow_effects, slow_end};
 ghost use Rattle.gd_model.specs.Replies.{usage_line};
 ghost use Rattle.gd_effects.specs.Outside.{outside};
-ghost use Rattle.gd_effects.specs.Endings.{EndsAs};
+ghost use Rattle.gd_effects.specs.Endings.{EndsAs, IsUncut};
 ghost use Rattle.groupdesign.specs.Runs.{IsRunEnd};
 
 use gd_base::Steps;
@@ -21,8 +21,8 @@ use std::sync::ledger::Ledger;
 
 /// Carries out the command that the words name: `replay` alone, so far.
 ///
-/// `Usage` after the usage line, where the words aren't the one word `replay`; else what `replay` answers. The steps
-/// stay as they are.
+/// `Usage` after the usage line, where the words aren't the one word `replay`; else what `replay` answers. The steps rise
+/// by what the late and other arrivals of a log cost.
 pub fn run<S: Source, K: Sink, L: Ledger>(
     alloc: Global,
     words: &WordList,
@@ -41,7 +41,9 @@ pub fn run<S: Source, K: Sink, L: Ledger>(
         → (result ≡ slow_end words.now (told (S.seen input.old).left)) ⊎ (result ≡ Status.NoMemory) }
     // A failed read and want of memory come before anything is printed.
     ensures silent { (result ≡ Status.ReadFault) ⊎ (result ≡ Status.NoMemory) → K.seen output.new ≡ K.seen output.old }
-    ensures steps { steps.new ≡ steps.old }
+    // The steps rose by what the slow run owes, where nothing cut it short, and by no more in any case.
+    ensures steps { IsSome (S.seen input.new).left → IsUncut result → steps.new ≡ steps.old + cost (slow_effects words.now (told (S.seen input.old).left)) }
+    ensures most_steps { IsSome (S.seen input.new).left → steps.new ≤ steps.old + cost (slow_effects words.now (told (S.seen input.old).left)) }
     // Words that name no command are refused, and only these; then the input isn't touched.
     ensures usage { is_replay words.now ≡ false → (result ≡ Status.Usage) ⊎ (result ≡ Status.WriteFault) }
     ensures usage_only { result ≡ Status.Usage → is_replay words.now ≡ false }

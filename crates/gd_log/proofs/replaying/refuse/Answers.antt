@@ -11,7 +11,7 @@ pub returns-clause-ends : goal.returns-clause-ends
 returns-clause-ends g c = λ input journal link steps. rw c.status_of.ensures (ends_by c.print.result BadLog whole_bad_log (does_as (ap (λ (line : List ℕ). Print line ∷ []) (sym (c.as_slice.ensures ∙ c.text-line.ensures))) (c.print.ensures.does input journal link steps)))
 
 pub returns-clause-kinds : goal.returns-clause-kinds
-returns-clause-kinds g c = rw c.status_of.ensures (shows c.print.result BadLog _ _ _ tt c.print.ensures.does)
+returns-clause-kinds g c = rw c.status_of.ensures (shows c.print.result BadLog _ _ 0 0 _ tt (λ input journal link. c.print.ensures.does input journal link 0))
 
 pub returns-clause-end : goal.returns-clause-end
 returns-clause-end g c = λ e. let k = c.print.ensures.end NoMemory (memory_of c.print.result BadLog (λ no. cc) (sym c.status_of.ensures ∙ e)) in cc
