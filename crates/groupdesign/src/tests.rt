@@ -1,15 +1,21 @@
-//! Rows worked by hand, cuts and faults, each through `run` over objects in memory.
+//! Rows worked by hand, cuts and faults, each through `run` over objects in memory; late events on the history of a drawing;
+//! and how each two operations bear on each other.
 
 ghost use Rattle.std.specs.Prelude.{◌≡◌, ◌<◌};
 
 mod changes;
+mod counting;
 mod cuts;
 mod deep;
+mod documents;
 mod faults;
 mod groups;
+mod ids;
 mod labels;
 mod logs;
+mod pairs;
 mod rows;
+mod texts;
 
 use crate::running::run;
 use gd_base::Steps;
