@@ -58,7 +58,7 @@ def shuffled(lists, draw):
     return merged
 
 
-def make_events(count, sites, order):
+def in_order(count, sites, order):
     draw = Random(SEED)
     lists = [events_of(site, count // sites, draw) for site in range(1, sites + 1)]
     in_turn = [event for events in lists for event in events]
@@ -66,7 +66,15 @@ def make_events(count, sites, order):
         in_turn.sort(key=lambda event: event[:2])
     elif order == "shuffle":
         in_turn = shuffled(lists, draw)
-    return log(7, 1, sites, in_turn)
+    return in_turn
+
+
+def log_of(sites, events):
+    return log(7, 1, sites, events)
+
+
+def make_events(count, sites, order):
+    return log_of(sites, in_order(count, sites, order))
 
 
 def square(clock, site):
