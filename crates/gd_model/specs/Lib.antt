@@ -11,4 +11,10 @@ pub mod Shown
 pub mod Text
 pub mod Effects
 pub mod SlowRun
+pub mod PerSite
+pub mod SlowSite
+pub mod Offers
+pub mod Judging
+pub mod World
 pub mod Worked
+pub mod WorkedWorlds

@@ -4,6 +4,7 @@
 mod content;
 mod object;
 pub mod rows;
+pub mod world_rows;
 
 pub use content::Content;
 pub use object::{Kind, Link, Object};
