@@ -2,13 +2,14 @@
 use Rattle.std.specs.Prelude.{ℕ, ◌-◌, ℤ, pos, List, [], ◌∷◌, ◌++◌, codes, None, Some}
 use Rattle.gd_base.specs.declared.edit.Edit.{Edit}
 use Rattle.gd_base.specs.declared.edit.Edit.TheVariants as wish
+use Rattle.gd_base.specs.declared.note.Note.{Note}
 use Rattle.gd_base.specs.declared.shape.Shape.TheVariants.{Rect}
 use Rattle.gd_base.specs.declared.site_status.SiteStatus.{SiteStatus}
 use Rattle.gd_events.specs.declared.op.Op.TheVariants as op
 use Rattle.gd_events.specs.Events.{Event}
 use Rattle.gd_model.specs.FrameBytes.{Frame}
 use Rattle.gd_model.specs.SlowSite.{SlowSite, new_site, no_note}
-use Rattle.gd_model.specs.World.{World, Step, Edits, At, Send, Deliver, after}
+use Rattle.gd_model.specs.World.{World, Step, Edits, Names, Focuses, At, Send, Deliver, Restart, Editing, after}
 use Rattle.gd_model.specs.Worked.{at_stamp, event, member}
 
 abbrev pub site_status : ℕ → ℕ → ℕ → ℕ → SiteStatus
@@ -140,3 +141,52 @@ sure_raise = event 9 2 3 (op.Raise (at_stamp 1 2))
 
 abbrev pub sure_late_frame : Frame
 sure_late_frame = frame_of 3 9 (sure_raise ∷ [])
+
+-- ---- edits that are refused
+
+-- three rects, of which the first two are a group that was moved
+abbrev pub grouped_steps : List Step
+grouped_steps =
+    At 1 (Edits (new_rect (pos 0)))
+    ∷ At 1 (Edits (new_rect (pos 20)))
+    ∷ At 1 (Edits (new_rect (pos 40)))
+    ∷ At 1 (Edits (group_of 1 1 2 1))
+    ∷ At 1 (Edits (move_to 4 1 5 7))
+    ∷ []
+
+abbrev pub grouped_site : SlowSite
+grouped_site = (after 1 7 grouped_steps).at 1
+
+-- the group at the greatest place
+abbrev pub far_site : SlowSite
+far_site = (after 1 7 (grouped_steps ++ At 1 (Edits (move_to 4 1 1000000000 0)) ∷ At 1 (Edits (wish.Ungroup (at_stamp 4 1))) ∷ [])).at 1
+
+-- ---- notes, mail and a restart
+
+-- a note, an edit, and the mail of both
+abbrev pub noted_steps : List Step
+noted_steps =
+    At 1 (Names (codes "Ann"))
+    ∷ At 1 (Focuses (Some (at_stamp 9 2)))
+    ∷ At 1 (Edits (new_rect (pos 0)))
+    ∷ Send 1 2
+    ∷ Deliver 0
+    ∷ Deliver 0
+    ∷ []
+
+abbrev pub noted_world : World
+noted_world = after 2 7 noted_steps
+
+abbrev pub noted_note : Note
+noted_note = record { number = 2; name = Some (codes "Ann"); focus = Some (at_stamp 9 2) }
+
+-- the answer to that mail comes back
+abbrev pub answered_world : World
+answered_world = after 2 7 (noted_steps ++ Send 2 1 ∷ Deliver 1 ∷ [])
+
+-- an event that site 1 had made, but not stored, when it stopped; and one that it had
+abbrev pub lost_world : World
+lost_world = after 2 7 (noted_steps ++ Restart 1 0 (Editing (new_rect (pos 20))) ∷ [])
+
+abbrev pub stored_world : World
+stored_world = after 2 7 (noted_steps ++ Restart 1 1 (Editing (new_rect (pos 20))) ∷ [])
