@@ -1,5 +1,5 @@
 -- Worked rows of sites and worlds: lists of steps, the frames of a site that runs ahead, and what becomes of them.
-use Rattle.std.specs.Prelude.{ℕ, ◌-◌, ℤ, pos, List, [], ◌∷◌, ◌++◌, codes, None, Some}
+use Rattle.std.specs.Prelude.{ℕ, ◌-◌, ℤ, pos, List, [], ◌∷◌, ◌++◌, codes, Some}
 use Rattle.gd_base.specs.declared.edit.Edit.{Edit}
 use Rattle.gd_base.specs.declared.edit.Edit.TheVariants as wish
 use Rattle.gd_base.specs.declared.note.Note.{Note}

@@ -1,0 +1,11 @@
+pub mod Lists
+pub mod Chains
+pub mod Growth
+pub mod Arrivals
+pub mod Frames
+pub mod Steps
+pub mod Restarts
+pub mod Runs
+pub mod Members
+pub mod Least
+pub mod Interleavings

@@ -1,0 +1,4 @@
+//! What holds of slow sites and of worlds of them, over the definitions alone.
+#![tactic(auto)]
+
+pub mod laws;
