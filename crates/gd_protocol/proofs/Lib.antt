@@ -9,3 +9,6 @@ pub mod Runs
 pub mod Members
 pub mod Least
 pub mod Interleavings
+pub mod Drawn
+pub mod GroupMembers
+pub mod Judged
