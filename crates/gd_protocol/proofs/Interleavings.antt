@@ -15,7 +15,7 @@ use Rattle.gd_protocol.proofs.Chains.{IsChain-front}
 use Rattle.gd_protocol.proofs.Frames.{not_refused, sound_arrive}
 use Rattle.gd_protocol.proofs.Least.{is_site-bounds, least_of_others-at, least_of_others-top}
 use Rattle.gd_protocol.proofs.Lists.{Every-weaker}
-use Rattle.gd_protocol.proofs.Members.{IsIn, IsIn-cases, IsIn-every, IsIn-from_contains, IsIn-left, IsIn-made_by, IsIn-take, Rises, Rises-from_chain, contains_from_IsIn, distinct-from_rising, every_from_IsIn, made_by-IsIn, made_by-by}
+use Rattle.gd_protocol.proofs.Members.{IsIn, IsIn-cases, IsIn-every, IsIn-from_contains, IsIn-left, IsIn-made_by, IsIn-take, IsRising, IsRising-from_chain, contains_from_IsIn, distinct-from_rising, every_from_IsIn, made_by-IsIn, made_by-by}
 use Rattle.gd_protocol.proofs.Runs.{Beat-after, Kept-after, Kept-start, sites-after}
 use Rattle.gd_protocol.proofs.Steps.{Every-at}
 use Rattle.gd_protocol.specs.Kept.{Beat, IsChain, IsNamed, Kept}
@@ -119,10 +119,10 @@ module _ (w : World) (h : Kept w) where
   distinct_stamps : (s : ℕ) → IsTrue (are_distinct (w.at s).held)
   distinct_stamps s = distinct-from_rising (w.at s).held (λ t. rises t)
     where
-      rises : (t : ℕ) → Rises (made_by t (w.at s).held)
+      rises : (t : ℕ) → IsRising (made_by t (w.at s).held)
       rises t =
           let front = hold_fronts s t in
-          Rises-from_chain t 0 0 (made_by t (w.at s).held) (IsChain-front t 0 0 (made_by t (w.at s).held) front.0 (subst (IsChain t 0 0) front.1 (h.chain t)))
+          IsRising-from_chain t 0 0 (made_by t (w.at s).held) (IsChain-front t 0 0 (made_by t (w.at s).held) front.0 (subst (IsChain t 0 0) front.1 (h.chain t)))
 
   -- a held event is one that its site made
   pub made_from_held : (s : ℕ) (e : Event) → Contains (w.at s).held e → Contains (own (w.at e.stamp.site)) e

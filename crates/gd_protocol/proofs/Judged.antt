@@ -1,5 +1,5 @@
 -- What an edit in its ranges becomes is sound.
-use Rattle.std.proofs.Common.{◌≡◌, ◌≢◌, ℕ, suc, ◌+◌, ◌-◌, ◌<◌, ◌≤◌, ◌^◌, Bool, true, false, cond, not, ◌&&◌, List, [], ◌∷◌, length, map, Option, Some, None, Result, Ok, Err, ℤ, ◌-ℤ◌, is_none, option_map, refl, sym, ap, ◌∙◌, subst, arith, nat_le, IsTrue, ne_eqb}
+use Rattle.std.proofs.Common.{◌≡◌, ℕ, suc, ◌+◌, ◌-◌, ◌<◌, ◌≤◌, ◌^◌, Bool, true, false, cond, not, ◌&&◌, List, [], ◌∷◌, length, map, Option, Some, None, Result, Ok, Err, ℤ, ◌-ℤ◌, refl, ap, ◌∙◌, subst, arith, nat_le, ne_eqb}
 use Rattle.std.proofs.lemmas.Bool.{leb-false}
 use Rattle.std.proofs.lemmas.List.Elements.{All-from_recursion}
 use Rattle.std.proofs.lemmas.List.{length-map}
@@ -12,11 +12,11 @@ use Rattle.gd_base.specs.declared.edit.Edit.{Edit}
 use Rattle.gd_base.specs.declared.edit.Edit.TheVariants as wish
 use Rattle.gd_base.specs.declared.member.Member.{Member}
 use Rattle.gd_base.specs.declared.refusal.EditRefusal.{EditRefusal}
-use Rattle.gd_base.specs.declared.refusal.EditRefusal.TheVariants.{ClockEnd, SessionFull, NoObject, NotShape, NotGroup, SameMember, NotTop, TooFar}
+use Rattle.gd_base.specs.declared.refusal.EditRefusal.TheVariants.{ClockEnd, SessionFull, SameMember, NotTop, TooFar}
 use Rattle.gd_events.specs.declared.op.Op.{Op}
 use Rattle.gd_events.specs.declared.op.Op.TheVariants as op
 use Rattle.gd_events.specs.Events.{Event}
-use Rattle.gd_events.specs.Sound.{is_shift_in_range, is_in_range, is_member_before, event_fault, rise_above, IsWellTyped, IsSound}
+use Rattle.gd_events.specs.Sound.{is_shift_in_range, is_member_before, event_fault, IsWellTyped, IsSound}
 use Rattle.gd_model.specs.declared.object.Kind.{Kind}
 use Rattle.gd_model.specs.declared.object.Kind.TheVariants.{Shape, Group}
 use Rattle.gd_model.specs.Drawing.{Drawing, picture}

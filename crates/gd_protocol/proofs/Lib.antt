@@ -12,3 +12,10 @@ pub mod Interleavings
 pub mod Drawn
 pub mod GroupMembers
 pub mod Judged
+pub mod Rising
+pub mod WellSites
+pub mod SiteFrames
+pub mod Ranged
+pub mod Journals
+pub mod Trips
+pub mod Rounds

@@ -82,26 +82,26 @@ made_by-by site (e ∷ es) = go (is_by site e) refl (made_by-by site es)
     go false same h = h
 
 -- clocks that rise strictly
-abbrev pub Rises : List Event → Type 0
-Rises [] = Unit {0}
-Rises (e ∷ es) = Every (λ f. e.stamp.clock < f.stamp.clock) es × Rises es
+abbrev pub IsRising : List Event → Type 0
+IsRising [] = Unit {0}
+IsRising (e ∷ es) = Every (λ f. e.stamp.clock < f.stamp.clock) es × IsRising es
 
-pub Rises-from_chain : (site n k : ℕ) (es : List Event) → IsChain site n k es → Rises es
-Rises-from_chain site n k [] h = tt
-Rises-from_chain site n k (e ∷ es) h = (IsChain-above site (suc n) e.stamp.clock es h.3, Rises-from_chain site (suc n) e.stamp.clock es h.3)
+pub IsRising-from_chain : (site n k : ℕ) (es : List Event) → IsChain site n k es → IsRising es
+IsRising-from_chain site n k [] h = tt
+IsRising-from_chain site n k (e ∷ es) h = (IsChain-above site (suc n) e.stamp.clock es h.3, IsRising-from_chain site (suc n) e.stamp.clock es h.3)
 
-rises_behind : (site : ℕ) (e : Event) (es : List Event) → Rises (made_by site (e ∷ es)) → Rises (made_by site es)
+rises_behind : (site : ℕ) (e : Event) (es : List Event) → IsRising (made_by site (e ∷ es)) → IsRising (made_by site es)
 unfolding made_by
 rises_behind site e es h = go (is_by site e) h
   where
-    go : (b : Bool) → Rises (cond b (e ∷ made_by site es) (made_by site es)) → Rises (made_by site es)
+    go : (b : Bool) → IsRising (cond b (e ∷ made_by site es) (made_by site es)) → IsRising (made_by site es)
     go true r = r.1
     go false r = r
 
-rises_first : (e : Event) (es : List Event) → Rises (made_by e.stamp.site (e ∷ es)) → Every (λ f. e.stamp.clock < f.stamp.clock) (made_by e.stamp.site es)
+rises_first : (e : Event) (es : List Event) → IsRising (made_by e.stamp.site (e ∷ es)) → Every (λ f. e.stamp.clock < f.stamp.clock) (made_by e.stamp.site es)
 unfolding made_by
 rises_first e es h =
-    let first : Rises (e ∷ made_by e.stamp.site es) = subst (λ (b : Bool). Rises (cond b (e ∷ made_by e.stamp.site es) (made_by e.stamp.site es))) (eq-eqb e.stamp.site e.stamp.site refl) h in
+    let first : IsRising (e ∷ made_by e.stamp.site es) = subst (λ (b : Bool). IsRising (cond b (e ∷ made_by e.stamp.site es) (made_by e.stamp.site es))) (eq-eqb e.stamp.site e.stamp.site refl) h in
     first.0
 
 list_all-every : {X : Type 0} (test : X → Bool) (xs : List X) → Every (λ x. test x ≡ true) xs → list_all test xs ≡ true
@@ -114,7 +114,7 @@ both true false h g = g
 both false b h g = h
 
 -- where the clocks of each site rise, no stamp comes twice
-pub distinct-from_rising : (es : List Event) → ((site : ℕ) → Rises (made_by site es)) → IsTrue (are_distinct es)
+pub distinct-from_rising : (es : List Event) → ((site : ℕ) → IsRising (made_by site es)) → IsTrue (are_distinct es)
 distinct-from_rising [] h = refl
 distinct-from_rising (e ∷ es) h =
     both (is_new es e) (are_distinct es) (list_all-every _ es (every_from_IsIn _ es (λ f m. apart f m (is_same e.stamp f.stamp) refl)))

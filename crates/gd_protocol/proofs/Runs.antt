@@ -27,7 +27,7 @@ Kept-cond : (test : Bool) (x y : World) → (test ≡ true → Kept x) → Kept 
 Kept-cond true x y h k = h refl
 Kept-cond false x y h k = k
 
-both_sites : (a b c : Bool) → (a && b && not c) ≡ true → (a ≡ true) × (b ≡ true) × (c ≡ false)
+pub both_sites : (a b c : Bool) → (a && b && not c) ≡ true → (a ≡ true) × (b ≡ true) × (c ≡ false)
 both_sites true true false e = (refl, refl, refl)
 both_sites true true true e = cc
 both_sites true false c e = cc
