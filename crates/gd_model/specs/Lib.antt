@@ -16,5 +16,8 @@ pub mod SlowSite
 pub mod Offers
 pub mod Judging
 pub mod World
+pub mod NodeLines
+pub mod SiteEffects
+pub mod NodeRun
 pub mod Worked
 pub mod WorkedWorlds

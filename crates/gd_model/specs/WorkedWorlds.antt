@@ -7,10 +7,16 @@ use Rattle.gd_base.specs.declared.shape.Shape.TheVariants.{Rect}
 use Rattle.gd_base.specs.declared.site_status.SiteStatus.{SiteStatus}
 use Rattle.gd_events.specs.declared.op.Op.TheVariants as op
 use Rattle.gd_events.specs.Events.{Event}
-use Rattle.gd_model.specs.FrameBytes.{Frame}
+use Rattle.gd_outside.specs.Seen.{Entry, Packet, Pause, Failure}
+use Rattle.gd_base.specs.declared.refusal.LineFault.TheVariants.{UnknownCommand}
+use Rattle.gd_model.specs.Effects.{Effect, Head, Print, Record, Try, Work}
+use Rattle.gd_model.specs.FrameBytes.{Frame, frame_bytes}
+use Rattle.gd_model.specs.NodeRun as node
+use Rattle.gd_model.specs.NodeRun.{Command, Name, Focus, Who, Faulty, Blank, Quit, Show, node_effects}
+use Rattle.gd_model.specs.SiteEffects.{Relations}
 use Rattle.gd_model.specs.SlowSite.{SlowSite, new_site, no_note}
 use Rattle.gd_model.specs.World.{World, Step, Edits, Names, Focuses, At, Send, Deliver, Restart, Editing, after}
-use Rattle.gd_model.specs.Worked.{at_stamp, event, member}
+use Rattle.gd_model.specs.Worked.{at_stamp, event, member, frame_row, header_bytes}
 
 abbrev pub site_status : ℕ → ℕ → ℕ → ℕ → SiteStatus
 site_status held kept line clock = record { held = held; kept = kept; line = line; clock = clock }
@@ -190,3 +196,81 @@ lost_world = after 2 7 (noted_steps ++ Restart 1 0 (Editing (new_rect (pos 20)))
 
 abbrev pub stored_world : World
 stored_world = after 2 7 (noted_steps ++ Restart 1 1 (Editing (new_rect (pos 20))) ∷ [])
+
+-- ---- the link of site 1 of 2
+
+-- one frame three times
+abbrev pub repeat_entries : List Entry
+repeat_entries = Packet frame_row ∷ Packet frame_row ∷ Packet frame_row ∷ []
+
+-- the frame that answers it: one event of site 2 is held
+abbrev pub answer_row : List ℕ
+answer_row = 71 ∷ 68 ∷ 79 ∷ 70 ∷ 1 ∷ 0 ∷ 0 ∷ 0 ∷ 7 ∷ 1 ∷ 2 ∷ 0 ∷ 1 ∷ 0 ∷ 0 ∷ 0 ∷ 0 ∷ 0 ∷ 0 ∷ 0 ∷ 1 ∷ 0 ∷ 0 ∷ 0 ∷ 0 ∷ 0 ∷ 0 ∷ 0 ∷ 0 ∷ 0 ∷ 0 ∷ 0 ∷ []
+
+-- the event of that frame
+abbrev pub record_row : List ℕ
+record_row = 0 ∷ 0 ∷ 0 ∷ 0 ∷ 0 ∷ 1 ∷ 2 ∷ 0 ∷ 1 ∷ 1 ∷ 1 ∷ 0 ∷ 0 ∷ 0 ∷ 0 ∷ 0 ∷ 0 ∷ 0 ∷ 0 ∷ 0 ∷ 0 ∷ 0 ∷ 10 ∷ 0 ∷ 0 ∷ 0 ∷ 10 ∷ 0 ∷ []
+
+abbrev pub repeat_effects : List Effect
+repeat_effects =
+    Head header_bytes
+    ∷ Print (codes "ready 1 of 2\n")
+    ∷ Work 1
+    ∷ Record record_row
+    ∷ Print (codes "echo 1.2 applied\n")
+    ∷ Try 2 answer_row
+    ∷ Print (codes "polled 3\n")
+    ∷ []
+
+-- the header, the event and a closed gate
+abbrev pub repeat_journal : List ℕ
+repeat_journal = header_bytes ++ 195 ∷ record_row ++ 0 ∷ []
+
+abbrev pub ahead_entries : List Entry
+ahead_entries = Packet (frame_bytes ahead_first) ∷ Packet (frame_bytes ahead_gap) ∷ Packet (frame_bytes ahead_rest) ∷ []
+
+abbrev pub sure_entries : List Entry
+sure_entries = Packet (frame_bytes sure_frame) ∷ Packet (frame_bytes sure_late_frame) ∷ []
+
+-- the first event, its count and clock again, a failure, and the second event
+abbrev pub failing_entries : List Entry
+failing_entries =
+    Packet (frame_bytes ahead_first)
+    ∷ Packet (frame_bytes (frame_of 1 1 []))
+    ∷ Failure
+    ∷ Packet (frame_bytes (frame_of 2 2 (ahead_move 2 ∷ [])))
+    ∷ []
+
+-- a new node 1 of 2 in session 7
+abbrev pub listening : Relations → List Entry → List Command → List Effect
+listening r entries commands = node_effects r 1 2 7 entries commands
+
+abbrev pub ahead_printed : List ℕ
+ahead_printed =
+    codes "ready 1 of 2\necho 1.2 applied\necho 2.2 applied\necho 3.2 applied\necho 4.2 applied\npolled 3\nheld 4 kept 0 line 4 clock 4\n"
+
+abbrev pub sure_printed : List ℕ
+sure_printed =
+    codes "ready 1 of 2\necho 1.2 applied\necho 2.2 applied\nevent 9.2 refused: Backdated 9 9\npolled 2\nheld 2 kept 0 line 2 clock 2\n"
+
+abbrev pub failing_printed : List ℕ
+failing_printed = codes "ready 1 of 2\necho 1.2 applied\nlink fault after 2\necho 2.2 applied\npolled 1\n"
+
+-- what is no frame: no byte, another session, and one byte too many
+abbrev pub refused_entries : List Entry
+refused_entries =
+    Packet []
+    ∷ Packet (frame_bytes (record { head = record { session = 8; from = 2; to = 1; ack = 0; count = 1; clock = 1 }; note = no_note; events = ahead_create ∷ [] }))
+    ∷ Packet (frame_row ++ 0 ∷ [])
+    ∷ []
+
+abbrev pub refused_printed : List ℕ
+refused_printed =
+    codes "ready 1 of 2\nframe refused: Short at 0\nframe refused: Session\nframe refused: Trailing at 60\npolled 3\nend 0\n"
+
+abbrev pub noting_commands : List Command
+noting_commands = Name (codes "Ada") ∷ Focus (Some (at_stamp 1 1)) ∷ Who ∷ Faulty UnknownCommand ∷ Blank ∷ node.Edits (new_rect (pos 0)) ∷ node.Edits (wish.Ungroup (at_stamp 1 1)) ∷ Quit ∷ Show ∷ []
+
+abbrev pub noting_printed : List ℕ
+noting_printed =
+    codes "ready 1 of 2\nnoted 1\nnoted 2\nwho 1 Ada focus 1.1\nend 1\nrefused: UnknownCommand\nok 1.1\nrefused: NotGroup\n"

@@ -2,6 +2,7 @@
 #![tactic(auto)]
 
 mod content;
+pub mod node_rows;
 mod object;
 pub mod rows;
 pub mod world_rows;
