@@ -19,3 +19,4 @@ pub mod Ranged
 pub mod Journals
 pub mod Trips
 pub mod Rounds
+pub mod NodeJournals

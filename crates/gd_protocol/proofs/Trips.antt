@@ -33,7 +33,7 @@ sure-cond : (test : Bool) (x y : SlowSite) → x.sure ≡ y.sure → (cond test 
 sure-cond true x y e = e
 sure-cond false x y e = refl
 
-held-finished : (slow : SlowSite) (f : Frame) → (finished slow f).held ≡ slow.held
+pub held-finished : (slow : SlowSite) (f : Frame) → (finished slow f).held ≡ slow.held
 held-finished slow f =
     let x = with_ack slow f in
     let y = with_beat x f in
