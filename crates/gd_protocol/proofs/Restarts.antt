@@ -17,6 +17,7 @@ use Rattle.gd_protocol.proofs.Lists.{Every-front}
 use Rattle.gd_protocol.proofs.Steps.{Change-makes, Every-at, IsOwnNext, IsOwnNext-from_edit, next_chain}
 use Rattle.gd_protocol.specs.Kept.{IsChain, IsMail, IsNamed, Kept, Knows}
 
+-- what the slow site holds of `site` is a front of what the maker made
 pub record HoldsFront (slow : SlowSite) (site : ℕ) (maker : SlowSite) : Type 0 where
   pub rest : List Event
   pub is : own maker ≡ made_by site slow.held ++ rest

@@ -16,6 +16,8 @@ use Rattle.gd_protocol.proofs.Runs.{Kept-start, Kept-step, sites-after}
 use Rattle.gd_protocol.specs.Kept.{Kept}
 use Rattle.gd_protocol.specs.Passages.{AllAgree, AllHoldAll, HasEnoughTrips, IsNoRestart, Passage, all_passed, round_then, rounds, trips}
 
+-- ---- a step makes at most one event
+
 made_by-one : (site : ℕ) (e : Event) → length (made_by site (e ∷ [])) ≤ 1
 unfolding made_by
 made_by-one site e = go (is_by site e)

@@ -25,6 +25,8 @@ use Rattle.gd_protocol.proofs.Steps.{Every-at, every_below, mail_sent}
 use Rattle.gd_protocol.specs.Kept.{IsMail, Kept}
 use Rattle.gd_protocol.specs.Passages.{AllAgree, AllHoldAll, HasEachPassage, HasEnoughTrips, NothingIsKept, Passage, all_passed, is_from_to, passed, trips}
 
+-- ---- the rest of a frame keeps the events, and takes the beat
+
 held-cond : (test : Bool) (x y : SlowSite) → x.held ≡ y.held → (cond test x y).held ≡ y.held
 held-cond true x y e = e
 held-cond false x y e = refl
@@ -324,7 +326,7 @@ unfolding greatest_clock
 greatest_clock-bound n [] h = omega arith
 greatest_clock-bound n (e ∷ es) h = omega (arith, h.0, greatest_clock-bound n es h.1)
 
-filter-none : {X : Type 0} (test : X → Bool) (xs : List X) → Every (λ x. test x ≡ false) xs → filter test xs ≡ []
+pub filter-none : {X : Type 0} (test : X → Bool) (xs : List X) → Every (λ x. test x ≡ false) xs → filter test xs ≡ []
 filter-none test [] h = refl
 filter-none test (x ∷ xs) h = rw h.0 (filter-none test xs h.1)
 

@@ -1,6 +1,7 @@
 //! What a slow site keeps by itself, whatever frames it is sent: contracts of functions that do nothing.
 ghost use Rattle.std.specs.Prelude.{◌≡◌, ◌≢◌, ◌<◌, ◌≤◌, ◌++◌, ℕ, List, Ok, IsTrue, map};
-ghost use Rattle.std.specs.List.{AllByRecursion};
+ghost use Rattle.std.specs.List.{AllByRecursion, filter};
+ghost use Rattle.gd_base.specs.Stamps.{is_before};
 ghost use Rattle.gd_base.specs.declared.edit.Edit.{Edit};
 ghost use Rattle.gd_base.specs.declared.offer.Offer.TheVariants.{Next};
 ghost use Rattle.gd_events.specs.Events.{Event};
@@ -13,10 +14,12 @@ ghost use Rattle.gd_model.specs.Judging.{IsEdit, edit};
 ghost use Rattle.gd_model.specs.LogBytes.{log, logged};
 ghost use Rattle.gd_model.specs.Offers.{arrived, finished, frame_for, offer, take_frame};
 ghost use Rattle.gd_model.specs.PerSite.{is_site};
-ghost use Rattle.gd_model.specs.SlowSite.{SlowSite, journal_header, line, new_site, resumed};
+ghost use Rattle.gd_model.specs.SlowSite.{SlowSite, journal_header, kept, line, new_site, resumed};
+ghost use Rattle.gd_model.specs.SiteEffects.{Relations, held_behind, outcome_at};
 ghost use Rattle.gd_model.specs.SlowRun.{replayed};
 ghost use Rattle.gd_model.specs.Text.{text};
 ghost use Rattle.gd_model.specs.World.{IsLine, IsSession, IsStep, Line, Step, after, after_line};
+ghost use Rattle.gd_repair.specs.Repair.{applied};
 ghost use Rattle.gd_protocol.specs.Sites.{IsWell};
 
 /// An event that is taken lies above the line.
@@ -37,6 +40,16 @@ pub fn lines_never_fall()
 /// An edit in its ranges becomes a sound event.
 pub fn edits_become_sound_events()
     ensures { (slow : SlowSite) (wanted : Edit) (e : Event) → IsWell slow → IsEdit wanted → edit slow wanted ≡ Ok e → IsSound e }
+{}
+
+/// No held event is behind an own event, so that one is applied, at the cost of one step.
+pub fn own_events_are_applied()
+    ensures { (r : Relations) (slow : SlowSite) (wanted : Edit) (e : Event) → edit slow wanted ≡ Ok e → outcome_at r slow.held e ≡ applied }
+{}
+
+/// The held events behind one that lies above the line are all kept.
+pub fn what_is_behind_is_kept()
+    ensures { (slow : SlowSite) (e : Event) → line slow < e.stamp.clock → held_behind slow.held e ≡ filter (λ f. is_before e.stamp f.stamp) (kept slow) }
 {}
 
 /// A site keeps its own numbering and its ranges, whatever its lines and whatever it is sent.
