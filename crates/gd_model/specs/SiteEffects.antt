@@ -7,11 +7,10 @@
 --
 -- What comes of an event goes by the held events with greater stamps, in order, and by which events are independent and
 -- which cover which; these two relations are given.
-use Rattle.std.specs.Prelude.{ℕ, zero, suc, ◌+◌, Bool, List, [], ◌∷◌, ◌++◌, length, map, Option, Some, None, Result, Ok, Err, ◌==◌, nat_le, if◌then◌else◌}
+use Rattle.std.specs.Prelude.{ℕ, zero, suc, ◌+◌, Bool, List, [], ◌∷◌, ◌++◌, length, Option, Some, None, Result, Ok, Err, ◌==◌, nat_le, if◌then◌else◌}
 use Rattle.std.specs.List.{filter}
 use Rattle.gd_base.specs.Stamps.{is_before}
 use Rattle.gd_base.specs.declared.edit.Edit.{Edit}
-use Rattle.gd_base.specs.declared.note.Note.{Note}
 use Rattle.gd_base.specs.declared.offer.Offer.{Offer}
 use Rattle.gd_base.specs.declared.offer.Offer.TheVariants.{Next, Repeat, Gap, Backdated}
 use Rattle.gd_base.specs.declared.refusal.EditRefusal.{EditRefusal}
@@ -20,14 +19,14 @@ use Rattle.gd_events.specs.Events.{Event}
 use Rattle.gd_events.specs.Ordered.{ordered}
 use Rattle.gd_repair.specs.Repair.{Outcome, applied, dropped, reworked, outcome, cost}
 use Rattle.gd_model.specs.Effects.{Effect, Print, Record, Try, Work}
-use Rattle.gd_model.specs.FrameBytes.{Frame, Misread, frame, frame_bytes}
-use Rattle.gd_model.specs.Judging.{edit, edited, with_own}
+use Rattle.gd_model.specs.FrameBytes.{Frame, Misread, frame_bytes}
+use Rattle.gd_model.specs.Judging.{edit, with_own}
 use Rattle.gd_model.specs.NodeLines.{ok_line, refused_line, edit_word, note_end_word, noted_line, applied_line, dropped_line, reworked_line, backdated_line, bad_frame_line, not_taken_line}
 use Rattle.gd_model.specs.Offers.{offer, arrived, refusal, take_frame, frame_for}
 use Rattle.gd_model.specs.Reading.{place}
 use Rattle.gd_model.specs.SlowSite.{SlowSite}
 use Rattle.gd_model.specs.Spelling.{spelling}
-use Rattle.gd_model.specs.World.{most_notes, renamed, refocused}
+use Rattle.gd_model.specs.World.{most_notes}
 
 -- whether two events, the earlier one first, stand so to each other
 abbrev pub Relation : Type 0

@@ -7,7 +7,7 @@ use Rattle.gd_base.specs.declared.shape.Shape.TheVariants.{Rect}
 use Rattle.gd_base.specs.declared.site_status.SiteStatus.{SiteStatus}
 use Rattle.gd_events.specs.declared.op.Op.TheVariants as op
 use Rattle.gd_events.specs.Events.{Event}
-use Rattle.gd_outside.specs.Seen.{Entry, Packet, Pause, Failure}
+use Rattle.gd_outside.specs.Seen.{Entry, Packet, Failure}
 use Rattle.gd_base.specs.declared.refusal.LineFault.TheVariants.{UnknownCommand}
 use Rattle.gd_model.specs.Effects.{Effect, Head, Print, Record, Try, Work}
 use Rattle.gd_model.specs.FrameBytes.{Frame, frame_bytes}
