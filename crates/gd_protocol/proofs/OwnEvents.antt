@@ -1,6 +1,5 @@
 -- What comes of own events, and where the events behind a new one are found.
-use Rattle.std.proofs.Common.{◌≡◌, ℕ, ◌<◌, ◌≤◌, suc, Bool, true, false, cond, List, [], ◌∷◌, filter, Ok, nat_lt, refl, sym, ap, ◌∙◌, arith, le-leb}
-use Rattle.std.specs.List.{AllByRecursion as Every}
+use Rattle.std.proofs.Common.{◌≡◌, ◌<◌, ◌≤◌, suc, Bool, true, false, cond, List, [], ◌∷◌, filter, Ok, nat_lt, refl, sym, ap, arith, le-leb}
 use Rattle.gd_base.proofs.StampOrder.{is_before-clocks}
 use Rattle.gd_base.specs.Stamps.{Stamp, is_before}
 use Rattle.gd_base.specs.declared.edit.Edit.{Edit}
@@ -9,7 +8,7 @@ use Rattle.gd_events.specs.Ordered.{ordered}
 use Rattle.gd_model.specs.Judging.{edit}
 use Rattle.gd_model.specs.SiteEffects.{Relations, held_behind, outcome_at}
 use Rattle.gd_model.specs.SlowSite.{SlowSite, clock, kept, line}
-use Rattle.gd_repair.specs.Repair.{Outcome, applied, outcome}
+use Rattle.gd_repair.specs.Repair.{applied, outcome}
 use Rattle.gd_protocol.proofs.Drawn.{every-ordered}
 use Rattle.gd_protocol.proofs.Lists.{Every-weaker}
 use Rattle.gd_protocol.proofs.Steps.{IsOwnNext-from_edit, every_below}
