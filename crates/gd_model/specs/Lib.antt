@@ -20,4 +20,13 @@ pub mod ScriptLines
 pub mod Replies
 pub mod Effects
 pub mod SlowRun
+pub mod PerSite
+pub mod SlowSite
+pub mod Offers
+pub mod Judging
+pub mod World
+pub mod NodeLines
+pub mod SiteEffects
+pub mod NodeRun
 pub mod Worked
+pub mod WorkedWorlds

@@ -4,9 +4,11 @@
 mod before;
 mod command;
 mod content;
+pub mod node_rows;
 mod object;
 pub mod rows;
 mod verb;
+pub mod world_rows;
 
 pub use before::{Before, OldLink, OldLinks};
 pub use command::{Command, ScriptLine};

@@ -1,0 +1,59 @@
+-- What a well site holds are the records of a log.
+use Rattle.std.proofs.Common.{map, ◌≡◌, ℕ, suc, ◌+◌, true, List, [], ◌∷◌, ◌++◌, length, None, Ok, refl, sym, ap, ◌∙◌, subst, append_assoc, arith, eq-eqb, le-leb}
+use Rattle.std.proofs.lemmas.Bool.{lt-leb}
+use Rattle.std.proofs.lemmas.List.Sums.{length-filter}
+use Rattle.std.specs.List.{AllByRecursion as Every}
+use Rattle.gd_events.specs.Events.{Event}
+use Rattle.gd_events.specs.Sound.{IsSound}
+use Rattle.gd_log.proofs.WrittenLemmas.{log-logged}
+use Rattle.gd_log.specs.Written.{AreNext}
+use Rattle.gd_model.specs.LogBytes.{count_of, last_clock, log, logged, turn_fault}
+use Rattle.gd_model.specs.PerSite.{is_site}
+use Rattle.gd_model.specs.SlowSite.{SlowSite, is_by, journal_header, made_by}
+use Rattle.gd_model.specs.Drawing.{picture}
+use Rattle.gd_model.specs.Effects.{Print}
+use Rattle.gd_model.specs.SlowRun.{replayed, replayed_as}
+use Rattle.gd_model.specs.Text.{text}
+use Rattle.gd_model.specs.World.{Step, IsSession, IsStep, after}
+use Rattle.gd_protocol.proofs.Chains.{IsChain-back, last_clock-made_by, made_by-append}
+use Rattle.gd_protocol.proofs.Least.{is_site-bounds}
+use Rattle.gd_protocol.specs.Kept.{IsChain}
+use Rattle.gd_protocol.specs.Sites.{IsWell}
+use Rattle.gd_protocol.proofs.Ranged.{sites_are_well_after}
+
+count-made_by : (site : ℕ) (es : List Event) → count_of site es ≡ length (made_by site es)
+unfolding made_by
+count-made_by site es = sym (length-filter (is_by site) es)
+
+made_by-first : (e : Event) (es : List Event) → made_by e.stamp.site (e ∷ es) ≡ e ∷ made_by e.stamp.site es
+unfolding made_by
+made_by-first e es = rw (eq-eqb e.stamp.site e.stamp.site refl) refl
+
+module _ (n : ℕ) (all : List Event) (chains : (t : ℕ) → IsChain t 0 0 (made_by t all)) where
+  in-turn : (seen : List Event) (e : Event) (rest : List Event) → all ≡ seen ++ e ∷ rest → is_site n e.stamp.site ≡ true → turn_fault n seen e ≡ None
+  unfolding turn_fault
+  in-turn seen e rest is inside =
+      let t = e.stamp.site in
+      let split : made_by t all ≡ made_by t seen ++ e ∷ made_by t rest = ap (made_by t) is ∙ made_by-append t seen (e ∷ rest) ∙ ap (λ (l : List Event). made_by t seen ++ l) (made_by-first e rest) in
+      let behind = IsChain-back t 0 0 (made_by t seen) (e ∷ made_by t rest) (subst (IsChain t 0 0) split (chains t)) in
+      let bounds = is_site-bounds n t inside in
+      rw (lt-leb (suc n) t (omega (arith, bounds.1)), eq-eqb e.number (count_of t seen + 1) (omega (arith, behind.1, count-made_by t seen)), le-leb (suc (last_clock t seen)) e.stamp.clock (omega (arith, behind.2, last_clock-made_by t seen)))
+      refl
+
+  all-next : (seen es : List Event) → all ≡ seen ++ es → Every IsSound es → Every (λ e. is_site n e.stamp.site ≡ true) es → AreNext n seen es
+  unfolding AreNext
+  all-next seen [] is sound inside = tt
+  all-next seen (e ∷ es) is sound inside =
+      (sound.0, in-turn seen e es is inside.0, all-next (seen ++ e ∷ []) es (is ∙ sym (append_assoc seen (e ∷ []) es)) sound.1 inside.1)
+
+pub well_journal : (slow : SlowSite) → IsWell slow → log (logged (journal_header slow) slow.held) ≡ Ok (journal_header slow, slow.held)
+well_journal slow h =
+    let bounds = is_site-bounds slow.sites slow.me h.member in
+    log-logged (journal_header slow) slow.held (record { site_above = bounds.0; site_below = bounds.1; few = h.met.1 }) h.met.2
+    (all-next slow.sites slow.held h.chains [] slow.held refl h.sound h.by_members)
+
+pub journals_after : (sites session : ℕ) (steps : List Step) (s : ℕ) → IsSession sites session → Every IsStep steps → is_site sites s ≡ true → log (logged (journal_header ((after sites session steps).at s)) ((after sites session steps).at s).held) ≡ Ok (journal_header ((after sites session steps).at s), ((after sites session steps).at s).held)
+journals_after sites session steps s met ranged inside = well_journal ((after sites session steps).at s) (sites_are_well_after sites session steps s met ranged inside)
+
+pub well_replayed : (slow : SlowSite) → IsWell slow → replayed (logged (journal_header slow) slow.held) ≡ map Print (text (picture slow.held))
+well_replayed slow h = ap (replayed_as (logged (journal_header slow) slow.held)) (well_journal slow h)
