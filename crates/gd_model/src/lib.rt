@@ -3,6 +3,7 @@
 
 mod command;
 mod content;
+pub mod line_rows;
 mod object;
 pub mod rows;
 mod verb;

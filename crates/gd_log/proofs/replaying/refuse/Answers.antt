@@ -8,7 +8,7 @@ use Rattle.gd_outside.specs.declared.status.Status.TheVariants.{BadLog}
 use Rattle.gd_log.proofs.replaying.refuse.Goals as goal
 
 pub returns-clause-ends : goal.returns-clause-ends
-returns-clause-ends g c = λ input journal link steps. rw c.status_of.ensures (ends_by c.print.result BadLog whole_bad_log (does_as (ap (λ (line : List ℕ). Print line ∷ []) (sym (c.as_slice.ensures ∙ c.text-line.ensures))) (c.print.ensures.does input journal link steps)))
+returns-clause-ends g c = λ input journal link steps. rw c.status_of.ensures (ends_by c.print.result BadLog whole_bad_log (does_as (ap (λ (line : List ℕ). Print line ∷ []) (sym (c.as_slice.ensures.text ∙ c.text-line.ensures))) (c.print.ensures.does input journal link steps)))
 
 pub returns-clause-kinds : goal.returns-clause-kinds
 returns-clause-kinds g c = rw c.status_of.ensures (shows c.print.result BadLog _ _ _ tt c.print.ensures.does)
