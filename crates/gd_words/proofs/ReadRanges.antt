@@ -1,0 +1,375 @@
+-- What is read is in its ranges: word by word, and then line by line.
+use Rattle.std.proofs.Common.{◌≡◌, ℕ, zero, suc, ℤ, pos, negsuc, neg_ℤ, nat_abs, int_le, ◌+◌, ◌-◌, ◌^◌, ◌<◌, ◌≤◌, Bool, true, false, ◌&&◌, List, [], ◌∷◌, ◌++◌, length, take, drop, Option, Some, None, Result, Ok, Err, nat_lt, nat_le, ◌==◌, if◌then◌else◌, subst, refl, arith}
+use Rattle.std.specs.Prelude.{IfSome, All}
+use Rattle.std.specs.List.{fold, list_all, position_or_len}
+use Rattle.std.proofs.lemmas.Bool.{and_parts, and_from, ltb-true}
+use Rattle.std.proofs.lemmas.Bool.Decides.{nat_tests}
+use Rattle.std.proofs.lemmas.Option.{IfSome_then}
+use Rattle.std.proofs.lemmas.List.{length_push}
+use Rattle.std.proofs.lemmas.List.Elements.{All-nil, All-push, recursion_from_All}
+use Rattle.gd_base.specs.Stamps.{Stamp, IsStamp}
+use Rattle.gd_base.specs.Labels.{IsLabel, is_name, is_plain, most_label}
+use Rattle.gd_base.specs.Ranges.{place_limit, size_limit, is_within, is_colour, is_width, is_style}
+use Rattle.gd_base.specs.declared.style.Style.TheVariants as style
+use Rattle.gd_base.specs.declared.edit.Edit.{Edit}
+use Rattle.gd_base.specs.declared.refusal.LineFault.{LineFault}
+use Rattle.gd_base.specs.declared.refusal.LineFault.TheVariants.{LongLine, WrongCount}
+use Rattle.gd_model.specs.declared.verb.Verb.{Verb}
+use Rattle.gd_model.specs.declared.verb.Verb.TheVariants as verb_of
+use Rattle.gd_model.specs.declared.command.Command.{Command}
+use Rattle.gd_model.specs.declared.command.Command.TheVariants as command
+use Rattle.gd_model.specs.Reading.{◌>>=◌}
+use Rattle.gd_model.specs.LineWords.{word, behind, count_words, without_cr}
+use Rattle.gd_model.specs.WordKinds.{when, digit, is_digit, push_digit, value, numeral, number, within, number_in, natural, natural_in, in_ranges, is_dot, id, colour, perhaps, fill, focus, label, name}
+use Rattle.gd_model.specs.Lines.{ReadsWords, or_fault, kind_at, place_at, size_at, natural_at, width_at, id_at, colour_at, fill_at, focus_at, name_at, label_at, ids_at, verb, fits, create_at, delete_at, move_at, resize_at, stroke_at, refill_at, rewidth_at, text_at, group_at, ungroup_at, raise_at, an_edit, command_at, counted_at, first_of, line_of, longest_line, read}
+use Rattle.gd_model.specs.declared.verb.ScriptVerb.{ScriptVerb}
+use Rattle.gd_model.specs.declared.verb.ScriptVerb.TheVariants as script
+use Rattle.gd_model.specs.declared.command.ScriptLine.{ScriptLine}
+use Rattle.gd_model.specs.declared.command.ScriptLine.TheVariants as a_line
+use Rattle.gd_model.specs.ScriptLines.{script_verb, asked, site_at, mail_at, site_command_at, asked_at, at_at, send_at, deliver_at, script_at, script_of, read_script}
+use Rattle.gd_words.specs.InRange.{IsEdit, IsCommand, IsSite, IsScriptLine}
+use Rattle.gd_words.proofs.Digits.{push_small}
+
+-- what is read, if it is read, has the property
+abbrev Yields : {A : Type 0} → (A → Type 0) → ReadsWords A → Type 0
+Yields P (Ok x) = P x.0
+Yields P (Err fault) = Unit {0}
+
+first : {A B : Type 0} (P : A → Type 0) (Q : B → Type 0) (r : ReadsWords A) (f : A × List ℕ → ReadsWords B) → Yields P r → ((x : A × List ℕ) → P x.0 → Yields Q (f x)) → Yields Q (r >>= f)
+first P Q (Ok x) f h k = k x h
+first P Q (Err fault) f h k = tt
+
+-- nothing is said of what is read
+abbrev Any : {A : Type 0} → A → Type 0
+Any x = Unit {0}
+
+any : {A : Type 0} (r : ReadsWords A) → Yields Any r
+any (Ok x) = tt
+any (Err fault) = tt
+
+by_spelling : {A : Type 0} (P : A → Type 0) (fault : LineFault) (rest : List ℕ) (o : Option A) → IfSome o P → Yields P (or_fault fault rest o)
+by_spelling P fault rest None h = tt
+by_spelling P fault rest (Some x) h = h
+
+when_holds : {A : Type 0} (P : A → Type 0) (test : Bool) (x : A) → (test ≡ true → P x) → IfSome (when test x) P
+when_holds P true x h = h refl
+when_holds P false x h = tt
+
+within_in : (low high : ℤ) (o : Option ℤ) → IfSome (within low high o) (λ z. (int_le low z && int_le z high) ≡ true)
+within_in low high None = tt
+within_in low high (Some z) = when_holds (λ y. (int_le low y && int_le y high) ≡ true) (int_le low z && int_le z high) z (λ e. e)
+
+place_in : (line : List ℕ) → Yields (λ z. is_within place_limit z ≡ true) (place_at line)
+unfolding place_at number_in
+place_in line = by_spelling _ _ _ (within (neg_ℤ (pos place_limit)) (pos place_limit) (number (word line))) (within_in (neg_ℤ (pos place_limit)) (pos place_limit) (number (word line)))
+
+size_in : (line : List ℕ) → Yields (λ z. is_within size_limit z ≡ true) (size_at line)
+unfolding size_at number_in
+size_in line = by_spelling _ _ _ (within (neg_ℤ (pos size_limit)) (pos size_limit) (number (word line))) (within_in (neg_ℤ (pos size_limit)) (pos size_limit) (number (word line)))
+
+natural_of : (low high : ℕ) (z : ℤ) → (int_le (pos low) z && int_le z (pos high)) ≡ true → (nat_le low (nat_abs z) && nat_le (nat_abs z) high) ≡ true
+natural_of low high (pos n) e = e
+natural_of low high (negsuc n) e = absurd cc
+
+natural_by : (low high : ℕ) (o : Option ℤ) → IfSome o (λ z. (int_le (pos low) z && int_le z (pos high)) ≡ true) → IfSome (natural o) (λ n. (nat_le low n && nat_le n high) ≡ true)
+natural_by low high None h = tt
+natural_by low high (Some z) h = natural_of low high z h
+
+width_in : (line : List ℕ) → Yields (λ n. is_width n ≡ true) (width_at line)
+unfolding width_at natural_at natural_in number_in
+width_in line = by_spelling _ _ _ (natural (within (pos 1) (pos 64) (number (word line)))) (natural_by 1 64 (within (pos 1) (pos 64) (number (word line))) (within_in (pos 1) (pos 64) (number (word line))))
+
+stamp_of : (c s : ℕ) → ((nat_le 1 c && nat_lt c (2 ^ 48)) && (nat_le 1 s && nat_le s 16)) ≡ true → IsStamp (record { clock = c; site = s })
+stamp_of c s e =
+    let p = and_parts _ _ e in
+    let q = and_parts _ _ p.0 in
+    let r = and_parts _ _ p.1 in
+    let a : nat_le 1 c ≡ true = q.0 in
+    let b : nat_lt c (2 ^ 48) ≡ true = q.1 in
+    let d : nat_le 1 s ≡ true = r.0 in
+    let f : nat_le s 16 ≡ true = r.1 in
+    record {
+      clock_above = grind (arith, nat_tests, a);
+      clock_below = grind (arith, nat_tests, b);
+      site_above = grind (arith, nat_tests, d);
+      site_below = grind (arith, nat_tests, f);
+    }
+
+stamp_in : (c s : Option ℕ) → IfSome (in_ranges c s) IsStamp
+stamp_in None s = tt
+stamp_in (Some c) None = tt
+stamp_in (Some c) (Some s) = when_holds IsStamp _ (record { clock = c; site = s }) (stamp_of c s)
+
+id_of : (text : List ℕ) → IfSome (id text) IsStamp
+unfolding id
+id_of text = stamp_in (numeral 10 1 15 (take (position_or_len is_dot text) text)) (numeral 10 1 2 (drop 1 (drop (position_or_len is_dot text) text)))
+
+id_in : (line : List ℕ) → Yields IsStamp (id_at line)
+unfolding id_at
+id_in line = by_spelling IsStamp _ _ (id (word line)) (id_of (word line))
+
+small : (text : List ℕ) (n i : ℕ) → list_all (is_digit 16) text ≡ true → n < 16 ^ i → fold (push_digit 16) n text < 16 ^ (i + length text)
+small [] n i all h = let same : i + 0 ≡ i = omega arith in rw same h
+small (b ∷ bs) n i all h =
+    let p = and_parts _ _ all in
+    let same : (i + 1) + length bs ≡ i + length (b ∷ bs) = omega arith in
+    subst (λ k. fold (push_digit 16) (push_digit 16 n b) bs < 16 ^ k) same (small bs (push_digit 16 n b) (i + 1) p.1 (push_small n 16 (digit b) i h (omega arith) (ltb-true _ _ p.0)))
+
+six : (n : ℕ) → (nat_le 6 n && nat_le n 6) ≡ true → n ≡ 6
+six n e = let p = and_parts _ _ e in let a : nat_le 6 n ≡ true = p.0 in let b : nat_le n 6 ≡ true = p.1 in grind (arith, nat_tests, a, b)
+
+colour_small : (text : List ℕ) → ((nat_le 6 (length text) && nat_le (length text) 6) && list_all (is_digit 16) text) ≡ true → is_colour (value 16 text) ≡ true
+colour_small text e =
+    let p = and_parts _ _ e in
+    let long : 0 + length text ≡ 6 = omega (arith, six (length text) p.0) in
+    let least : value 16 text < 16777216 = subst (λ k. value 16 text < 16 ^ k) long (small text 0 0 p.1 (omega arith)) in
+    grind (arith, nat_tests, least)
+
+colour_of : (text : List ℕ) → IfSome (colour text) (λ c. is_colour c ≡ true)
+unfolding colour numeral
+colour_of text = when_holds (λ c. is_colour c ≡ true) _ (value 16 text) (colour_small text)
+
+colour_in : (line : List ℕ) → Yields (λ c. is_colour c ≡ true) (colour_at line)
+unfolding colour_at
+colour_in line = by_spelling _ _ _ (colour (word line)) (colour_of (word line))
+
+IsFill : Option ℕ → Type 0
+IsFill f = is_style (style.Fill f) ≡ true
+
+fill_by : (b : Bool) (o : Option ℕ) → IfSome o (λ c. is_colour c ≡ true) → IfSome (if b then Some None else perhaps o) IsFill
+unfolding IsFill
+fill_by true o h = refl
+fill_by false None h = tt
+fill_by false (Some c) h = h
+
+fill_in : (line : List ℕ) → Yields IsFill (fill_at line)
+unfolding fill_at fill
+fill_in line = by_spelling IsFill _ _ _ (fill_by _ (colour (word line)) (colour_of (word line)))
+
+IsFocus : Option Stamp → Type 0
+IsFocus f = IsCommand (command.Focus f)
+
+focus_by : (b : Bool) (o : Option Stamp) → IfSome o IsStamp → IfSome (if b then Some None else perhaps o) IsFocus
+unfolding IsFocus
+focus_by true o h = tt
+focus_by false None h = tt
+focus_by false (Some i) h = h
+
+focus_in : (line : List ℕ) → Yields IsFocus (focus_at line)
+unfolding focus_at focus
+focus_in line = by_spelling IsFocus _ _ _ (focus_by _ (id (word line)) (id_of (word line)))
+
+name_in : (line : List ℕ) → Yields (λ n. is_name n ≡ true) (name_at line)
+unfolding name_at name
+name_in line = by_spelling _ _ _ (when (is_name (word line)) (word line)) (when_holds (λ n. is_name n ≡ true) _ (word line) (λ e. e))
+
+label_of : (text : List ℕ) → (nat_le (length text) most_label && is_plain text) ≡ true → IsLabel text
+label_of text e = let p = and_parts _ _ e in let a : nat_le (length text) 64 ≡ true = p.0 in record { fits = grind (arith, nat_tests, a); plain = p.1 }
+
+label_in : (line : List ℕ) → Yields IsLabel (label_at line)
+unfolding label_at label
+label_in line = by_spelling IsLabel _ _ _ (when_holds IsLabel _ (drop 1 line) (label_of (drop 1 line)))
+
+abbrev AreIds : ℕ → List Stamp → Type 0
+AreIds n ids = (length ids ≡ n) × All IsStamp ids
+
+ids_in : (count n : ℕ) (ids : List Stamp) (line : List ℕ) → length ids + count ≡ n → All IsStamp ids → Yields (AreIds n) (ids_at count ids line)
+unfolding ids_at
+ids_in zero n ids line total h = (omega (arith, total), h)
+ids_in (suc count) n ids line total h = first IsStamp (AreIds n) (id_at line) _ (id_in line) (λ i is. ids_in count n (ids ++ i.0 ∷ []) i.1 (omega (arith, total, length_push ids i.0)) (All-push IsStamp ids i.0 h is))
+
+-- ---- the words of each edit
+
+create_in : (line : List ℕ) → Yields IsEdit (create_at line)
+unfolding create_at
+create_in line =
+    first Any IsEdit (kind_at line) _ (any (kind_at line)) (λ kind a.
+    first (λ z. is_within place_limit z ≡ true) IsEdit (place_at kind.1) _ (place_in kind.1) (λ x in_x.
+    first (λ z. is_within place_limit z ≡ true) IsEdit (place_at x.1) _ (place_in x.1) (λ y in_y.
+    first (λ z. is_within size_limit z ≡ true) IsEdit (size_at y.1) _ (size_in y.1) (λ w in_w.
+    first (λ z. is_within size_limit z ≡ true) IsEdit (size_at w.1) _ (size_in w.1) (λ h in_h.
+    first IsLabel IsEdit (label_at h.1) _ (label_in h.1) (λ label is.
+    (and_from _ _ in_x (and_from _ _ in_y (and_from _ _ in_w in_h)), is)))))))
+
+delete_in : (line : List ℕ) → Yields IsEdit (delete_at line)
+unfolding delete_at
+delete_in line = first IsStamp IsEdit (id_at line) _ (id_in line) (λ id is. is)
+
+move_in : (line : List ℕ) → Yields IsEdit (move_at line)
+unfolding move_at
+move_in line =
+    first IsStamp IsEdit (id_at line) _ (id_in line) (λ id is.
+    first (λ z. is_within place_limit z ≡ true) IsEdit (place_at id.1) _ (place_in id.1) (λ x in_x.
+    first (λ z. is_within place_limit z ≡ true) IsEdit (place_at x.1) _ (place_in x.1) (λ y in_y.
+    (is, and_from _ _ in_x in_y))))
+
+resize_in : (line : List ℕ) → Yields IsEdit (resize_at line)
+unfolding resize_at
+resize_in line =
+    first IsStamp IsEdit (id_at line) _ (id_in line) (λ id is.
+    first (λ z. is_within size_limit z ≡ true) IsEdit (size_at id.1) _ (size_in id.1) (λ w in_w.
+    first (λ z. is_within size_limit z ≡ true) IsEdit (size_at w.1) _ (size_in w.1) (λ h in_h.
+    (is, and_from _ _ in_w in_h))))
+
+stroke_in : (line : List ℕ) → Yields IsEdit (stroke_at line)
+unfolding stroke_at
+stroke_in line =
+    first IsStamp IsEdit (id_at line) _ (id_in line) (λ id is.
+    first (λ c. is_colour c ≡ true) IsEdit (colour_at id.1) _ (colour_in id.1) (λ colour in_range. (is, in_range)))
+
+refill_in : (line : List ℕ) → Yields IsEdit (refill_at line)
+unfolding refill_at IsFill
+refill_in line =
+    first IsStamp IsEdit (id_at line) _ (id_in line) (λ id is.
+    first IsFill IsEdit (fill_at id.1) _ (fill_in id.1) (λ fill in_range. (is, in_range)))
+
+rewidth_in : (line : List ℕ) → Yields IsEdit (rewidth_at line)
+unfolding rewidth_at
+rewidth_in line =
+    first IsStamp IsEdit (id_at line) _ (id_in line) (λ id is.
+    first (λ n. is_width n ≡ true) IsEdit (width_at id.1) _ (width_in id.1) (λ width in_range. (is, in_range)))
+
+text_in : (line : List ℕ) → Yields IsEdit (text_at line)
+unfolding text_at
+text_in line =
+    first IsStamp IsEdit (id_at line) _ (id_in line) (λ id is.
+    first IsLabel IsEdit (label_at id.1) _ (label_in id.1) (λ label is_label. (is, is_label)))
+
+group_in : (n : ℕ) (line : List ℕ) → (nat_le 2 n && nat_le n 32) ≡ true → Yields IsEdit (group_at n line)
+unfolding group_at
+group_in n line fit =
+    let p = and_parts _ _ fit in
+    let a : nat_le 2 n ≡ true = p.0 in
+    let b : nat_le n 32 ≡ true = p.1 in
+    let least : 2 ≤ n = grind (arith, nat_tests, a) in
+    let most : n ≤ 32 = grind (arith, nat_tests, b) in
+    first (AreIds n) IsEdit (ids_at n [] line) _ (ids_in n n [] line (omega arith) (All-nil IsStamp)) (λ ids are.
+    (omega (arith, are.0, least), omega (arith, are.0, most), recursion_from_All IsStamp ids.0 are.1))
+
+ungroup_in : (line : List ℕ) → Yields IsEdit (ungroup_at line)
+unfolding ungroup_at
+ungroup_in line = first IsStamp IsEdit (id_at line) _ (id_in line) (λ id is. is)
+
+raise_in : (line : List ℕ) → Yields IsEdit (raise_at line)
+unfolding raise_at
+raise_in line = first IsStamp IsEdit (id_at line) _ (id_in line) (λ id is. is)
+
+-- ---- a whole line
+
+edit_in : (r : ReadsWords Edit) → Yields IsEdit r → Yields IsCommand (an_edit r)
+edit_in (Ok e) h = h
+edit_in (Err fault) h = tt
+
+pub command_in : (v : Verb) (n : ℕ) (line : List ℕ) → fits v n ≡ true → Yields IsCommand (command_at v n line)
+unfolding IsFocus
+command_in verb_of.Create n line fit = edit_in (create_at line) (create_in line)
+command_in verb_of.Delete n line fit = edit_in (delete_at line) (delete_in line)
+command_in verb_of.Move n line fit = edit_in (move_at line) (move_in line)
+command_in verb_of.Resize n line fit = edit_in (resize_at line) (resize_in line)
+command_in verb_of.Stroke n line fit = edit_in (stroke_at line) (stroke_in line)
+command_in verb_of.Fill n line fit = edit_in (refill_at line) (refill_in line)
+command_in verb_of.Width n line fit = edit_in (rewidth_at line) (rewidth_in line)
+command_in verb_of.Text n line fit = edit_in (text_at line) (text_in line)
+command_in verb_of.Group n line fit = edit_in (group_at n line) (group_in n line fit)
+command_in verb_of.Ungroup n line fit = edit_in (ungroup_at line) (ungroup_in line)
+command_in verb_of.Raise n line fit = edit_in (raise_at line) (raise_in line)
+command_in verb_of.Show n line fit = tt
+command_in verb_of.Poll n line fit = tt
+command_in verb_of.Status n line fit = tt
+command_in verb_of.Focus n line fit = first IsFocus IsCommand (focus_at line) _ (focus_in line) (λ focus is. is)
+command_in verb_of.Name n line fit = first (λ n. is_name n ≡ true) IsCommand (name_at line) _ (name_in line) (λ name is. is)
+command_in verb_of.Who n line fit = tt
+command_in verb_of.Quit n line fit = tt
+
+fitting : {A : Type 0} (P : A → Type 0) (fit : Bool) (r : ReadsWords A) → (fit ≡ true → Yields P r) → Yields P (if fit then r else Err WrongCount)
+fitting P true r h = h refl
+fitting P false r h = tt
+
+counted_in : (v : Option Verb) (n : ℕ) (line : List ℕ) → Yields IsCommand (counted_at v n line)
+counted_in None n line = tt
+counted_in (Some v) n line = fitting IsCommand (fits v n) (command_at v n line) (command_in v n line)
+
+-- what is read, without what is left
+abbrev Reads : {A : Type 0} → (A → Type 0) → Result A LineFault → Type 0
+Reads P (Ok x) = P x
+Reads P (Err fault) = Unit {0}
+
+first_in : {A : Type 0} (P : A → Type 0) (r : ReadsWords A) → Yields P r → Reads P (first_of r)
+first_in P (Ok x) h = h
+first_in P (Err fault) h = tt
+
+judged_in : {A : Type 0} (P : A → Type 0) (long blank : Bool) (nothing : A) (r : Result A LineFault) → P nothing → Reads P r → Reads P (if long then Err LongLine else if blank then Ok nothing else r)
+judged_in P true blank nothing r a h = tt
+judged_in P false true nothing r a h = a
+judged_in P false false nothing r a h = h
+
+read_in : {A : Type 0} (P : A → Type 0) (r : Result A LineFault) (x : A) → r ≡ Ok x → Reads P r → P x
+read_in P r x e h = subst (Reads P) e h
+
+pub line_in : (bytes : List ℕ) (c : Command) → read bytes ≡ Ok c → IsCommand c
+unfolding read
+line_in bytes c e =
+    let line : List ℕ = without_cr bytes in
+    let r : ReadsWords Command = counted_at (verb (word line)) (count_words line - 1) (behind line) in
+    read_in IsCommand (line_of line) c e
+    (judged_in IsCommand (nat_lt longest_line (length line)) (count_words line == 0) command.Blank (first_of r) tt (first_in IsCommand r (counted_in (verb (word line)) (count_words line - 1) (behind line))))
+
+-- ---- a line of a rehearsal
+
+site_of : (n : ℕ) → (nat_le 1 n && nat_le n 16) ≡ true → IsSite n
+site_of n e =
+    let p = and_parts _ _ e in
+    let a : nat_le 1 n ≡ true = p.0 in
+    let b : nat_le n 16 ≡ true = p.1 in
+    (grind (arith, nat_tests, a), grind (arith, nat_tests, b))
+
+site_in : (line : List ℕ) → Yields IsSite (site_at line)
+unfolding site_at natural_at natural_in number_in
+site_in line =
+    let o : Option ℤ = within (pos 1) (pos 16) (number (word line)) in
+    by_spelling IsSite _ _ (natural o) (IfSome_then (natural o) (natural_by 1 16 o (within_in (pos 1) (pos 16) (number (word line)))) site_of)
+
+site_command_in : (v : Verb) (n : ℕ) (line : List ℕ) → fits v n ≡ true → Yields IsScriptLine (site_command_at v n line)
+unfolding site_command_at
+site_command_in v n line fit =
+    first IsSite IsScriptLine (site_at line) _ (site_in line) (λ site is.
+    first IsCommand IsScriptLine (command_at v n (behind site.1)) _ (command_in v n (behind site.1) fit) (λ command in_range. (is, in_range)))
+
+asked_in : (v : Option Verb) (n : ℕ) (line : List ℕ) → Yields IsScriptLine (asked_at v n line)
+asked_in None n line = tt
+asked_in (Some v) n line = fitting IsScriptLine (fits v n) (site_command_at v n line) (site_command_in v n line)
+
+unless_short : {A : Type 0} (P : A → Type 0) (short : Bool) (r : ReadsWords A) → Yields P r → Yields P (if short then Err WrongCount else r)
+unless_short P true r h = tt
+unless_short P false r h = h
+
+at_in : (n : ℕ) (line : List ℕ) → Yields IsScriptLine (at_at n line)
+unfolding at_at
+at_in n line =
+    let v : Option Verb = asked (verb (word (behind line))) in
+    unless_short IsScriptLine (nat_lt n 2) (asked_at v (n - 2) line) (asked_in v (n - 2) line)
+
+send_in : (line : List ℕ) → Yields IsScriptLine (send_at line)
+unfolding send_at
+send_in line =
+    first IsSite IsScriptLine (site_at line) _ (site_in line) (λ sender is_from.
+    first IsSite IsScriptLine (site_at sender.1) _ (site_in sender.1) (λ receiver is_to. (is_from, is_to)))
+
+deliver_in : (line : List ℕ) → Yields IsScriptLine (deliver_at line)
+unfolding deliver_at
+deliver_in line = first Any IsScriptLine (mail_at line) _ (any (mail_at line)) (λ mail a. tt)
+
+script_in : (v : Option ScriptVerb) (n : ℕ) (line : List ℕ) → Yields IsScriptLine (script_at v n line)
+script_in None n line = tt
+script_in (Some script.At) n line = at_in n line
+script_in (Some script.Send) n line = fitting IsScriptLine (n == 2) (send_at line) (λ e. send_in line)
+script_in (Some script.Deliver) n line = fitting IsScriptLine (n == 1) (deliver_at line) (λ e. deliver_in line)
+script_in (Some script.Quit) n line = fitting IsScriptLine (n == 0) (Ok (a_line.Quit, line)) (λ e. tt)
+
+pub script_line_in : (bytes : List ℕ) (l : ScriptLine) → read_script bytes ≡ Ok l → IsScriptLine l
+unfolding read_script
+script_line_in bytes l e =
+    let line : List ℕ = without_cr bytes in
+    let r : ReadsWords ScriptLine = script_at (script_verb (word line)) (count_words line - 1) (behind line) in
+    read_in IsScriptLine (script_of line) l e
+    (judged_in IsScriptLine (nat_lt longest_line (length line)) (count_words line == 0) a_line.Blank (first_of r) tt (first_in IsScriptLine r (script_in (script_verb (word line)) (count_words line - 1) (behind line))))
