@@ -1,5 +1,5 @@
 -- Touches of an operation as a first one and the links of members, and what each form covers.
-use Rattle.std.proofs.Common.{◌≡◌, Bool, true, false, ◌&&◌, List, [], ◌∷◌, map, refl, sym, ap, ◌∙◌}
+use Rattle.std.proofs.Common.{◌≡◌, not, Bool, true, false, ◌&&◌, List, [], ◌∷◌, map, refl, sym, ap, ◌∙◌}
 use Rattle.std.specs.List.{list_all}
 use Rattle.gd_base.specs.Stamps.{Stamp, is_same}
 use Rattle.gd_events.specs.declared.op.Op.{Op}
@@ -10,7 +10,7 @@ use Rattle.gd_model.specs.declared.content.Content.TheVariants.{ToPlace, ToSize,
 use Rattle.gd_model.specs.declared.content.Part.TheVariants.{Whole}
 use Rattle.gd_model.specs.Objects.{part_of, is_same_part}
 use Rattle.gd_model.specs.Forms.{Sets, form}
-use Rattle.gd_model.specs.Relations.{Touch, link_touch, touches, covers_by}
+use Rattle.gd_model.specs.Relations.{Touch, link_touch, meets, misses, touches, independent, covers_by}
 use Rattle.gd_model.specs.Splices.{splice_by}
 use Rattle.gd_canvas.specs.Touches.{first_touch, members_of, is_same_touch}
 use Rattle.gd_canvas.specs.Splicing.{content_set, splice_set_by}
@@ -83,3 +83,26 @@ splice-set s (Retext id label) i d v = refl
 splice-set s (Group members) i d v = refl
 splice-set s (Ungroup id) i d v = refl
 splice-set s (Raise id) i d v = refl
+
+-- the first touch meets neither the other one nor a link of its members, so the own links decide
+pub own_links_decide : (s : Stamp) (e : Op) (t : Stamp) (f : Op) (links : Bool) → meets (first_touch s e) (first_touch t f) ≡ false
+    → list_all (λ m. not (meets (first_touch s e) (link_touch m))) (members_of f) ≡ true → links ≡ list_all (λ m. misses (touches t f) (link_touch m)) (members_of e) → links ≡ independent s e t f
+unfolding independent
+own_links_decide s e t f links apart missed h =
+    let first : misses (touches t f) (first_touch s e) ≡ true = sym (links_decide (λ u. not (meets (first_touch s e) u)) t f (first_touch t f) true refl (ap not apart) (sym missed)) in
+    links_decide (misses (touches t f)) s e (first_touch s e) links refl first h
+
+-- it meets such a link
+pub other_links_decide : (s : Stamp) (e : Op) (t : Stamp) (f : Op) → meets (first_touch s e) (first_touch t f) ≡ false
+    → list_all (λ m. not (meets (first_touch s e) (link_touch m))) (members_of f) ≡ false → false ≡ independent s e t f
+unfolding independent
+other_links_decide s e t f apart met =
+    let first : misses (touches t f) (first_touch s e) ≡ false = sym (links_decide (λ u. not (meets (first_touch s e) u)) t f (first_touch t f) false refl (ap not apart) (sym met)) in
+    first_decides (misses (touches t f)) s e (first_touch s e) refl first
+
+-- it meets the other first touch
+pub firsts_decide : (s : Stamp) (e : Op) (t : Stamp) (f : Op) → meets (first_touch s e) (first_touch t f) ≡ true → false ≡ independent s e t f
+unfolding independent
+firsts_decide s e t f met =
+    let first : misses (touches t f) (first_touch s e) ≡ false = sym (first_decides (λ u. not (meets (first_touch s e) u)) t f (first_touch t f) refl (ap not met)) in
+    first_decides (misses (touches t f)) s e (first_touch s e) refl first

@@ -1,6 +1,7 @@
 //! How two events bear on each other, by what they touch: a part of an object or the whole of it, and of a group the links of
 //! its members too.
-ghost use Rattle.std.specs.Prelude.{◌≡◌, [], not, option_copied, unwrap_or};
+ghost use Rattle.std.specs.Prelude.{◌≡◌, ◌||◌, [], not, option_copied, unwrap_or};
+ghost use Rattle.gd_base.specs.Stamps.{Stamp as StampValue};
 ghost use Rattle.std.specs.List.{list_all};
 ghost use Rattle.gd_model.specs.Objects.{is_same_part};
 ghost use Rattle.gd_model.specs.Forms.{Deletes, form};
@@ -12,12 +13,18 @@ use gd_base::{Members, Stamp};
 use gd_events::Op;
 use gd_model::Part;
 
-/// Whether no touch of `e`, at the stamp `s`, meets one of `f`, at `t`.
+/// Whether no touch of `e`, at the stamp `s`, meets one of `f`, at `t`. It looks at the objects first: most events are on
+/// different ones.
 pub fn independent(s: Stamp, e: &Op, t: Stamp, f: &Op) -> bool
     ensures { result ≡ independent s e.now t f.now }
 {
-    let (id, part) = first_touch(s, e);
-    misses(id, part, t, f) && links_miss(e, t, f)
+    if first_meets(first_object(s, e), e, t, f) {
+        return false;
+    }
+    if !first_misses_links(s, e, f) {
+        return false;
+    }
+    links_miss(e, t, f)
 }
 
 /// Whether `f`, at the stamp `t`, leaves nothing of `e`, at `s`, where it comes behind it.
@@ -61,16 +68,43 @@ fn sets_part(id: Stamp, part: Part, s: Stamp, e: &Op) -> bool
 fn first_touch(stamp: Stamp, op: &Op) -> (Stamp, Part)
     ensures { result ≡ first_touch stamp op.now }
 {
+    (first_object(stamp, op), first_part(op))
+}
+
+fn first_object(stamp: Stamp, op: &Op) -> Stamp
+    ensures { result ≡ (first_touch stamp op.now).0 }
+{
     match op {
-        Op::Create { .. } | Op::Group { .. } => (stamp, Part::Whole),
-        Op::Delete { id } => (*id, Part::Whole),
-        Op::Move { id, .. } => (*id, Part::Place),
-        Op::Resize { id, .. } => (*id, Part::Size),
-        Op::Restyle { id, style } => (*id, style_part(*style)),
-        Op::Retext { id, .. } => (*id, Part::Label),
-        Op::Ungroup { id } => (*id, Part::Flag),
-        Op::Raise { id } => (*id, Part::Rank),
+        Op::Create { .. } | Op::Group { .. } => stamp,
+        Op::Delete { id }
+        | Op::Move { id, .. }
+        | Op::Resize { id, .. }
+        | Op::Restyle { id, .. }
+        | Op::Retext { id, .. }
+        | Op::Ungroup { id }
+        | Op::Raise { id } => *id,
     }
+}
+
+fn first_part(op: &Op) -> Part
+    ensures { (stamp : StampValue) → result ≡ (first_touch stamp op.now).1 }
+{
+    match op {
+        Op::Create { .. } | Op::Group { .. } | Op::Delete { .. } => Part::Whole,
+        Op::Move { .. } => Part::Place,
+        Op::Resize { .. } => Part::Size,
+        Op::Restyle { style, .. } => style_part(*style),
+        Op::Retext { .. } => Part::Label,
+        Op::Ungroup { .. } => Part::Flag,
+        Op::Raise { .. } => Part::Rank,
+    }
+}
+
+/// Whether the first touch of `e`, which is of the object, meets that of `f`.
+fn first_meets(id: Stamp, e: &Op, t: Stamp, f: &Op) -> bool
+    ensures { (s : StampValue) → id ≡ (first_touch s e.now).0 → result ≡ meets (first_touch s e.now) (first_touch t f.now) }
+{
+    id.is_same(first_object(t, f)) && parts_meet(first_part(e), first_part(f))
 }
 
 /// Whether the touch meets none of `f`'s.
@@ -79,6 +113,16 @@ fn misses(id: Stamp, part: Part, t: Stamp, f: &Op) -> bool
 {
     let (other, other_part) = first_touch(t, f);
     !meets(id, part, other, other_part) && misses_links(id, part, f)
+}
+
+/// Whether the first touch of `e` meets no link of the members of `f`.
+fn first_misses_links(s: Stamp, e: &Op, f: &Op) -> bool
+    ensures { result ≡ list_all (λ m. not (meets (first_touch s e.now) (link_touch m))) (members_of f.now) }
+{
+    match group_members(f) {
+        Some(_) => misses_links(first_object(s, e), first_part(e), f),
+        None => true,
+    }
 }
 
 /// Whether the touch meets no link of a group's members.
@@ -124,14 +168,18 @@ fn group_members(op: &Op) -> Option<&Members>
     }
 }
 
-/// Whether both touches are of one object, and of one part or one of them of the whole.
+/// Whether both touches are of one object, and of parts that meet.
 fn meets(id: Stamp, part: Part, other: Stamp, other_part: Part) -> bool
     ensures { result ≡ meets (id, part) (other, other_part) }
 {
-    id.is_same(other)
-        && (is_same_part(part, other_part)
-            || is_same_part(part, Part::Whole)
-            || is_same_part(other_part, Part::Whole))
+    id.is_same(other) && parts_meet(part, other_part)
+}
+
+/// Whether both are one part, or one of them is the whole.
+fn parts_meet(part: Part, other: Part) -> bool
+    ensures { result ≡ (is_same_part part other || (is_same_part part Part.Whole || is_same_part other Part.Whole)) }
+{
+    is_same_part(part, other) || is_same_part(part, Part::Whole) || is_same_part(other, Part::Whole)
 }
 
 fn is_same_part(part: Part, other: Part) -> bool
