@@ -19,7 +19,7 @@ use Rattle.gd_model.specs.Offers.{after_offer, all_arrived, arrived, frame_for, 
 use Rattle.gd_model.specs.PerSite.{is_site, put}
 use Rattle.gd_model.specs.SiteEffects.{Relations, after_read, of_event, of_events, of_frame, of_note, of_offer, of_own, of_read, tries, tries_behind, try_for, unless_refused_of}
 use Rattle.gd_model.specs.SlowSite.{SlowSite, journal_header, new_site}
-use Rattle.gd_model.specs.SlowRun.{replayed, replayed_as}
+use Rattle.gd_model.specs.SlowRun.{replayed, replayed_as, shown}
 use Rattle.gd_model.specs.Spelling.{spelling}
 use Rattle.gd_model.specs.Drawing.{picture}
 use Rattle.gd_model.specs.Text.{text}
@@ -238,7 +238,7 @@ log_of_run r me sites session entries cs met inside are ranged =
     let read = subst (λ (h : Header). log (logged h last.held) ≡ Ok (h, last.held)) (same-header first last goes.rises) (well_journal last goes.well) in
     ap log (journal_of_run r me sites session entries cs) ∙ read
 
-pub replay_of_run : (r : Relations) (me sites session : ℕ) (entries : List Entry) (cs : List Command) → IsSession sites session → is_site sites me ≡ true → Every IsEntry entries → Every IsCommand cs → replayed (journal_after [] (node_effects r me sites session entries cs)) ≡ map Print (text (picture (node_after me sites session entries cs).held))
+pub replay_of_run : (r : Relations) (me sites session : ℕ) (entries : List Entry) (cs : List Command) → IsSession sites session → is_site sites me ≡ true → Every IsEntry entries → Every IsCommand cs → replayed (journal_after [] (node_effects r me sites session entries cs)) ≡ shown (node_after me sites session entries cs).held
 replay_of_run r me sites session entries cs met inside are ranged =
     let bytes = journal_after [] (node_effects r me sites session entries cs) in
     ap (replayed_as bytes) (log_of_run r me sites session entries cs met inside are ranged)

@@ -1,5 +1,5 @@
 //! What a slow site keeps by itself, whatever frames it is sent: contracts of functions that do nothing.
-ghost use Rattle.std.specs.Prelude.{◌≡◌, ◌≢◌, ◌<◌, ◌≤◌, ◌++◌, ℕ, List, Ok, IsTrue, map};
+ghost use Rattle.std.specs.Prelude.{◌≡◌, ◌≢◌, ◌<◌, ◌≤◌, ◌++◌, ℕ, List, Ok, IsTrue};
 ghost use Rattle.std.specs.List.{AllByRecursion, filter};
 ghost use Rattle.gd_base.specs.Stamps.{is_before};
 ghost use Rattle.gd_base.specs.declared.edit.Edit.{Edit};
@@ -7,8 +7,6 @@ ghost use Rattle.gd_base.specs.declared.offer.Offer.TheVariants.{Next};
 ghost use Rattle.gd_events.specs.Events.{Event};
 ghost use Rattle.gd_events.specs.Ordered.{are_distinct};
 ghost use Rattle.gd_events.specs.Sound.{IsSound};
-ghost use Rattle.gd_model.specs.Drawing.{picture};
-ghost use Rattle.gd_model.specs.Effects.{Print};
 ghost use Rattle.gd_model.specs.FrameBytes.{Frame, IsFrame, IsNote, frame, frame_bytes};
 ghost use Rattle.gd_model.specs.Judging.{IsEdit, edit};
 ghost use Rattle.gd_model.specs.LogBytes.{log, logged};
@@ -16,8 +14,7 @@ ghost use Rattle.gd_model.specs.Offers.{arrived, finished, frame_for, offer, tak
 ghost use Rattle.gd_model.specs.PerSite.{is_site};
 ghost use Rattle.gd_model.specs.SlowSite.{SlowSite, journal_header, kept, line, new_site, resumed};
 ghost use Rattle.gd_model.specs.SiteEffects.{Relations, held_behind, outcome_at};
-ghost use Rattle.gd_model.specs.SlowRun.{replayed};
-ghost use Rattle.gd_model.specs.Text.{text};
+ghost use Rattle.gd_model.specs.SlowRun.{replayed, shown};
 ghost use Rattle.gd_model.specs.World.{IsLine, IsSession, IsStep, Line, Step, after, after_line};
 ghost use Rattle.gd_repair.specs.Repair.{applied};
 ghost use Rattle.gd_protocol.specs.Sites.{IsWell};
@@ -70,9 +67,10 @@ pub fn well_sites_send_frames()
     ensures spelled { (slow : SlowSite) (to : ℕ) → IsTrue (is_site slow.sites to) → IsWell slow → frame (frame_bytes (frame_for slow to)) ≡ Ok (frame_for slow to) }
 {}
 
-/// What a site that keeps itself well holds is the log of its journal, and a replay of that prints its drawing.
+/// What a site that keeps itself well holds is the log of its journal. A replay of that takes the steps that the arrivals of
+/// these events cost in that order, and then prints the site's drawing.
 pub fn well_sites_keep_logs()
-    ensures replayed { (slow : SlowSite) → IsWell slow → replayed (logged (journal_header slow) slow.held) ≡ map Print (text (picture slow.held)) }
+    ensures replayed { (slow : SlowSite) → IsWell slow → replayed (logged (journal_header slow) slow.held) ≡ shown slow.held }
     ensures read { (slow : SlowSite) → IsWell slow → log (logged (journal_header slow) slow.held) ≡ Ok (journal_header slow, slow.held) }
 {}
 
