@@ -1,5 +1,5 @@
 -- Worked rows of sites and worlds: lists of steps, the frames of a site that runs ahead, and what becomes of them.
-use Rattle.std.specs.Prelude.{ℕ, ◌-◌, ℤ, pos, List, [], ◌∷◌, ◌++◌, codes, Some}
+use Rattle.std.specs.Prelude.{ℕ, ◌-◌, ℤ, pos, List, [], ◌∷◌, ◌++◌, codes, Some, Ok, Err}
 use Rattle.gd_base.specs.declared.edit.Edit.{Edit}
 use Rattle.gd_base.specs.declared.edit.Edit.TheVariants as wish
 use Rattle.gd_base.specs.declared.note.Note.{Note}
@@ -9,12 +9,12 @@ use Rattle.gd_events.specs.declared.op.Op.TheVariants as op
 use Rattle.gd_events.specs.Events.{Event}
 use Rattle.gd_outside.specs.Seen.{Entry, Packet, Failure}
 use Rattle.gd_base.specs.declared.refusal.LineFault.TheVariants.{UnknownCommand}
+use Rattle.gd_model.specs.declared.command.Command.TheVariants as command
 use Rattle.gd_model.specs.Effects.{Effect, Head, Print, Record, Try, Work}
 use Rattle.gd_model.specs.FrameBytes.{Frame, frame_bytes}
-use Rattle.gd_model.specs.NodeRun as node
-use Rattle.gd_model.specs.NodeRun.{Command, Name, Focus, Who, Faulty, Blank, Quit, Show, node_effects}
-use Rattle.gd_model.specs.SiteEffects.{Relations}
+use Rattle.gd_model.specs.NodeRun.{ReadLine, node_effects}
 use Rattle.gd_model.specs.SlowSite.{SlowSite, new_site, no_note}
+use Rattle.gd_model.specs.Spelling.{spelling}
 use Rattle.gd_model.specs.World.{World, Step, Edits, Names, Focuses, At, Send, Deliver, Restart, Editing, after}
 use Rattle.gd_model.specs.Worked.{at_stamp, event, member, frame_row, header_bytes}
 
@@ -30,8 +30,9 @@ move_to clock site x y = wish.Move (at_stamp clock site) (pos x) (pos y)
 
 -- ---- a move that comes late is covered by a later one
 
-abbrev pub cover_steps : List Step
-cover_steps =
+-- all but the delivery of the late move
+abbrev pub cover_begins : List Step
+cover_begins =
     At 1 (Edits (new_rect (pos 0)))
     ∷ Send 1 2
     ∷ Deliver 0
@@ -39,11 +40,20 @@ cover_steps =
     ∷ At 1 (Edits (move_to 1 1 60 60))
     ∷ At 2 (Edits (move_to 1 1 90 90))
     ∷ Send 2 1
-    ∷ Deliver 1
     ∷ []
+
+abbrev pub cover_steps : List Step
+cover_steps = cover_begins ++ Deliver 1 ∷ []
+
+-- site 1 before the late move comes
+abbrev pub cover_site : SlowSite
+cover_site = (after 2 7 cover_begins).at 1
 
 abbrev pub cover_world : World
 cover_world = after 2 7 cover_steps
+
+abbrev pub late_move : Event
+late_move = event 2 2 1 (op.Move (at_stamp 1 1) (pos 90) (pos 90))
 
 -- what site 1 holds then
 abbrev pub cover_held : List Event
@@ -51,7 +61,7 @@ cover_held =
     event 1 1 1 (op.Create Rect (pos 0) (pos 0) (pos 10) (pos 10) [])
     ∷ event 2 1 2 (op.Move (at_stamp 1 1) (pos 50) (pos 50))
     ∷ event 3 1 3 (op.Move (at_stamp 1 1) (pos 60) (pos 60))
-    ∷ event 2 2 1 (op.Move (at_stamp 1 1) (pos 90) (pos 90))
+    ∷ late_move
     ∷ []
 
 -- the second mail: site 2 holds the one event of site 1 and sends its own
@@ -60,8 +70,11 @@ cover_frame =
     record {
       head = record { session = 7; from = 2; to = 1; ack = 1; count = 1; clock = 2 };
       note = no_note;
-      events = event 2 2 1 (op.Move (at_stamp 1 1) (pos 90) (pos 90)) ∷ [];
+      events = late_move ∷ [];
     }
+
+abbrev pub cover_effects : List Effect
+cover_effects = Work 0 ∷ Record (spelling late_move) ∷ Print (codes "echo 2.2 dropped by 3.1\n") ∷ []
 
 abbrev pub cover_text : List (List ℕ)
 cover_text = codes "rect 1.1 in - at 60 60 size 10 10 stroke 000000 fill none width 1\n" ∷ codes "end 1\n" ∷ []
@@ -71,8 +84,9 @@ cover_text = codes "rect 1.1 in - at 60 60 size 10 10 stroke 000000 fill none wi
 abbrev pub group_of : ℕ → ℕ → ℕ → ℕ → Edit
 group_of clock site other_clock other_site = wish.Group (at_stamp clock site ∷ at_stamp other_clock other_site ∷ [])
 
-abbrev pub closure_steps : List Step
-closure_steps =
+-- all but the delivery of the late group
+abbrev pub closure_begins : List Step
+closure_begins =
     At 1 (Edits (new_rect (pos 0)))
     ∷ At 1 (Edits (new_rect (pos 20)))
     ∷ At 2 (Edits (new_rect (pos 40)))
@@ -83,11 +97,23 @@ closure_steps =
     ∷ At 1 (Edits (group_of 1 1 2 1))
     ∷ At 1 (Edits (move_to 4 1 5 5))
     ∷ Send 2 1
-    ∷ Deliver 1
     ∷ []
+
+abbrev pub closure_steps : List Step
+closure_steps = closure_begins ++ Deliver 1 ∷ []
+
+-- site 1 before the late group comes
+abbrev pub closure_site : SlowSite
+closure_site = (after 2 7 closure_begins).at 1
 
 abbrev pub closure_world : World
 closure_world = after 2 7 closure_steps
+
+abbrev pub other_create : Event
+other_create = event 1 2 1 (op.Create Rect (pos 40) (pos 0) (pos 10) (pos 10) [])
+
+abbrev pub late_group : Event
+late_group = event 3 2 2 (op.Group (member 1 2 (pos 0) (pos 0) ∷ member 2 1 (pos 0) (pos 0) ∷ []))
 
 -- what site 1 holds then
 abbrev pub closure_held : List Event
@@ -97,8 +123,29 @@ closure_held =
     ∷ event 3 1 3 (op.Raise (at_stamp 1 1))
     ∷ event 4 1 4 (op.Group (member 1 1 (pos 0) (pos 0) ∷ member 2 1 (pos 0) (pos 0) ∷ []))
     ∷ event 5 1 5 (op.Move (at_stamp 4 1) (pos 5) (pos 5))
-    ∷ event 1 2 1 (op.Create Rect (pos 40) (pos 0) (pos 10) (pos 10) [])
-    ∷ event 3 2 2 (op.Group (member 1 2 (pos 0) (pos 0) ∷ member 2 1 (pos 0) (pos 0) ∷ []))
+    ∷ other_create
+    ∷ late_group
+    ∷ []
+
+-- the second mail: site 2 holds two events of site 1
+abbrev pub closure_frame : Frame
+closure_frame =
+    record {
+      head = record { session = 7; from = 2; to = 1; ack = 2; count = 2; clock = 3 };
+      note = no_note;
+      events = other_create ∷ late_group ∷ [];
+    }
+
+-- The create stands for itself. The late group takes a member that the group 4.1 took, and the move of that group is undone
+-- with it.
+abbrev pub closure_effects : List Effect
+closure_effects =
+    Work 1
+    ∷ Record (spelling other_create)
+    ∷ Print (codes "echo 1.2 applied\n")
+    ∷ Work 5
+    ∷ Record (spelling late_group)
+    ∷ Print (codes "echo 3.2 reworked 2\n")
     ∷ []
 
 abbrev pub closure_text : List (List ℕ)
@@ -242,8 +289,8 @@ failing_entries =
     ∷ []
 
 -- a new node 1 of 2 in session 7
-abbrev pub listening : Relations → List Entry → List Command → List Effect
-listening r entries commands = node_effects r 1 2 7 entries commands
+abbrev pub listening : List Entry → List ReadLine → List Effect
+listening entries lines = node_effects 1 2 7 entries lines
 
 abbrev pub ahead_printed : List ℕ
 ahead_printed =
@@ -268,8 +315,18 @@ abbrev pub refused_printed : List ℕ
 refused_printed =
     codes "ready 1 of 2\nframe refused: Short at 0\nframe refused: Session\nframe refused: Trailing at 60\npolled 3\nend 0\n"
 
-abbrev pub noting_commands : List Command
-noting_commands = Name (codes "Ada") ∷ Focus (Some (at_stamp 1 1)) ∷ Who ∷ Faulty UnknownCommand ∷ Blank ∷ node.Edits (new_rect (pos 0)) ∷ node.Edits (wish.Ungroup (at_stamp 1 1)) ∷ Quit ∷ Show ∷ []
+abbrev pub noting_lines : List ReadLine
+noting_lines =
+    Ok (command.Name (codes "Ada"))
+    ∷ Ok (command.Focus (Some (at_stamp 1 1)))
+    ∷ Ok command.Who
+    ∷ Err UnknownCommand
+    ∷ Ok command.Blank
+    ∷ Ok (command.Edit (new_rect (pos 0)))
+    ∷ Ok (command.Edit (wish.Ungroup (at_stamp 1 1)))
+    ∷ Ok command.Quit
+    ∷ Ok command.Show
+    ∷ []
 
 abbrev pub noting_printed : List ℕ
 noting_printed =
