@@ -1,5 +1,5 @@
 -- What a well site holds are the records of a log.
-use Rattle.std.proofs.Common.{map, ◌≡◌, ℕ, suc, ◌+◌, true, List, [], ◌∷◌, ◌++◌, length, None, Ok, refl, sym, ap, ◌∙◌, subst, append_assoc, arith, eq-eqb, le-leb}
+use Rattle.std.proofs.Common.{◌≡◌, ℕ, suc, ◌+◌, true, List, [], ◌∷◌, ◌++◌, length, None, Ok, refl, sym, ap, ◌∙◌, subst, append_assoc, arith, eq-eqb, le-leb}
 use Rattle.std.proofs.lemmas.Bool.{lt-leb}
 use Rattle.std.proofs.lemmas.List.Sums.{length-filter}
 use Rattle.std.specs.List.{AllByRecursion as Every}
@@ -10,10 +10,7 @@ use Rattle.gd_log.specs.Written.{AreNext}
 use Rattle.gd_model.specs.LogBytes.{count_of, last_clock, log, logged, turn_fault}
 use Rattle.gd_model.specs.PerSite.{is_site}
 use Rattle.gd_model.specs.SlowSite.{SlowSite, is_by, journal_header, made_by}
-use Rattle.gd_model.specs.Drawing.{picture}
-use Rattle.gd_model.specs.Effects.{Print}
-use Rattle.gd_model.specs.SlowRun.{replayed, replayed_as}
-use Rattle.gd_model.specs.Text.{text}
+use Rattle.gd_model.specs.SlowRun.{replayed, replayed_as, shown}
 use Rattle.gd_model.specs.World.{Step, IsSession, IsStep, after}
 use Rattle.gd_protocol.proofs.Chains.{IsChain-back, last_clock-made_by, made_by-append}
 use Rattle.gd_protocol.proofs.Least.{is_site-bounds}
@@ -55,5 +52,5 @@ well_journal slow h =
 pub journals_after : (sites session : ℕ) (steps : List Step) (s : ℕ) → IsSession sites session → Every IsStep steps → is_site sites s ≡ true → log (logged (journal_header ((after sites session steps).at s)) ((after sites session steps).at s).held) ≡ Ok (journal_header ((after sites session steps).at s), ((after sites session steps).at s).held)
 journals_after sites session steps s met ranged inside = well_journal ((after sites session steps).at s) (sites_are_well_after sites session steps s met ranged inside)
 
-pub well_replayed : (slow : SlowSite) → IsWell slow → replayed (logged (journal_header slow) slow.held) ≡ map Print (text (picture slow.held))
+pub well_replayed : (slow : SlowSite) → IsWell slow → replayed (logged (journal_header slow) slow.held) ≡ shown slow.held
 well_replayed slow h = ap (replayed_as (logged (journal_header slow) slow.held)) (well_journal slow h)
