@@ -27,7 +27,8 @@ use Rattle.gd_model.specs.declared.verb.ScriptVerb.TheVariants as script
 use Rattle.gd_model.specs.declared.command.ScriptLine.{ScriptLine}
 use Rattle.gd_model.specs.declared.command.ScriptLine.TheVariants as a_line
 use Rattle.gd_model.specs.ScriptLines.{script_verb, asked, site_at, mail_at, site_command_at, asked_at, at_at, send_at, deliver_at, script_at, script_of, read_script}
-use Rattle.gd_words.specs.InRange.{IsEdit, IsCommand, IsSite, IsScriptLine}
+use Rattle.gd_model.specs.Judging.{IsEdit}
+use Rattle.gd_words.specs.InRange.{IsCommand, IsSite, IsScriptLine}
 use Rattle.gd_words.proofs.Digits.{push_small}
 
 -- what is read, if it is read, has the property
