@@ -1,6 +1,6 @@
 -- Which events are sound: the number is at least 1, the fields are in their ranges, a group has at least 2 members, every
 -- id that the operation names is before the event's own stamp, and the ids of a group's members rise.
-use Rattle.std.specs.Prelude.{◌≡◌, ℕ, Bool, true, ◌&&◌, not, ◌==◌, nat_le, if◌then◌else◌, Option, Some, None, ◌≤◌, List, [], ◌∷◌, length}
+use Rattle.std.specs.Prelude.{◌≡◌, Bool, true, ◌&&◌, not, ◌==◌, nat_le, if◌then◌else◌, Option, Some, None, ◌≤◌, List, [], ◌∷◌, length}
 use Rattle.std.specs.List.{list_all}
 use Rattle.gd_base.specs.Stamps.{Stamp, IsStamp, is_before}
 use Rattle.gd_base.specs.Labels.{IsLabel}
