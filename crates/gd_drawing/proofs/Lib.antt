@@ -1,5 +1,4 @@
 pub mod Lookups
-pub mod DistinctLemmas
 pub mod Stacking
 pub mod Listed
 pub mod Chains

@@ -1,5 +1,5 @@
 //! What holds of drawings: contracts of functions that do nothing.
-ghost use Rattle.std.specs.Prelude.{◌≡◌, ◌≤◌, ℕ, List, ◌∷◌, length, None, Some, option_map, Ok, IsTrue, if◌then◌else◌};
+ghost use Rattle.std.specs.Prelude.{◌≡◌, ◌≤◌, ℕ, List, ◌∷◌, length, None, Some, option_map, IsTrue, if◌then◌else◌};
 ghost use Rattle.std.specs.List.{filter, flat_map};
 ghost use Rattle.std.specs.FinMap as map_of;
 ghost use Rattle.gd_base.specs.Stamps.{Stamp, stamp_cmp, is_before};
@@ -9,25 +9,11 @@ ghost use Rattle.gd_model.specs.declared.object.Link.{Link};
 ghost use Rattle.gd_model.specs.Objects.{body};
 ghost use Rattle.gd_model.specs.Drawing.{Drawing, picture};
 ghost use Rattle.gd_model.specs.Board.{Board, board, listed};
-ghost use Rattle.gd_model.specs.LogBytes.{Header, log};
 ghost use Rattle.gd_model.specs.Shown.{above, through, shown_items, is_in, under};
-ghost use Rattle.gd_model.specs.Text.{text};
 
-/// Lists of events with distinct stamps that hold the same events have the same drawing and the same text.
+/// Lists of events with distinct stamps that hold the same events have the same drawing.
 pub fn same_events_show_the_same_drawing()
-    ensures drawing { (es fs : List Event) → IsTrue (are_distinct es) → IsTrue (are_distinct fs) → HoldSame es fs → picture es ≡ picture fs }
-    ensures text { (es fs : List Event) → IsTrue (are_distinct es) → IsTrue (are_distinct fs) → HoldSame es fs → text (picture es) ≡ text (picture fs) }
-{}
-
-/// No two events of a log have one stamp.
-pub fn a_log_holds_each_stamp_once()
-    ensures { (bytes : List ℕ) (header : Header) (events : List Event) → log bytes ≡ Ok (header, events) → IsTrue (are_distinct events) }
-{}
-
-/// Logs that hold the same events, in whatever order, have the same drawing and the same text.
-pub fn logs_with_the_same_events_show_the_same_drawing()
-    ensures drawing { (a b : List ℕ) (g h : Header) (es fs : List Event) → log a ≡ Ok (g, es) → log b ≡ Ok (h, fs) → HoldSame es fs → picture es ≡ picture fs }
-    ensures printed { (a b : List ℕ) (g h : Header) (es fs : List Event) → log a ≡ Ok (g, es) → log b ≡ Ok (h, fs) → HoldSame es fs → text (picture es) ≡ text (picture fs) }
+    ensures { (es fs : List Event) → IsTrue (are_distinct es) → IsTrue (are_distinct fs) → HoldSame es fs → picture es ≡ picture fs }
 {}
 
 /// The objects of a board, by rank, are the drawing of the same events.

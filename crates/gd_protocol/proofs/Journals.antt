@@ -7,11 +7,11 @@ use Rattle.gd_events.specs.Events.{Event}
 use Rattle.gd_events.specs.Sound.{IsSound}
 use Rattle.gd_log.proofs.WrittenLemmas.{log-logged}
 use Rattle.gd_log.specs.Written.{AreNext}
-use Rattle.gd_model.specs.LogBytes.{count_of, last_clock, log, logged, turn_fault}
-use Rattle.gd_model.specs.PerSite.{is_site}
-use Rattle.gd_model.specs.SlowSite.{SlowSite, is_by, journal_header, made_by}
-use Rattle.gd_model.specs.SlowRun.{replayed, replayed_as, shown}
-use Rattle.gd_model.specs.World.{Step, IsSession, IsStep, after}
+use Rattle.gd_grammar.specs.LogBytes.{count_of, last_clock, log, logged, turn_fault}
+use Rattle.gd_reference.specs.PerSite.{is_site}
+use Rattle.gd_reference.specs.SlowSite.{SlowSite, is_by, journal_header, made_by}
+use Rattle.gd_reference.specs.SlowRun.{replayed, replayed_as, shown}
+use Rattle.gd_reference.specs.World.{Step, IsSession, IsStep, after}
 use Rattle.gd_protocol.proofs.Chains.{IsChain-back, last_clock-made_by, made_by-append}
 use Rattle.gd_protocol.proofs.Least.{is_site-bounds}
 use Rattle.gd_protocol.specs.Kept.{IsChain}

@@ -2,8 +2,8 @@
 use Rattle.std.proofs.Common.{◌≡◌, ℕ, ◌+◌, ◌<◌, ◌≤◌, List, [], ◌∷◌, ◌++◌, length, get_or, drop, map, refl, sym, ap, ◌∙◌, add-one, drop-cons}
 use Rattle.std.proofs.Math.ListN.{drop_of_length-le}
 use Rattle.gd_base.specs.declared.item.Item.{Item}
-use Rattle.gd_model.specs.Text.{item_line, end_line, lines}
-use Rattle.gd_model.specs.Effects.{Effect, Print}
+use Rattle.gd_lines.specs.Text.{item_line, end_line, lines}
+use Rattle.gd_effects.specs.Effects.{Effect, Print}
 
 -- what is printed of a picture behind its first i lines
 unfoldable pub lines_from : ℕ → List Item → List Effect

@@ -1,7 +1,7 @@
 ghost use Rattle.std.specs.Prelude.{◌≡◌, ℕ, map, Err};
 ghost use Rattle.gd_outside.specs.Seen.{SeenSource, SeenJournal, SeenLink};
-ghost use Rattle.gd_model.specs.Text.{lines};
-ghost use Rattle.gd_model.specs.Effects.{Print};
+ghost use Rattle.gd_lines.specs.Text.{lines};
+ghost use Rattle.gd_effects.specs.Effects.{Print};
 ghost use Rattle.gd_effects.specs.Outside.{outside};
 ghost use Rattle.gd_effects.specs.Done.{Does};
 

@@ -1,6 +1,6 @@
 ghost use Rattle.std.specs.Prelude.{◌≡◌, ◌≤◌, ◌↔◌, IsSome, IfSome, IfOk};
-ghost use Rattle.gd_model.specs.Reading.{Gives};
-ghost use Rattle.gd_model.specs.LogBytes.{magic, magic_at, version_at, session_at, sites_at, header_at, header_bytes, IsHeader};
+ghost use Rattle.gd_base.specs.Results.{Gives};
+ghost use Rattle.gd_grammar.specs.LogBytes.{magic, magic_at, version_at, session_at, sites_at, header_at, header_bytes, IsHeader};
 
 use crate::buffer::{EventBytes, HeaderBytes};
 use crate::bytes::Bytes;
@@ -21,7 +21,7 @@ pub struct LogHeader {
 }
 
 impl Model for LogHeader {
-    ghost use Rattle.gd_model.specs.LogBytes.{Header, IsHeader};
+    ghost use Rattle.gd_grammar.specs.LogBytes.{Header, IsHeader};
 
     ghost Value = { Header };
 
@@ -72,7 +72,7 @@ impl<'a> Bytes<'a> {
     /// The first fault is the answer: `Short` at the end of all bytes where a field isn't whole, `Magic` or `Version`
     /// at another magic or version, and `Field` at a site that isn't from 1 to 16, or at a number of sites that isn't
     /// from the site to 16.
-    #[tactic(auto, unfolding(gd_model::specs::LogBytes::header_at))]
+    #[tactic(auto, unfolding(gd_grammar::specs::LogBytes::header_at))]
     pub fn header(&mut self) -> Result<LogHeader, FieldFault>
         ensures { Gives (λ h. (h, self.new)) result (header_at self.old) }
     {
@@ -84,7 +84,7 @@ impl<'a> Bytes<'a> {
         Ok(LogHeader { session, site, n })
     }
 
-    #[tactic(auto, unfolding(gd_model::specs::LogBytes::magic_at))]
+    #[tactic(auto, unfolding(gd_grammar::specs::LogBytes::magic_at))]
     fn magic(&mut self) -> Result<(), FieldFault>
         ensures { Gives (λ x. (magic, self.new)) result (magic_at self.old) }
     {
@@ -96,7 +96,7 @@ impl<'a> Bytes<'a> {
         Ok(())
     }
 
-    #[tactic(auto, unfolding(gd_model::specs::LogBytes::version_at))]
+    #[tactic(auto, unfolding(gd_grammar::specs::LogBytes::version_at))]
     fn version(&mut self) -> Result<(), FieldFault>
         ensures { Gives (λ x. (1, self.new)) result (version_at self.old) }
     {
@@ -107,7 +107,7 @@ impl<'a> Bytes<'a> {
         Ok(())
     }
 
-    #[tactic(auto, unfolding(gd_model::specs::LogBytes::session_at))]
+    #[tactic(auto, unfolding(gd_grammar::specs::LogBytes::session_at))]
     fn session(&mut self) -> Result<u32, FieldFault>
         ensures { Gives (λ x. (x, self.new)) result (session_at self.old) }
     {
@@ -116,7 +116,7 @@ impl<'a> Bytes<'a> {
     }
 
     /// The number of sites of a session that has this site.
-    #[tactic(auto, unfolding(gd_model::specs::LogBytes::sites_at))]
+    #[tactic(auto, unfolding(gd_grammar::specs::LogBytes::sites_at))]
     fn sites(&mut self, site: u8) -> Result<u8, FieldFault>
         ensures read { Gives (λ x. (x, self.new)) result (sites_at site self.old) }
         ensures above { IfOk result (λ n. site ≤ n) }

@@ -1,7 +1,7 @@
 //! Writes the fields of an event one behind the other.
 ghost use Rattle.std.specs.Prelude.{◌≡◌, ◌≤◌, ◌<◌, ◌+◌, ◌*◌, ◌^◌, ◌++◌, ◌∷◌, [], length};
 ghost use Rattle.std.specs.Int.{bytes_high_first};
-ghost use Rattle.gd_model.specs.Spelling.{stamp_bytes, word_bytes, signed_bytes, shape_byte, label_bytes, style_bytes, member_bytes, members_bytes, op_bytes, spelling};
+ghost use Rattle.gd_grammar.specs.Spelling.{stamp_bytes, word_bytes, signed_bytes, shape_byte, label_bytes, style_bytes, member_bytes, members_bytes, op_bytes, spelling};
 
 use crate::buffer::EventBytes;
 use byteorder::{BigEndian, ByteOrder};

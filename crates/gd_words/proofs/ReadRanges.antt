@@ -14,21 +14,20 @@ use Rattle.gd_base.specs.declared.style.Style.TheVariants as style
 use Rattle.gd_base.specs.declared.edit.Edit.{Edit}
 use Rattle.gd_base.specs.declared.refusal.LineFault.{LineFault}
 use Rattle.gd_base.specs.declared.refusal.LineFault.TheVariants.{LongLine, WrongCount}
-use Rattle.gd_model.specs.declared.verb.Verb.{Verb}
-use Rattle.gd_model.specs.declared.verb.Verb.TheVariants as verb_of
-use Rattle.gd_model.specs.declared.command.Command.{Command}
-use Rattle.gd_model.specs.declared.command.Command.TheVariants as command
-use Rattle.gd_model.specs.Reading.{◌>>=◌}
-use Rattle.gd_model.specs.LineWords.{word, behind, count_words, without_cr}
-use Rattle.gd_model.specs.WordKinds.{when, digit, is_digit, push_digit, value, numeral, number, within, number_in, natural, natural_in, in_ranges, is_dot, id, colour, perhaps, fill, focus, label, name}
-use Rattle.gd_model.specs.Lines.{ReadsWords, or_fault, kind_at, place_at, size_at, natural_at, width_at, id_at, colour_at, fill_at, focus_at, name_at, label_at, ids_at, verb, fits, create_at, delete_at, move_at, resize_at, stroke_at, refill_at, rewidth_at, text_at, group_at, ungroup_at, raise_at, an_edit, command_at, counted_at, first_of, line_of, longest_line, read}
-use Rattle.gd_model.specs.declared.verb.ScriptVerb.{ScriptVerb}
-use Rattle.gd_model.specs.declared.verb.ScriptVerb.TheVariants as script
-use Rattle.gd_model.specs.declared.command.ScriptLine.{ScriptLine}
-use Rattle.gd_model.specs.declared.command.ScriptLine.TheVariants as a_line
-use Rattle.gd_model.specs.ScriptLines.{script_verb, asked, site_at, mail_at, site_command_at, asked_at, at_at, send_at, deliver_at, script_at, script_of, read_script}
-use Rattle.gd_model.specs.Judging.{IsEdit}
-use Rattle.gd_words.specs.InRange.{IsCommand, IsSite, IsScriptLine}
+use Rattle.gd_lines.specs.declared.verb.Verb.{Verb}
+use Rattle.gd_lines.specs.declared.verb.Verb.TheVariants as verb_of
+use Rattle.gd_lines.specs.declared.command.Command.{Command}
+use Rattle.gd_lines.specs.declared.command.Command.TheVariants as command
+use Rattle.gd_base.specs.Results.{◌>>=◌}
+use Rattle.gd_lines.specs.LineWords.{word, behind, count_words, without_cr}
+use Rattle.gd_lines.specs.WordKinds.{when, digit, is_digit, push_digit, value, numeral, number, within, number_in, natural, natural_in, in_ranges, is_dot, id, colour, perhaps, fill, focus, label, name}
+use Rattle.gd_lines.specs.Lines.{ReadsWords, or_fault, kind_at, place_at, size_at, natural_at, width_at, id_at, colour_at, fill_at, focus_at, name_at, label_at, ids_at, verb, fits, create_at, delete_at, move_at, resize_at, stroke_at, refill_at, rewidth_at, text_at, group_at, ungroup_at, raise_at, an_edit, command_at, counted_at, first_of, line_of, longest_line, read}
+use Rattle.gd_lines.specs.declared.verb.ScriptVerb.{ScriptVerb}
+use Rattle.gd_lines.specs.declared.verb.ScriptVerb.TheVariants as script
+use Rattle.gd_lines.specs.declared.command.ScriptLine.{ScriptLine}
+use Rattle.gd_lines.specs.declared.command.ScriptLine.TheVariants as a_line
+use Rattle.gd_lines.specs.ScriptLines.{script_verb, asked, site_at, mail_at, site_command_at, asked_at, at_at, send_at, deliver_at, script_at, script_of, read_script}
+use Rattle.gd_lines.specs.InRange.{IsEdit, IsCommand, IsSite, IsScriptLine}
 use Rattle.gd_words.proofs.Digits.{push_small}
 
 -- what is read, if it is read, has the property

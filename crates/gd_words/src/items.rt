@@ -1,14 +1,14 @@
 //! The parts of an item's line.
 
 ghost use Rattle.std.specs.Prelude.{◌≡◌, ◌≤◌, ◌+◌, ◌++◌, [], length};
-ghost use Rattle.gd_model.specs.Text.{shape_word, kind_word, parent_text, fill_text, label_text, head_text, size_text, colours_text, width_text, look_text, look_of};
+ghost use Rattle.gd_lines.specs.Text.{shape_word, kind_word, parent_text, fill_text, label_text, head_text, size_text, colours_text, width_text, look_text, look_of};
 
 use crate::colours::push_colour;
 use crate::reply_text::ReplyText;
 use gd_base::{Item, Label, Shape, ShapeItem, Stamp};
 
 /// Puts what each item has: what it is, its id, its effective parent and its place.
-#[tactic(auto, unfolding(gd_model::specs::Text::head_text))]
+#[tactic(auto, unfolding(gd_lines::specs::Text::head_text))]
 pub(crate) fn push_head(text: &mut ReplyText, item: &Item)
     requires { text.old ≡ [] }
     ensures value { text.new ≡ head_text item.now }
@@ -71,7 +71,7 @@ pub(crate) fn push_parent(text: &mut ReplyText, parent: Option<Stamp>)
     }
 }
 
-#[tactic(auto, unfolding(gd_model::specs::Text::look_text))]
+#[tactic(auto, unfolding(gd_lines::specs::Text::look_text))]
 fn push_look(text: &mut ReplyText, shape: &ShapeItem)
     requires { length text.old ≤ 150 }
     ensures value { text.new ≡ text.old ++ look_text shape.now }
@@ -83,7 +83,7 @@ fn push_look(text: &mut ReplyText, shape: &ShapeItem)
     push_label(text, &shape.label);
 }
 
-#[tactic(auto, unfolding(gd_model::specs::Text::size_text))]
+#[tactic(auto, unfolding(gd_lines::specs::Text::size_text))]
 fn push_size(text: &mut ReplyText, w: i32, h: i32)
     requires { length text.old ≤ 400 }
     ensures value { text.new ≡ text.old ++ size_text w h }
@@ -95,7 +95,7 @@ fn push_size(text: &mut ReplyText, w: i32, h: i32)
     text.signed(i64::from(h));
 }
 
-#[tactic(auto, unfolding(gd_model::specs::Text::colours_text))]
+#[tactic(auto, unfolding(gd_lines::specs::Text::colours_text))]
 fn push_colours(text: &mut ReplyText, stroke: u32, fill: Option<u32>)
     requires { length text.old ≤ 300 }
     ensures value { text.new ≡ text.old ++ colours_text stroke fill }
@@ -118,7 +118,7 @@ fn push_fill(text: &mut ReplyText, fill: Option<u32>)
     }
 }
 
-#[tactic(auto, unfolding(gd_model::specs::Text::width_text))]
+#[tactic(auto, unfolding(gd_lines::specs::Text::width_text))]
 fn push_width(text: &mut ReplyText, width: u8)
     requires { length text.old ≤ 400 }
     ensures value { text.new ≡ text.old ++ width_text width }

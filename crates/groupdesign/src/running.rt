@@ -4,9 +4,9 @@ ghost use Rattle.std.specs.Prelude.{◌≡◌, ◌≤◌, ℕ, ◌+◌, [], ◌�
 ghost use Rattle.gd_outside.specs.Causes.{Rose};
 ghost use Rattle.gd_outside.specs.Seen.{SeenSource, SeenJournal, SeenLink};
 ghost use Rattle.gd_outside.specs.Told.{told};
-ghost use Rattle.gd_model.specs.Effects.{Print, cost};
-ghost use Rattle.gd_model.specs.SlowRun.{is_replay, slow_effects, slow_end};
-ghost use Rattle.gd_model.specs.Replies.{usage_line};
+ghost use Rattle.gd_effects.specs.Effects.{Print, cost};
+ghost use Rattle.gd_reference.specs.SlowRun.{is_replay, slow_effects, slow_end};
+ghost use Rattle.gd_lines.specs.Replies.{usage_line};
 ghost use Rattle.gd_effects.specs.Outside.{outside};
 ghost use Rattle.gd_effects.specs.Endings.{EndsAs, IsUncut};
 ghost use Rattle.groupdesign.specs.Runs.{IsRunEnd};

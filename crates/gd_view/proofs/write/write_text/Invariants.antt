@@ -1,7 +1,7 @@
 use Rattle.std.proofs.Common.{ℕ, map}
 use Rattle.gd_outside.specs.Seen.{SeenSource, SeenJournal, SeenLink}
-use Rattle.gd_model.specs.Text.{lines}
-use Rattle.gd_model.specs.Effects.{Print}
+use Rattle.gd_lines.specs.Text.{lines}
+use Rattle.gd_effects.specs.Effects.{Print}
 use Rattle.gd_effects.specs.Outside.{outside}
 use Rattle.gd_effects.specs.Done.{Along}
 use Rattle.gd_view.proofs.WriteLemmas.{lines_from}

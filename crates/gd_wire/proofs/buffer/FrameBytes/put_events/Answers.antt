@@ -1,5 +1,5 @@
 use Rattle.std.proofs.Common.{◌≤◌, ◌++◌, ◌∙◌, List, ℕ, length, ap}
-use Rattle.gd_model.specs.Spelling.{spelling}
+use Rattle.gd_grammar.specs.Spelling.{spelling}
 use Rattle.gd_wire.proofs.WriteLoop.{events_join, written_start, written_more, written_end}
 use Rattle.gd_wire.proofs.buffer.FrameBytes.put_events.Goals as goal
 

@@ -1,5 +1,0 @@
-use Rattle.gd_drawing.proofs.DistinctLemmas.{distinct-log}
-use Rattle.gd_drawing.proofs.laws.a_log_holds_each_stamp_once.Goals as goal
-
-pub returns : goal.returns
-returns c = distinct-log

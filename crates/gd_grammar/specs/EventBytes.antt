@@ -1,0 +1,230 @@
+-- The bytes of an event: its stamp, its number, a tag and the body by the tag. Numbers are big-endian, and a signed field
+-- is two's complement. A field that isn't whole is Short, and one out of its range is Field at its first byte. An id in a
+-- body that isn't before the event's stamp is FutureId at its first byte, and else a member's id that isn't above that of
+-- the member before it is MemberOrder there; both are judged before the fields behind the id.
+use Rattle.std.specs.Prelude.{ℕ, zero, suc, ℤ, Option, Some, None, List, [], ◌∷◌, Ok, Err, ◌&&◌, nat_lt, nat_le, ◌==◌, if◌then◌else◌}
+use Rattle.std.specs.Int.{w16, w32, w64, from_be_bytes, cast_signed}
+use Rattle.gd_base.specs.Stamps.{Stamp, is_before}
+use Rattle.gd_base.specs.Labels.{most_label, is_plain}
+use Rattle.gd_base.specs.Ranges.{place_limit, size_limit, is_within, is_colour, is_width}
+use Rattle.gd_base.specs.declared.fault.FieldWhy.TheVariants.{Field, FutureId, MemberOrder}
+use Rattle.gd_base.specs.declared.member.Member.{Member}
+use Rattle.gd_base.specs.declared.shape.Shape.{Shape}
+use Rattle.gd_base.specs.declared.shape.Shape.TheVariants.{Rect, Ellipse, Line, Text}
+use Rattle.gd_base.specs.declared.style.Style.{Style}
+use Rattle.gd_base.specs.declared.style.Style.TheVariants.{Stroke, Fill, Width}
+use Rattle.gd_events.specs.declared.op.Op.{Op}
+use Rattle.gd_events.specs.declared.op.Op.TheVariants.{Create, Delete, Move, Resize, Restyle, Retext, Group, Ungroup, Raise}
+use Rattle.gd_events.specs.Events.{Event}
+use Rattle.gd_events.specs.Sound.{is_above}
+use Rattle.gd_base.specs.Results.{◌>>=◌}
+use Rattle.gd_grammar.specs.Reading.{Reads, fault_at, short, bytes_at, ranged}
+
+unfoldable pub byte_at : List ℕ → Reads ℕ
+byte_at [] = Err short
+byte_at (b ∷ rest) = Ok (b, rest)
+
+-- 1 to 2^48 - 1
+unfoldable pub clock_at : List ℕ → Reads ℕ
+clock_at bytes = do
+  six ← bytes_at 6 bytes
+  ranged (nat_lt 0 (from_be_bytes w64 (0 ∷ 0 ∷ six.0))) (from_be_bytes w64 (0 ∷ 0 ∷ six.0)) bytes six.1
+
+-- 1 to 16
+unfoldable pub site_at : List ℕ → Reads ℕ
+site_at bytes = do
+  site ← byte_at bytes
+  ranged (nat_le 1 site.0 && nat_le site.0 16) site.0 bytes site.1
+
+unfoldable pub stamp_at : List ℕ → Reads Stamp
+stamp_at bytes = do
+  clock ← clock_at bytes
+  site ← site_at clock.1
+  Ok (record { clock = clock.0; site = site.0 }, site.1)
+
+-- an id in the body of the event with this stamp
+unfoldable pub id_at : Stamp → List ℕ → Reads Stamp
+id_at stamp bytes = do
+  id ← stamp_at bytes
+  if is_before id.0 stamp then Ok id else Err (fault_at FutureId bytes)
+
+-- 1 to 65,535
+unfoldable pub number_at : List ℕ → Reads ℕ
+number_at bytes = do
+  two ← bytes_at 2 bytes
+  ranged (nat_lt 0 (from_be_bytes w16 two.0)) (from_be_bytes w16 two.0) bytes two.1
+
+-- from -limit to limit
+unfoldable pub signed_at : ℕ → List ℕ → Reads ℤ
+signed_at limit bytes = do
+  four ← bytes_at 4 bytes
+  ranged (is_within limit (cast_signed w32 (from_be_bytes w32 four.0))) (cast_signed w32 (from_be_bytes w32 four.0)) bytes four.1
+
+unfoldable pub shape_at : List ℕ → Reads Shape
+shape_at bytes = do
+  kind ← byte_at bytes
+  if kind.0 == 1 then Ok (Rect, kind.1)
+      else if kind.0 == 2 then Ok (Ellipse, kind.1)
+      else if kind.0 == 3 then Ok (Line, kind.1)
+      else if kind.0 == 4 then Ok (Text, kind.1)
+      else Err (fault_at Field bytes)
+
+-- a length, and that many bytes of a text without control characters
+unfoldable pub label_at : List ℕ → Reads (List ℕ)
+label_at bytes = do
+  len ← byte_at bytes
+  if nat_lt most_label len.0 then Err (fault_at Field bytes) else (do
+    text ← bytes_at len.0 len.1
+    ranged (is_plain text.0) text.0 len.1 text.1)
+
+-- a number of four bytes
+unfoldable pub word_at : List ℕ → Reads ℕ
+word_at bytes = do
+  four ← bytes_at 4 bytes
+  Ok (from_be_bytes w32 four.0, four.1)
+
+unfoldable pub colour_at : List ℕ → Reads ℕ
+colour_at bytes = do
+  word ← word_at bytes
+  ranged (is_colour word.0) word.0 bytes word.1
+
+-- FFFFFFFF is none
+unfoldable pub fill_at : List ℕ → Reads (Option ℕ)
+fill_at bytes = do
+  word ← word_at bytes
+  if word.0 == 0xFFFFFFFF then Ok (None, word.1) else ranged (is_colour word.0) (Some word.0) bytes word.1
+
+unfoldable pub width_at : List ℕ → Reads ℕ
+width_at bytes = do
+  word ← word_at bytes
+  ranged (is_width word.0) word.0 bytes word.1
+
+unfoldable pub stroke_style_at : List ℕ → Reads Style
+stroke_style_at bytes = do
+  colour ← colour_at bytes
+  Ok (Stroke colour.0, colour.1)
+
+unfoldable pub fill_style_at : List ℕ → Reads Style
+fill_style_at bytes = do
+  fill ← fill_at bytes
+  Ok (Fill fill.0, fill.1)
+
+unfoldable pub width_style_at : List ℕ → Reads Style
+width_style_at bytes = do
+  width ← width_at bytes
+  Ok (Width width.0, width.1)
+
+-- which part of the look, and its value
+unfoldable pub style_at : List ℕ → Reads Style
+style_at bytes = do
+  what ← byte_at bytes
+  if what.0 == 1 then stroke_style_at what.1
+      else if what.0 == 2 then fill_style_at what.1
+      else if what.0 == 3 then width_style_at what.1
+      else Err (fault_at Field bytes)
+
+unfoldable pub create_at : List ℕ → Reads Op
+create_at bytes = do
+  kind ← shape_at bytes
+  x ← signed_at place_limit kind.1
+  y ← signed_at place_limit x.1
+  w ← signed_at size_limit y.1
+  h ← signed_at size_limit w.1
+  label ← label_at h.1
+  Ok (Create kind.0 x.0 y.0 w.0 h.0 label.0, label.1)
+
+unfoldable pub delete_at : Stamp → List ℕ → Reads Op
+delete_at stamp bytes = do
+  id ← id_at stamp bytes
+  Ok (Delete id.0, id.1)
+
+unfoldable pub move_at : Stamp → List ℕ → Reads Op
+move_at stamp bytes = do
+  id ← id_at stamp bytes
+  x ← signed_at place_limit id.1
+  y ← signed_at place_limit x.1
+  Ok (Move id.0 x.0 y.0, y.1)
+
+unfoldable pub resize_at : Stamp → List ℕ → Reads Op
+resize_at stamp bytes = do
+  id ← id_at stamp bytes
+  w ← signed_at size_limit id.1
+  h ← signed_at size_limit w.1
+  Ok (Resize id.0 w.0 h.0, h.1)
+
+unfoldable pub restyle_at : Stamp → List ℕ → Reads Op
+restyle_at stamp bytes = do
+  id ← id_at stamp bytes
+  style ← style_at id.1
+  Ok (Restyle id.0 style.0, style.1)
+
+unfoldable pub retext_at : Stamp → List ℕ → Reads Op
+retext_at stamp bytes = do
+  id ← id_at stamp bytes
+  label ← label_at id.1
+  Ok (Retext id.0 label.0, label.1)
+
+-- how many members a group has
+unfoldable pub member_count_at : List ℕ → Reads ℕ
+member_count_at bytes = do
+  count ← byte_at bytes
+  ranged (nat_le 2 count.0 && nat_le count.0 32) count.0 bytes count.1
+
+-- the id of a member behind a last one, if there is one
+unfoldable pub member_id_at : Stamp → Option Stamp → List ℕ → Reads Stamp
+member_id_at stamp last bytes = do
+  id ← id_at stamp bytes
+  if is_above last id.0 then Ok id else Err (fault_at MemberOrder bytes)
+
+unfoldable pub member_at : Stamp → Option Stamp → List ℕ → Reads Member
+member_at stamp last bytes = do
+  id ← member_id_at stamp last bytes
+  dx ← signed_at place_limit id.1
+  dy ← signed_at place_limit dx.1
+  Ok (record { id = id.0; dx = dx.0; dy = dy.0 }, dy.1)
+
+-- so many members behind a last one, if there is one
+unfoldable pub members_at : ℕ → Stamp → Option Stamp → List ℕ → Reads (List Member)
+members_at zero stamp last bytes = Ok ([], bytes)
+members_at (suc count) stamp last bytes = do
+  member ← member_at stamp last bytes
+  members ← members_at count stamp (Some member.0.id) member.1
+  Ok (member.0 ∷ members.0, members.1)
+
+unfoldable pub group_at : Stamp → List ℕ → Reads Op
+group_at stamp bytes = do
+  count ← member_count_at bytes
+  members ← members_at count.0 stamp None count.1
+  Ok (Group members.0, members.1)
+
+unfoldable pub ungroup_at : Stamp → List ℕ → Reads Op
+ungroup_at stamp bytes = do
+  id ← id_at stamp bytes
+  Ok (Ungroup id.0, id.1)
+
+unfoldable pub raise_at : Stamp → List ℕ → Reads Op
+raise_at stamp bytes = do
+  id ← id_at stamp bytes
+  Ok (Raise id.0, id.1)
+
+-- a tag, and the body by the tag
+unfoldable pub op_at : Stamp → List ℕ → Reads Op
+op_at stamp bytes = do
+  tag ← byte_at bytes
+  if tag.0 == 1 then create_at tag.1
+      else if tag.0 == 2 then delete_at stamp tag.1
+      else if tag.0 == 3 then move_at stamp tag.1
+      else if tag.0 == 4 then resize_at stamp tag.1
+      else if tag.0 == 5 then restyle_at stamp tag.1
+      else if tag.0 == 6 then retext_at stamp tag.1
+      else if tag.0 == 7 then group_at stamp tag.1
+      else if tag.0 == 8 then ungroup_at stamp tag.1
+      else if tag.0 == 9 then raise_at stamp tag.1
+      else Err (fault_at Field bytes)
+
+unfoldable pub event_at : List ℕ → Reads Event
+event_at bytes = do
+  stamp ← stamp_at bytes
+  number ← number_at stamp.1
+  op ← op_at stamp.0 number.1
+  Ok (record { stamp = stamp.0; number = number.0; op = op.0 }, op.1)

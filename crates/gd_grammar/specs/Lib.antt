@@ -1,0 +1,5 @@
+pub mod Reading
+pub mod EventBytes
+pub mod Spelling
+pub mod FrameBytes
+pub mod LogBytes

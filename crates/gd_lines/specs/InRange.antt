@@ -1,0 +1,40 @@
+-- What is read is in its ranges: an edit's numbers, its ids, its label and how many members its group has; a focus, a name,
+-- and the sites of a rehearsal.
+use Rattle.std.specs.Prelude.{◌≡◌, ℕ, ◌≤◌, ◌&&◌, true, Some, length}
+use Rattle.std.specs.List.{AllByRecursion}
+use Rattle.gd_base.specs.Stamps.{IsStamp}
+use Rattle.gd_base.specs.Labels.{IsLabel, is_name}
+use Rattle.gd_base.specs.Ranges.{place_limit, size_limit, is_within, is_style}
+use Rattle.gd_base.specs.declared.edit.Edit.{Edit}
+use Rattle.gd_base.specs.declared.edit.Edit.TheVariants as wish
+use Rattle.gd_lines.specs.declared.command.Command.{Command}
+use Rattle.gd_lines.specs.declared.command.Command.TheVariants as command
+use Rattle.gd_lines.specs.declared.command.ScriptLine.{ScriptLine}
+use Rattle.gd_lines.specs.declared.command.ScriptLine.TheVariants as script
+
+-- the numbers of the edit are in their ranges, its ids are stamps, its label is one, and its group has 2 to 32 members
+abbrev pub IsEdit : Edit → Type 0
+IsEdit (wish.Create kind x y w h label) =
+    (is_within place_limit x && (is_within place_limit y && (is_within size_limit w && is_within size_limit h)) ≡ true) × IsLabel label
+IsEdit (wish.Delete id) = IsStamp id
+IsEdit (wish.Move id x y) = IsStamp id × (is_within place_limit x && is_within place_limit y ≡ true)
+IsEdit (wish.Resize id w h) = IsStamp id × (is_within size_limit w && is_within size_limit h ≡ true)
+IsEdit (wish.Restyle id style) = IsStamp id × (is_style style ≡ true)
+IsEdit (wish.Retext id label) = IsStamp id × IsLabel label
+IsEdit (wish.Group ids) = (2 ≤ length ids) × (length ids ≤ 32) × AllByRecursion IsStamp ids
+IsEdit (wish.Ungroup id) = IsStamp id
+IsEdit (wish.Raise id) = IsStamp id
+
+abbrev pub IsCommand : Command → Type 0
+IsCommand (command.Edit edit) = IsEdit edit
+IsCommand (command.Focus (Some id)) = IsStamp id
+IsCommand (command.Name name) = is_name name ≡ true
+IsCommand other = Unit {0}
+
+abbrev pub IsSite : ℕ → Type 0
+IsSite site = (1 ≤ site) × (site ≤ 16)
+
+abbrev pub IsScriptLine : ScriptLine → Type 0
+IsScriptLine (script.At site command) = IsSite site × IsCommand command
+IsScriptLine (script.Send from to) = IsSite from × IsSite to
+IsScriptLine other = Unit {0}

@@ -1,0 +1,141 @@
+-- The printed lines beside those of a drawing and of a bad log. Each ends with LF. Numbers are decimal without leading zeros.
+use Rattle.std.specs.Prelude.{ℕ, List, ◌++◌, Option, Some, None, Bool, true, false, codes, decimal}
+use Rattle.gd_base.specs.Stamps.{Stamp}
+use Rattle.gd_base.specs.declared.refusal.Refusal.{Refusal}
+use Rattle.gd_base.specs.declared.refusal.Refusal.TheVariants as why
+use Rattle.gd_base.specs.declared.refusal.FrameFault.{FrameFault}
+use Rattle.gd_base.specs.declared.refusal.FrameFault.TheVariants as frame
+use Rattle.gd_base.specs.declared.fault.WireWhy.{WireWhy}
+use Rattle.gd_base.specs.declared.fault.WireWhy.TheVariants as wire
+use Rattle.gd_base.specs.declared.fault.WireFault.{WireFault}
+use Rattle.gd_base.specs.declared.note.Note.{Note}
+use Rattle.gd_base.specs.declared.site_status.SiteStatus.{SiteStatus}
+use Rattle.gd_lines.specs.Text.{id_text, parent_text}
+
+-- why a line has no effect
+abbrev pub refusal_word : Refusal → List ℕ
+refusal_word why.LongLine = codes "LongLine"
+refusal_word why.UnknownCommand = codes "UnknownCommand"
+refusal_word why.WrongCount = codes "WrongCount"
+refusal_word why.BadKind = codes "BadKind"
+refusal_word why.BadNumber = codes "BadNumber"
+refusal_word why.BadId = codes "BadId"
+refusal_word why.BadColour = codes "BadColour"
+refusal_word why.BadLabel = codes "BadLabel"
+refusal_word why.ClockEnd = codes "ClockEnd"
+refusal_word why.SessionFull = codes "SessionFull"
+refusal_word why.NoObject = codes "NoObject"
+refusal_word why.NotShape = codes "NotShape"
+refusal_word why.NotGroup = codes "NotGroup"
+refusal_word why.SameMember = codes "SameMember"
+refusal_word why.NotTop = codes "NotTop"
+refusal_word why.TooFar = codes "TooFar"
+refusal_word why.NoteEnd = codes "NoteEnd"
+refusal_word why.NoSite = codes "NoSite"
+refusal_word why.NoMail = codes "NoMail"
+
+-- why bytes are no frame
+abbrev pub wire_word : WireWhy → List ℕ
+wire_word wire.Short = codes "Short"
+wire_word wire.Magic = codes "Magic"
+wire_word wire.Version = codes "Version"
+wire_word wire.Field = codes "Field"
+wire_word wire.FutureId = codes "FutureId"
+wire_word wire.MemberOrder = codes "MemberOrder"
+wire_word wire.Disorder = codes "Disorder"
+wire_word wire.Trailing = codes "Trailing"
+
+unfoldable pub ready_line : ℕ → ℕ → List ℕ
+ready_line site n = codes "ready " ++ decimal site ++ codes " of " ++ decimal n ++ codes "\n"
+
+unfoldable pub done_line : Stamp → List ℕ
+done_line id = codes "ok " ++ id_text id ++ codes "\n"
+
+unfoldable pub refused_line : Refusal → List ℕ
+refused_line why = codes "refused: " ++ refusal_word why ++ codes "\n"
+
+-- how many events are held and kept, the line, and the clock
+unfoldable pub status_text : SiteStatus → List ℕ
+status_text status =
+    codes "held " ++ decimal status.held ++ codes " kept " ++ decimal status.kept
+    ++ codes " line " ++ decimal status.line ++ codes " clock " ++ decimal status.clock
+
+unfoldable pub status_line : SiteStatus → List ℕ
+status_line status = status_text status ++ codes "\n"
+
+unfoldable pub site_line : ℕ → SiteStatus → List ℕ
+site_line site status = codes "site " ++ decimal site ++ codes " " ++ status_text status ++ codes "\n"
+
+unfoldable pub noted_line : ℕ → List ℕ
+noted_line number = codes "noted " ++ decimal number ++ codes "\n"
+
+-- a name, or that there is none
+abbrev pub name_text : Option (List ℕ) → List ℕ
+name_text None = codes "-"
+name_text (Some name) = name
+
+unfoldable pub who_line : ℕ → Note → List ℕ
+who_line site note =
+    codes "who " ++ decimal site ++ codes " " ++ name_text note.name ++ codes " focus " ++ parent_text note.focus ++ codes "\n"
+
+unfoldable pub applied_line : Stamp → List ℕ
+applied_line id = codes "echo " ++ id_text id ++ codes " applied\n"
+
+unfoldable pub dropped_line : Stamp → Stamp → List ℕ
+dropped_line id by = codes "echo " ++ id_text id ++ codes " dropped by " ++ id_text by ++ codes "\n"
+
+unfoldable pub reworked_line : Stamp → ℕ → List ℕ
+reworked_line id count = codes "echo " ++ id_text id ++ codes " reworked " ++ decimal count ++ codes "\n"
+
+-- the event's clock, and the sure clock
+unfoldable pub backdated_line : Stamp → ℕ → ℕ → List ℕ
+backdated_line id clock sure = codes "event " ++ id_text id ++ codes " refused: Backdated " ++ decimal clock ++ codes " " ++ decimal sure ++ codes "\n"
+
+unfoldable pub bad_frame_line : WireFault → List ℕ
+bad_frame_line fault = codes "frame refused: " ++ wire_word fault.why ++ codes " at " ++ decimal fault.at ++ codes "\n"
+
+-- so many events acknowledged, of so many
+unfoldable pub over_ack_line : ℕ → ℕ → List ℕ
+over_ack_line k own = codes "frame refused: OverAck " ++ decimal k ++ codes " " ++ decimal own ++ codes "\n"
+
+abbrev pub not_taken_line : FrameFault → List ℕ
+not_taken_line frame.Session = codes "frame refused: Session\n"
+not_taken_line frame.NotForMe = codes "frame refused: NotForMe\n"
+not_taken_line frame.FromMe = codes "frame refused: FromMe\n"
+not_taken_line frame.NoSuchSite = codes "frame refused: NoSuchSite\n"
+not_taken_line (frame.OverAck k own) = over_ack_line k own
+
+abbrev pub long_frame_line : List ℕ
+long_frame_line = codes "frame refused: TooLong\n"
+
+unfoldable pub polled_line : ℕ → List ℕ
+polled_line count = codes "polled " ++ decimal count ++ codes "\n"
+
+unfoldable pub link_fault_line : ℕ → List ℕ
+link_fault_line count = codes "link fault after " ++ decimal count ++ codes "\n"
+
+unfoldable pub mail_line : ℕ → List ℕ
+mail_line number = codes "mail " ++ decimal number ++ codes "\n"
+
+unfoldable pub delivered_line : ℕ → List ℕ
+delivered_line number = codes "delivered " ++ decimal number ++ codes "\n"
+
+abbrev pub usage_line : List ℕ
+usage_line = codes "usage: groupdesign COMMAND OPTIONS\n"
+
+abbrev pub line_limit_line : List ℕ
+line_limit_line = codes "line limit\n"
+
+unfoldable pub arrivals_line : ℕ → ℕ → ℕ → ℕ → List ℕ
+arrivals_line applied dropped reworked undone =
+    codes "arrivals applied " ++ decimal applied ++ codes " dropped " ++ decimal dropped
+    ++ codes " reworked " ++ decimal reworked ++ codes " undone " ++ decimal undone ++ codes "\n"
+
+unfoldable pub churned_line : ℕ → ℕ → ℕ → ℕ → ℕ → List ℕ
+churned_line edits refused sent delivered idle =
+    codes "edits " ++ decimal edits ++ codes " refused " ++ decimal refused ++ codes " sent " ++ decimal sent
+    ++ codes " delivered " ++ decimal delivered ++ codes " idle " ++ decimal idle ++ codes "\n"
+
+abbrev pub same_line : Bool → List ℕ
+same_line true = codes "same yes\n"
+same_line false = codes "same no\n"

@@ -1,0 +1,105 @@
+-- The printed lines: those of a drawing, which are a line for each shown object in printed order and then the number of
+-- these lines, and that of bytes that are no log.
+use Rattle.std.specs.Prelude.{ℕ, ◌+◌, ◌/◌, ◌%◌, ℤ, List, [], ◌∷◌, ◌++◌, length, map, Option, Some, None, ◌==◌, nat_lt, nat_le, codes, decimal, if◌then◌else◌}
+use Rattle.std.specs.Fmt.{signed_decimal}
+use Rattle.gd_base.specs.Stamps.{Stamp}
+use Rattle.gd_base.specs.declared.shape.Shape as shape
+use Rattle.gd_base.specs.declared.shape.Shape.TheVariants.{Rect, Ellipse, Line, Text}
+use Rattle.gd_base.specs.declared.fault.LogWhy.{LogWhy}
+use Rattle.gd_base.specs.declared.fault.LogWhy.TheVariants as why
+use Rattle.gd_base.specs.declared.item.Item.{Item}
+use Rattle.gd_base.specs.declared.item.ShapeItem.{ShapeItem}
+
+-- a hexadecimal digit, in upper case
+unfoldable pub hex_digit : ℕ → ℕ
+hex_digit d = if nat_lt d 10 then 48 + d else 55 + d
+
+-- the digit of that weight
+unfoldable pub nibble : ℕ → ℕ → ℕ
+nibble number weight = hex_digit (number / weight % 16)
+
+-- the digits in front of the last six
+unfoldable pub high_digits : ℕ → List ℕ
+high_digits c =
+    if nat_le 0x10000000 c then nibble c 0x10000000 ∷ nibble c 0x1000000 ∷ []
+    else if nat_le 0x1000000 c then nibble c 0x1000000 ∷ []
+    else []
+
+-- a colour has at least six digits
+unfoldable pub colour_text : ℕ → List ℕ
+colour_text c = high_digits c ++ nibble c 0x100000 ∷ nibble c 0x10000 ∷ nibble c 0x1000 ∷ nibble c 0x100 ∷ nibble c 0x10 ∷ nibble c 1 ∷ []
+
+-- clock.site
+unfoldable pub id_text : Stamp → List ℕ
+id_text id = decimal id.clock ++ codes "." ++ decimal id.site
+
+abbrev pub shape_word : shape.Shape → List ℕ
+shape_word Rect = codes "rect"
+shape_word Ellipse = codes "ellipse"
+shape_word Line = codes "line"
+shape_word Text = codes "text"
+
+abbrev pub kind_word : Option ShapeItem → List ℕ
+kind_word (Some shape) = shape_word shape.kind
+kind_word None = codes "group"
+
+-- an id, or that there is none
+abbrev pub parent_text : Option Stamp → List ℕ
+parent_text None = codes "-"
+parent_text (Some id) = id_text id
+
+abbrev pub fill_text : Option ℕ → List ℕ
+fill_text None = codes "none"
+fill_text (Some colour) = colour_text colour
+
+abbrev pub label_text : List ℕ → List ℕ
+label_text label = if length label == 0 then [] else codes " text " ++ label
+
+-- what it is, its id, its effective parent and its place
+unfoldable pub head_text : Item → List ℕ
+head_text i =
+    kind_word i.shape ++ codes " " ++ id_text i.id ++ codes " in " ++ parent_text i.parent
+    ++ codes " at " ++ signed_decimal i.at.x ++ codes " " ++ signed_decimal i.at.y
+
+unfoldable pub size_text : ℤ → ℤ → List ℕ
+size_text w h = codes " size " ++ signed_decimal w ++ codes " " ++ signed_decimal h
+
+unfoldable pub colours_text : ℕ → Option ℕ → List ℕ
+colours_text stroke fill = codes " stroke " ++ colour_text stroke ++ codes " fill " ++ fill_text fill
+
+unfoldable pub width_text : ℕ → List ℕ
+width_text width = codes " width " ++ decimal width
+
+-- what only a shape has
+unfoldable pub look_text : ShapeItem → List ℕ
+look_text s = size_text s.w s.h ++ colours_text s.stroke s.fill ++ width_text s.width ++ label_text s.label
+
+abbrev pub look_of : Option ShapeItem → List ℕ
+look_of (Some shape) = look_text shape
+look_of None = []
+
+unfoldable pub item_line : Item → List ℕ
+item_line i = head_text i ++ look_of i.shape ++ codes "\n"
+
+unfoldable pub end_line : ℕ → List ℕ
+end_line count = codes "end " ++ decimal count ++ codes "\n"
+
+-- the lines of these items
+abbrev pub lines : List Item → List (List ℕ)
+lines is = map item_line is ++ end_line (length is) ∷ []
+
+-- the reasons of a log's faults
+abbrev pub why_word : LogWhy → List ℕ
+why_word why.Short = codes "Short"
+why_word why.Magic = codes "Magic"
+why_word why.Version = codes "Version"
+why_word why.Field = codes "Field"
+why_word why.FutureId = codes "FutureId"
+why_word why.MemberOrder = codes "MemberOrder"
+why_word why.NoSite = codes "NoSite"
+why_word why.Turn = codes "Turn"
+why_word why.Backdated = codes "Backdated"
+
+-- the place and the reason of a log's first fault
+unfoldable pub bad_log_line : ℕ → LogWhy → List ℕ
+bad_log_line at why = codes "bad log at " ++ decimal at ++ codes ": " ++ why_word why ++ codes "\n"

@@ -1,0 +1,8 @@
+//! The lines that people type and read, as definitions, and the plain data that these share with the code.
+#![tactic(auto)]
+
+mod command;
+mod verb;
+
+pub use command::{Command, ScriptLine};
+pub use verb::{ScriptVerb, Verb};

@@ -1,0 +1,9 @@
+pub mod DrawingText
+pub mod PerSite
+pub mod SlowSite
+pub mod Offers
+pub mod Judging
+pub mod World
+pub mod SiteEffects
+pub mod NodeRun
+pub mod SlowRun

@@ -1,0 +1,170 @@
+-- The slow run of a node.
+--
+-- A node writes its journal's header, prints that it is ready, and answers line by line. An edit, a name and a focus go as
+-- at any site. `show` prints the drawing's text, `status` where the site stands, and `who` each site's newest note. `poll`
+-- takes entries of the link until a pause, a failure, or 64 datagrams: each that is a frame is taken, and each that is none,
+-- or longer than 8,192 bytes, is printed as refused. Then one frame is tried for each other site, and then the number of
+-- datagrams is printed, or, where a receive failed, that the link failed after so many. A blank line does nothing, a faulty
+-- line is printed as refused, and `quit` ends the run.
+--
+-- The run is several functions of the same arguments: the effects, the site after, and the entries left. Its lines are given
+-- as they were read.
+use Rattle.std.specs.Prelude.{◌≡◌, ℕ, zero, suc, ◌+◌, Bool, true, false, List, [], ◌∷◌, ◌++◌, length, map, Result, Ok, Err, ◌==◌, nat_lt, if◌then◌else◌}
+use Rattle.gd_base.specs.Labels.{is_name}
+use Rattle.gd_base.specs.declared.refusal.LineFault.{LineFault}
+use Rattle.gd_outside.specs.Seen.{Entry, Packet, Pause, Failure}
+use Rattle.gd_lines.specs.declared.command.Command.{Command}
+use Rattle.gd_lines.specs.declared.command.Command.TheVariants as command
+use Rattle.gd_model.specs.Drawing.{picture}
+use Rattle.gd_effects.specs.Effects.{Effect, Head, Print}
+use Rattle.gd_grammar.specs.FrameBytes.{frame, IsFocus}
+use Rattle.gd_lines.specs.InRange.{IsEdit}
+use Rattle.gd_reference.specs.Judging.{edited}
+use Rattle.gd_grammar.specs.LogBytes.{header_bytes}
+use Rattle.gd_lines.specs.Refusals.{line_refusal}
+use Rattle.gd_lines.specs.Replies.{ready_line, refused_line, status_line, who_line, long_frame_line, polled_line, link_fault_line}
+use Rattle.gd_reference.specs.SiteEffects.{tries, of_edit, of_note, of_read, after_read}
+use Rattle.gd_reference.specs.SlowSite.{SlowSite, new_site, journal_header, status}
+use Rattle.gd_grammar.specs.Spelling.{AreBytes}
+use Rattle.gd_lines.specs.Text.{end_line}
+use Rattle.gd_reference.specs.DrawingText.{text}
+use Rattle.gd_reference.specs.World.{after_line, Names, Focuses}
+
+-- a line as it was read: what it asks for, or why it is no line
+abbrev pub ReadLine : Type 0
+ReadLine = Result Command LineFault
+
+-- ---- a poll
+
+abbrev pub longest_datagram : ℕ
+longest_datagram = 8192
+
+abbrev pub most_datagrams : ℕ
+most_datagrams = 64
+
+abbrev pub is_too_long : List ℕ → Bool
+is_too_long datagram = nat_lt longest_datagram (length datagram)
+
+abbrev pub of_datagram : SlowSite → List ℕ → List Effect
+of_datagram slow datagram =
+    if is_too_long datagram then Print long_frame_line ∷ [] else of_read slow datagram (frame datagram)
+
+abbrev pub after_datagram : SlowSite → List ℕ → SlowSite
+after_datagram slow datagram = if is_too_long datagram then slow else after_read slow (frame datagram)
+
+-- what receiving came to: the site, the entries left, how many datagrams there were, and whether a receive failed
+pub record Polling : Type 0 where
+  pub site : SlowSite
+  pub entries : List Entry
+  pub count : ℕ
+  pub failed : Bool
+
+-- at most so many datagrams more, behind so many
+unfoldable pub received : ℕ → ℕ → SlowSite → List Entry → Polling
+received zero count slow entries = record { site = slow; entries = entries; count = count; failed = false }
+received (suc most) count slow [] = record { site = slow; entries = []; count = count; failed = false }
+received (suc most) count slow (Pause ∷ entries) = record { site = slow; entries = entries; count = count; failed = false }
+received (suc most) count slow (Failure ∷ entries) = record { site = slow; entries = entries; count = count; failed = true }
+received (suc most) count slow (Packet datagram ∷ entries) = received most (suc count) (after_datagram slow datagram) entries
+
+-- the effects of the same
+unfoldable pub of_received : ℕ → SlowSite → List Entry → List Effect
+of_received zero slow entries = []
+of_received (suc most) slow [] = []
+of_received (suc most) slow (Pause ∷ entries) = []
+of_received (suc most) slow (Failure ∷ entries) = []
+of_received (suc most) slow (Packet datagram ∷ entries) =
+    of_datagram slow datagram ++ of_received most (after_datagram slow datagram) entries
+
+abbrev pub polled : SlowSite → List Entry → Polling
+polled slow entries = received most_datagrams 0 slow entries
+
+abbrev pub end_of_poll : Bool → ℕ → List ℕ
+end_of_poll false count = polled_line count
+end_of_poll true count = link_fault_line count
+
+abbrev pub of_poll : SlowSite → List Entry → List Effect
+of_poll slow entries =
+    let p = polled slow entries in of_received most_datagrams slow entries ++ tries p.site ++ Print (end_of_poll p.failed p.count) ∷ []
+
+-- ---- who is there
+
+-- the note of a site, where it has made one
+abbrev pub who_at : SlowSite → ℕ → List (List ℕ)
+who_at slow site = if (slow.notes site).number == 0 then [] else who_line site (slow.notes site) ∷ []
+
+-- the same of so many sites behind one
+unfoldable pub who_behind : SlowSite → ℕ → ℕ → List (List ℕ)
+who_behind slow site zero = []
+who_behind slow site (suc k) = who_at slow (site + 1) ++ who_behind slow (site + 1) k
+
+abbrev pub who_lines : SlowSite → List (List ℕ)
+who_lines slow = let there = who_behind slow 0 slow.sites in there ++ end_line (length there) ∷ []
+
+-- ---- a line
+
+abbrev pub of_command : SlowSite → List Entry → ReadLine → List Effect
+of_command slow entries (Ok (command.Edit edit)) = of_edit slow edit
+of_command slow entries (Ok (command.Name name)) = of_note slow
+of_command slow entries (Ok (command.Focus focus)) = of_note slow
+of_command slow entries (Ok command.Show) = map Print (text (picture slow.held))
+of_command slow entries (Ok command.Status) = Print (status_line (status slow)) ∷ []
+of_command slow entries (Ok command.Who) = map Print (who_lines slow)
+of_command slow entries (Ok command.Poll) = of_poll slow entries
+of_command slow entries (Ok command.Quit) = []
+of_command slow entries (Ok command.Blank) = []
+of_command slow entries (Err fault) = Print (refused_line (line_refusal fault)) ∷ []
+
+abbrev pub after_command : SlowSite → List Entry → ReadLine → SlowSite
+after_command slow entries (Ok (command.Edit edit)) = edited slow edit
+after_command slow entries (Ok (command.Name name)) = after_line slow (Names name)
+after_command slow entries (Ok (command.Focus focus)) = after_line slow (Focuses focus)
+after_command slow entries (Ok command.Poll) = (polled slow entries).site
+after_command slow entries other = slow
+
+abbrev pub entries_after : SlowSite → List Entry → ReadLine → List Entry
+entries_after slow entries (Ok command.Poll) = (polled slow entries).entries
+entries_after slow entries other = entries
+
+-- ---- the run
+
+abbrev pub is_quit : ReadLine → Bool
+is_quit (Ok command.Quit) = true
+is_quit other = false
+
+-- the lines are answered one after the other
+unfoldable pub answers : SlowSite → List Entry → List ReadLine → List Effect
+answers slow entries [] = []
+answers slow entries (line ∷ lines) =
+    of_command slow entries line
+    ++ (if is_quit line then [] else answers (after_command slow entries line) (entries_after slow entries line) lines)
+
+-- the site after them
+unfoldable pub site_after : SlowSite → List Entry → List ReadLine → SlowSite
+site_after slow entries [] = slow
+site_after slow entries (line ∷ lines) =
+    if is_quit line then slow else site_after (after_command slow entries line) (entries_after slow entries line) lines
+
+-- a new node of this number, in a session of so many sites
+abbrev pub node_effects : ℕ → ℕ → ℕ → List Entry → List ReadLine → List Effect
+node_effects me sites session entries lines =
+    let slow = new_site me sites session in
+    Head (header_bytes (journal_header slow)) ∷ Print (ready_line me sites) ∷ answers slow entries lines
+
+-- the site of that node after its run
+abbrev pub node_after : ℕ → ℕ → ℕ → List Entry → List ReadLine → SlowSite
+node_after me sites session entries lines = site_after (new_site me sites session) entries lines
+
+-- ---- the ranges of a run
+
+abbrev pub IsCommand : ReadLine → Type 0
+IsCommand (Ok (command.Edit edit)) = IsEdit edit
+IsCommand (Ok (command.Name name)) = is_name name ≡ true
+IsCommand (Ok (command.Focus focus)) = IsFocus focus
+IsCommand other = Unit {0}
+
+-- a datagram is a list of bytes
+abbrev pub IsEntry : Entry → Type 0
+IsEntry (Packet datagram) = AreBytes datagram
+IsEntry Pause = Unit {0}
+IsEntry Failure = Unit {0}

@@ -1,0 +1,347 @@
+-- Worked rows: logs of a few events, byte by byte, and what is printed of them.
+use Rattle.std.specs.Prelude.{ℕ, ℤ, pos, negsuc, List, [], ◌∷◌, ◌++◌, map, codes, Some, None, Result, Err}
+use Rattle.gd_base.specs.Stamps.{Stamp}
+use Rattle.gd_base.specs.declared.member.Member.{Member}
+use Rattle.gd_base.specs.declared.shape.Shape.TheVariants.{Rect, Ellipse}
+use Rattle.gd_base.specs.declared.style.Style.TheVariants.{Stroke, Fill, Width}
+use Rattle.gd_events.specs.declared.op.Op.{Op}
+use Rattle.gd_events.specs.declared.op.Op.TheVariants.{Create, Delete, Move, Resize, Restyle, Retext, Group, Ungroup, Raise}
+use Rattle.gd_events.specs.Events.{Event}
+use Rattle.gd_base.specs.declared.fault.LogWhy.{LogWhy}
+use Rattle.gd_base.specs.declared.fault.WireWhy.{WireWhy}
+use Rattle.gd_grammar.specs.FrameBytes.{Frame, Misread}
+use Rattle.gd_grammar.specs.LogBytes.{Header, LogFault}
+use Rattle.gd_effects.specs.Effects.{Effect, Print, Work}
+
+abbrev pub at_stamp : ℕ → ℕ → Stamp
+at_stamp clock site = record { clock = clock; site = site }
+
+abbrev pub event : ℕ → ℕ → ℕ → Op → Event
+event clock site number op = record { stamp = at_stamp clock site; number = number; op = op }
+
+abbrev pub member : ℕ → ℕ → ℤ → ℤ → Member
+member clock site dx dy = record { id = at_stamp clock site; dx = dx; dy = dy }
+
+-- session 7, site 1 of 2
+abbrev pub header_bytes : List ℕ
+header_bytes = 71 ∷ 68 ∷ 79 ∷ 76 ∷ 1 ∷ 0 ∷ 0 ∷ 0 ∷ 7 ∷ 1 ∷ 2 ∷ []
+
+abbrev pub header : Header
+header = record { session = 7; site = 1; n = 2 }
+
+-- a header and a closed gate
+abbrev pub empty_log : List ℕ
+empty_log = header_bytes ++ 0 ∷ []
+
+-- two events of one clock: a rect of site 2, and then an ellipse of site 1
+abbrev pub tie_log : List ℕ
+tie_log =
+    header_bytes
+    ++ 195 ∷ 0 ∷ 0 ∷ 0 ∷ 0 ∷ 0 ∷ 1 ∷ 2 ∷ 0 ∷ 1 ∷ 1 ∷ 1 ∷ 0 ∷ 0 ∷ 0 ∷ 5 ∷ 0 ∷ 0 ∷ 0 ∷ 5 ∷ 0 ∷ 0 ∷ 0 ∷ 10 ∷ 0 ∷ 0 ∷ 0 ∷ 10 ∷ 0 ∷ []
+    ++ 195 ∷ 0 ∷ 0 ∷ 0 ∷ 0 ∷ 0 ∷ 1 ∷ 1 ∷ 0 ∷ 1 ∷ 1 ∷ 2 ∷ 0 ∷ 0 ∷ 0 ∷ 0 ∷ 0 ∷ 0 ∷ 0 ∷ 0 ∷ 0 ∷ 0 ∷ 0 ∷ 20 ∷ 0 ∷ 0 ∷ 0 ∷ 20 ∷ 0 ∷ []
+    ++ 0 ∷ []
+
+abbrev pub tie_events : List Event
+tie_events =
+    event 1 2 1 (Create Rect (pos 5) (pos 5) (pos 10) (pos 10) [])
+    ∷ event 1 1 1 (Create Ellipse (pos 0) (pos 0) (pos 20) (pos 20) [])
+    ∷ []
+
+abbrev pub tie_text : List (List ℕ)
+tie_text =
+    codes "ellipse 1.1 in - at 0 0 size 20 20 stroke 000000 fill none width 1\n"
+    ∷ codes "rect 1.2 in - at 5 5 size 10 10 stroke 000000 fill none width 1\n"
+    ∷ codes "end 2\n"
+    ∷ []
+
+-- a rect with a label, and a move of it; no gate stands at the end
+abbrev pub moved_log : List ℕ
+moved_log =
+    header_bytes
+    ++ 195 ∷ 0 ∷ 0 ∷ 0 ∷ 0 ∷ 0 ∷ 1 ∷ 1 ∷ 0 ∷ 1 ∷ 1 ∷ 1 ∷ 0 ∷ 0 ∷ 0 ∷ 0 ∷ 0 ∷ 0 ∷ 0 ∷ 0 ∷ 0 ∷ 0 ∷ 0 ∷ 10 ∷ 0 ∷ 0 ∷ 0 ∷ 10 ∷ 3 ∷ 97 ∷ 32 ∷ 98 ∷ []
+    ++ 195 ∷ 0 ∷ 0 ∷ 0 ∷ 0 ∷ 0 ∷ 2 ∷ 1 ∷ 0 ∷ 2 ∷ 3 ∷ 0 ∷ 0 ∷ 0 ∷ 0 ∷ 0 ∷ 1 ∷ 1 ∷ 255 ∷ 255 ∷ 255 ∷ 249 ∷ 0 ∷ 0 ∷ 0 ∷ 8 ∷ []
+
+abbrev pub moved_events : List Event
+moved_events =
+    event 1 1 1 (Create Rect (pos 0) (pos 0) (pos 10) (pos 10) (97 ∷ 32 ∷ 98 ∷ []))
+    ∷ event 2 1 2 (Move (at_stamp 1 1) (negsuc 6) (pos 8))
+    ∷ []
+
+abbrev pub moved_text : List (List ℕ)
+moved_text =
+    codes "rect 1.1 in - at -7 8 size 10 10 stroke 000000 fill none width 1 text a b\n"
+    ∷ codes "end 1\n"
+    ∷ []
+
+-- an ellipse, its size, its look and its label, and the fill of an object that isn't there. The label has a character of
+-- two bytes
+abbrev pub styled_log : List ℕ
+styled_log =
+    header_bytes
+    ++ 195 ∷ 0 ∷ 0 ∷ 0 ∷ 0 ∷ 0 ∷ 1 ∷ 1 ∷ 0 ∷ 1 ∷ 1 ∷ 2 ∷ 0 ∷ 0 ∷ 0 ∷ 0 ∷ 0 ∷ 0 ∷ 0 ∷ 0 ∷ 0 ∷ 0 ∷ 0 ∷ 20 ∷ 0 ∷ 0 ∷ 0 ∷ 20 ∷ 0 ∷ []
+    ++ 195 ∷ 0 ∷ 0 ∷ 0 ∷ 0 ∷ 0 ∷ 2 ∷ 1 ∷ 0 ∷ 2 ∷ 4 ∷ 0 ∷ 0 ∷ 0 ∷ 0 ∷ 0 ∷ 1 ∷ 1 ∷ 255 ∷ 255 ∷ 255 ∷ 251 ∷ 0 ∷ 0 ∷ 0 ∷ 30 ∷ []
+    ++ 195 ∷ 0 ∷ 0 ∷ 0 ∷ 0 ∷ 0 ∷ 3 ∷ 1 ∷ 0 ∷ 3 ∷ 5 ∷ 0 ∷ 0 ∷ 0 ∷ 0 ∷ 0 ∷ 1 ∷ 1 ∷ 1 ∷ 0 ∷ 0 ∷ 171 ∷ 12 ∷ []
+    ++ 195 ∷ 0 ∷ 0 ∷ 0 ∷ 0 ∷ 0 ∷ 4 ∷ 1 ∷ 0 ∷ 4 ∷ 5 ∷ 0 ∷ 0 ∷ 0 ∷ 0 ∷ 0 ∷ 1 ∷ 1 ∷ 2 ∷ 0 ∷ 255 ∷ 128 ∷ 0 ∷ []
+    ++ 195 ∷ 0 ∷ 0 ∷ 0 ∷ 0 ∷ 0 ∷ 5 ∷ 1 ∷ 0 ∷ 5 ∷ 5 ∷ 0 ∷ 0 ∷ 0 ∷ 0 ∷ 0 ∷ 1 ∷ 1 ∷ 3 ∷ 0 ∷ 0 ∷ 0 ∷ 64 ∷ []
+    ++ 195 ∷ 0 ∷ 0 ∷ 0 ∷ 0 ∷ 0 ∷ 6 ∷ 1 ∷ 0 ∷ 6 ∷ 6 ∷ 0 ∷ 0 ∷ 0 ∷ 0 ∷ 0 ∷ 1 ∷ 1 ∷ 5 ∷ 99 ∷ 97 ∷ 102 ∷ 195 ∷ 169 ∷ []
+    ++ 195 ∷ 0 ∷ 0 ∷ 0 ∷ 0 ∷ 0 ∷ 7 ∷ 1 ∷ 0 ∷ 7 ∷ 5 ∷ 0 ∷ 0 ∷ 0 ∷ 0 ∷ 0 ∷ 1 ∷ 2 ∷ 2 ∷ 255 ∷ 255 ∷ 255 ∷ 255 ∷ []
+    ++ 0 ∷ []
+
+abbrev pub styled_events : List Event
+styled_events =
+    event 1 1 1 (Create Ellipse (pos 0) (pos 0) (pos 20) (pos 20) [])
+    ∷ event 2 1 2 (Resize (at_stamp 1 1) (negsuc 4) (pos 30))
+    ∷ event 3 1 3 (Restyle (at_stamp 1 1) (Stroke 0x00AB0C))
+    ∷ event 4 1 4 (Restyle (at_stamp 1 1) (Fill (Some 0xFF8000)))
+    ∷ event 5 1 5 (Restyle (at_stamp 1 1) (Width 64))
+    ∷ event 6 1 6 (Retext (at_stamp 1 1) (99 ∷ 97 ∷ 102 ∷ 195 ∷ 169 ∷ []))
+    ∷ event 7 1 7 (Restyle (at_stamp 1 2) (Fill None))
+    ∷ []
+
+abbrev pub styled_text : List (List ℕ)
+styled_text =
+    (codes "ellipse 1.1 in - at 0 0 size -5 30 stroke 00AB0C fill FF8000 width 64 text caf" ++ 195 ∷ 169 ∷ 10 ∷ [])
+    ∷ codes "end 1\n"
+    ∷ []
+
+-- a raise whose stamp is greater comes first in the log, and lifts its object above all
+abbrev pub rank_events : List Event
+rank_events =
+    event 1 1 1 (Create Rect (pos 0) (pos 0) (pos 10) (pos 10) [])
+    ∷ event 2 1 2 (Create Ellipse (pos 0) (pos 0) (pos 20) (pos 20) [])
+    ∷ event 5 1 3 (Raise (at_stamp 1 1))
+    ∷ event 4 2 1 (Raise (at_stamp 2 1))
+    ∷ []
+
+abbrev pub rank_text : List (List ℕ)
+rank_text =
+    codes "ellipse 2.1 in - at 0 0 size 20 20 stroke 000000 fill none width 1\n"
+    ∷ codes "rect 1.1 in - at 0 0 size 10 10 stroke 000000 fill none width 1\n"
+    ∷ codes "end 2\n"
+    ∷ []
+
+abbrev pub square : ℤ → Op
+square x = Create Rect x (pos 0) (pos 10) (pos 10) []
+
+-- Two shapes are grouped, their group is moved by one site and dissolved by the other, and then both sites group the
+-- shapes again where they stand. In whatever order the events come, nothing moves.
+abbrev pub regrouped_events : List Event
+regrouped_events =
+    event 1 1 1 (square (pos 0))
+    ∷ event 2 1 2 (square (pos 20))
+    ∷ event 3 1 3 (Group (member 1 1 (pos 0) (pos 0) ∷ member 2 1 (pos 0) (pos 0) ∷ []))
+    ∷ event 4 1 4 (Move (at_stamp 3 1) (pos 5) (pos 7))
+    ∷ event 5 1 5 (Group (member 1 1 (pos 5) (pos 7) ∷ member 2 1 (pos 5) (pos 7) ∷ []))
+    ∷ event 4 2 1 (Ungroup (at_stamp 3 1))
+    ∷ event 5 2 2 (Group (member 1 1 (pos 5) (pos 7) ∷ member 2 1 (pos 5) (pos 7) ∷ []))
+    ∷ []
+
+abbrev pub regrouped_text : List (List ℕ)
+regrouped_text =
+    codes "group 5.1 in - at 0 0\n"
+    ∷ codes "group 5.2 in - at 0 0\n"
+    ∷ codes "rect 1.1 in 5.2 at 5 7 size 10 10 stroke 000000 fill none width 1\n"
+    ∷ codes "rect 2.1 in 5.2 at 25 7 size 10 10 stroke 000000 fill none width 1\n"
+    ∷ codes "end 4\n"
+    ∷ []
+
+-- Groups within groups. 5.1 is deleted, so 1.1 and 2.1 are hidden. 6.1 is dissolved and 7.1 holds it, so 3.1 and 4.1 are
+-- shown in 7.1, each at its own place, the shift into 6.1, the place of 6.1, the shift into 7.1 and the place of 7.1
+-- together. 3.1 was raised, so it stands above 4.1.
+abbrev pub nested_events : List Event
+nested_events =
+    event 1 1 1 (square (pos 0))
+    ∷ event 2 1 2 (square (pos 1))
+    ∷ event 3 1 3 (square (pos 2))
+    ∷ event 4 1 4 (square (pos 3))
+    ∷ event 5 1 5 (Group (member 1 1 (pos 0) (pos 0) ∷ member 2 1 (pos 0) (pos 0) ∷ []))
+    ∷ event 6 1 6 (Group (member 3 1 (pos 10) (pos 1) ∷ member 4 1 (pos 20) (pos 2) ∷ []))
+    ∷ event 7 1 7 (Group (member 5 1 (pos 0) (pos 0) ∷ member 6 1 (pos 100) (pos 0) ∷ []))
+    ∷ event 8 1 8 (Move (at_stamp 6 1) (pos 1000) (pos 40))
+    ∷ event 9 1 9 (Move (at_stamp 7 1) (pos 10000) (negsuc 99))
+    ∷ event 10 1 10 (Delete (at_stamp 5 1))
+    ∷ event 11 1 11 (Ungroup (at_stamp 6 1))
+    ∷ event 12 1 12 (Raise (at_stamp 3 1))
+    ∷ []
+
+abbrev pub nested_text : List (List ℕ)
+nested_text =
+    codes "group 7.1 in - at 10000 -100\n"
+    ∷ codes "rect 4.1 in 7.1 at 11123 -58 size 10 10 stroke 000000 fill none width 1\n"
+    ∷ codes "rect 3.1 in 7.1 at 11112 -59 size 10 10 stroke 000000 fill none width 1\n"
+    ∷ codes "end 3\n"
+    ∷ []
+
+-- a delete that comes before the create of its object
+abbrev pub effect_before_cause : List Event
+effect_before_cause =
+    event 3 2 1 (Delete (at_stamp 1 1))
+    ∷ event 1 1 1 (Create Rect (pos 0) (pos 0) (pos 10) (pos 10) [])
+    ∷ []
+
+-- a rect, its moves, and the moves and the delete of another site that come late
+abbrev pub move_to : ℕ → ℕ → ℤ → Event
+move_to clock site x = event clock site clock (Move (at_stamp 1 1) x x)
+
+abbrev pub moves_held : List Event
+moves_held = event 1 1 1 (square (pos 0)) ∷ move_to 2 1 (pos 50) ∷ move_to 3 1 (pos 60) ∷ []
+
+abbrev pub late_move : Event
+late_move = move_to 2 2 (pos 90)
+
+abbrev pub late_delete : Event
+late_delete = event 2 3 1 (Delete (at_stamp 1 1))
+
+-- Shapes of two sites. A late group takes 2.1, which 4.1 takes from it, and the move of 4.1 depends on 4.1 alone.
+abbrev pub tied_held : List Event
+tied_held =
+    event 1 1 1 (square (pos 0))
+    ∷ event 2 1 2 (square (pos 20))
+    ∷ event 3 1 3 (Raise (at_stamp 1 1))
+    ∷ event 4 1 4 (Group (member 1 1 (pos 0) (pos 0) ∷ member 2 1 (pos 0) (pos 0) ∷ []))
+    ∷ event 5 1 5 (Move (at_stamp 4 1) (pos 5) (pos 5))
+    ∷ event 1 2 1 (square (pos 40))
+    ∷ []
+
+abbrev pub late_group : Event
+late_group = event 3 2 2 (Group (member 1 2 (pos 0) (pos 0) ∷ member 2 1 (pos 0) (pos 0) ∷ []))
+
+abbrev pub undone_by_the_group : List Event
+undone_by_the_group =
+    event 4 1 4 (Group (member 1 1 (pos 0) (pos 0) ∷ member 2 1 (pos 0) (pos 0) ∷ []))
+    ∷ event 5 1 5 (Move (at_stamp 4 1) (pos 5) (pos 5))
+    ∷ []
+
+abbrev pub end_alone : List (List ℕ)
+end_alone = codes "end 0\n" ∷ []
+
+abbrev pub cut_text : List (List ℕ)
+cut_text = codes "bad log at 32: Short\n" ∷ []
+
+abbrev pub replay_words : List (List ℕ)
+replay_words = codes "replay" ∷ []
+
+abbrev pub other_words : List (List ℕ)
+other_words = codes "paint" ∷ []
+
+abbrev pub prints_of : List (List ℕ) → List Effect
+prints_of lines = map Print lines
+
+abbrev pub works_of : List ℕ → List Effect
+works_of steps = map Work steps
+
+-- a record of no operation
+abbrev pub no_tag_log : List ℕ
+no_tag_log = header_bytes ++ 195 ∷ 0 ∷ 0 ∷ 0 ∷ 0 ∷ 0 ∷ 1 ∷ 1 ∷ 0 ∷ 1 ∷ 10 ∷ []
+
+-- a group of two objects that aren't there, and what dissolves it
+abbrev pub grouped_log : List ℕ
+grouped_log =
+    header_bytes
+    ++ 195 ∷ 0 ∷ 0 ∷ 0 ∷ 0 ∷ 0 ∷ 3 ∷ 1 ∷ 0 ∷ 1 ∷ 7 ∷ 2
+    ∷ 0 ∷ 0 ∷ 0 ∷ 0 ∷ 0 ∷ 1 ∷ 2 ∷ 0 ∷ 0 ∷ 0 ∷ 5 ∷ 255 ∷ 255 ∷ 255 ∷ 249
+    ∷ 0 ∷ 0 ∷ 0 ∷ 0 ∷ 0 ∷ 2 ∷ 1 ∷ 59 ∷ 154 ∷ 202 ∷ 0 ∷ 196 ∷ 101 ∷ 54 ∷ 0 ∷ []
+    ++ 195 ∷ 0 ∷ 0 ∷ 0 ∷ 0 ∷ 0 ∷ 4 ∷ 2 ∷ 0 ∷ 1 ∷ 8 ∷ 0 ∷ 0 ∷ 0 ∷ 0 ∷ 0 ∷ 3 ∷ 1 ∷ []
+    ++ 0 ∷ []
+
+abbrev pub grouped_events : List Event
+grouped_events =
+    event 3 1 1 (Group (member 1 2 (pos 5) (negsuc 6) ∷ member 2 1 (pos 1000000000) (negsuc 999999999) ∷ []))
+    ∷ event 4 2 1 (Ungroup (at_stamp 3 1))
+    ∷ []
+
+-- a group whose second member isn't above its first
+abbrev pub unordered_log : List ℕ
+unordered_log =
+    header_bytes
+    ++ 195 ∷ 0 ∷ 0 ∷ 0 ∷ 0 ∷ 0 ∷ 3 ∷ 1 ∷ 0 ∷ 1 ∷ 7 ∷ 2
+    ∷ 0 ∷ 0 ∷ 0 ∷ 0 ∷ 0 ∷ 2 ∷ 1 ∷ 0 ∷ 0 ∷ 0 ∷ 0 ∷ 0 ∷ 0 ∷ 0 ∷ 0
+    ∷ 0 ∷ 0 ∷ 0 ∷ 0 ∷ 0 ∷ 2 ∷ 1 ∷ 0 ∷ 0 ∷ 0 ∷ 0 ∷ 0 ∷ 0 ∷ 0 ∷ 0 ∷ []
+
+-- groups of one member, and of 33
+abbrev pub one_member_log : List ℕ
+one_member_log = header_bytes ++ 195 ∷ 0 ∷ 0 ∷ 0 ∷ 0 ∷ 0 ∷ 3 ∷ 1 ∷ 0 ∷ 1 ∷ 7 ∷ 1 ∷ []
+
+abbrev pub many_members_log : List ℕ
+many_members_log = header_bytes ++ 195 ∷ 0 ∷ 0 ∷ 0 ∷ 0 ∷ 0 ∷ 3 ∷ 1 ∷ 0 ∷ 1 ∷ 7 ∷ 33 ∷ []
+
+-- a header of another format, of another version, and of a site 0
+abbrev pub no_magic : List ℕ
+no_magic = 71 ∷ 68 ∷ 79 ∷ 108 ∷ 1 ∷ 0 ∷ 0 ∷ 0 ∷ 7 ∷ 1 ∷ 2 ∷ []
+
+abbrev pub no_version : List ℕ
+no_version = 71 ∷ 68 ∷ 79 ∷ 76 ∷ 2 ∷ 0 ∷ 0 ∷ 0 ∷ 7 ∷ 1 ∷ 2 ∷ []
+
+abbrev pub no_field : List ℕ
+no_field = 71 ∷ 68 ∷ 79 ∷ 76 ∷ 1 ∷ 0 ∷ 0 ∷ 0 ∷ 7 ∷ 0 ∷ 2 ∷ []
+
+-- a delete of what its own event would have made
+abbrev pub future_log : List ℕ
+future_log = header_bytes ++ 195 ∷ 0 ∷ 0 ∷ 0 ∷ 0 ∷ 0 ∷ 2 ∷ 1 ∷ 0 ∷ 1 ∷ 2 ∷ 0 ∷ 0 ∷ 0 ∷ 0 ∷ 0 ∷ 2 ∷ 1 ∷ []
+
+-- a resize of what its own event would have made, to a width that is out of range too
+abbrev pub future_resize_log : List ℕ
+future_resize_log = header_bytes ++ 195 ∷ 0 ∷ 0 ∷ 0 ∷ 0 ∷ 0 ∷ 2 ∷ 1 ∷ 0 ∷ 1 ∷ 4 ∷ 0 ∷ 0 ∷ 0 ∷ 0 ∷ 0 ∷ 2 ∷ 1 ∷ 127 ∷ 0 ∷ 0 ∷ 0 ∷ 0 ∷ 0 ∷ 0 ∷ 0 ∷ []
+
+-- a stroke one above the last colour
+abbrev pub no_colour_log : List ℕ
+no_colour_log = header_bytes ++ 195 ∷ 0 ∷ 0 ∷ 0 ∷ 0 ∷ 0 ∷ 2 ∷ 1 ∷ 0 ∷ 1 ∷ 5 ∷ 0 ∷ 0 ∷ 0 ∷ 0 ∷ 0 ∷ 1 ∷ 1 ∷ 1 ∷ 1 ∷ 0 ∷ 0 ∷ 0 ∷ []
+
+-- the tie's log with an event of site 3
+abbrev pub no_site_log : List ℕ
+no_site_log = 71 ∷ 68 ∷ 79 ∷ 76 ∷ 1 ∷ 0 ∷ 0 ∷ 0 ∷ 7 ∷ 1 ∷ 2 ∷ 195 ∷ 0 ∷ 0 ∷ 0 ∷ 0 ∷ 0 ∷ 1 ∷ 3 ∷ 0 ∷ 1 ∷ 1 ∷ 1 ∷ 0 ∷ 0 ∷ 0 ∷ 5 ∷ 0 ∷ 0 ∷ 0 ∷ 5 ∷ 0 ∷ 0 ∷ 0 ∷ 10 ∷ 0 ∷ 0 ∷ 0 ∷ 10 ∷ 0 ∷ 195 ∷ 0 ∷ 0 ∷ 0 ∷ 0 ∷ 0 ∷ 1 ∷ 1 ∷ 0 ∷ 1 ∷ 1 ∷ 2 ∷ 0 ∷ 0 ∷ 0 ∷ 0 ∷ 0 ∷ 0 ∷ 0 ∷ 0 ∷ 0 ∷ 0 ∷ 0 ∷ 20 ∷ 0 ∷ 0 ∷ 0 ∷ 20 ∷ 0 ∷ 0 ∷ []
+
+-- the same with a number that isn't next
+abbrev pub turn_log : List ℕ
+turn_log = 71 ∷ 68 ∷ 79 ∷ 76 ∷ 1 ∷ 0 ∷ 0 ∷ 0 ∷ 7 ∷ 1 ∷ 2 ∷ 195 ∷ 0 ∷ 0 ∷ 0 ∷ 0 ∷ 0 ∷ 1 ∷ 2 ∷ 0 ∷ 2 ∷ 1 ∷ 1 ∷ 0 ∷ 0 ∷ 0 ∷ 5 ∷ 0 ∷ 0 ∷ 0 ∷ 5 ∷ 0 ∷ 0 ∷ 0 ∷ 10 ∷ 0 ∷ 0 ∷ 0 ∷ 10 ∷ 0 ∷ 195 ∷ 0 ∷ 0 ∷ 0 ∷ 0 ∷ 0 ∷ 1 ∷ 1 ∷ 0 ∷ 1 ∷ 1 ∷ 2 ∷ 0 ∷ 0 ∷ 0 ∷ 0 ∷ 0 ∷ 0 ∷ 0 ∷ 0 ∷ 0 ∷ 0 ∷ 0 ∷ 20 ∷ 0 ∷ 0 ∷ 0 ∷ 20 ∷ 0 ∷ 0 ∷ []
+
+-- the same with two events of site 2 and one clock
+abbrev pub backdated_log : List ℕ
+backdated_log = 71 ∷ 68 ∷ 79 ∷ 76 ∷ 1 ∷ 0 ∷ 0 ∷ 0 ∷ 7 ∷ 1 ∷ 2 ∷ 195 ∷ 0 ∷ 0 ∷ 0 ∷ 0 ∷ 0 ∷ 1 ∷ 2 ∷ 0 ∷ 1 ∷ 1 ∷ 1 ∷ 0 ∷ 0 ∷ 0 ∷ 5 ∷ 0 ∷ 0 ∷ 0 ∷ 5 ∷ 0 ∷ 0 ∷ 0 ∷ 10 ∷ 0 ∷ 0 ∷ 0 ∷ 10 ∷ 0 ∷ 195 ∷ 0 ∷ 0 ∷ 0 ∷ 0 ∷ 0 ∷ 1 ∷ 2 ∷ 0 ∷ 2 ∷ 1 ∷ 2 ∷ 0 ∷ 0 ∷ 0 ∷ 0 ∷ 0 ∷ 0 ∷ 0 ∷ 0 ∷ 0 ∷ 0 ∷ 0 ∷ 20 ∷ 0 ∷ 0 ∷ 0 ∷ 20 ∷ 0 ∷ 0 ∷ []
+
+abbrev pub fault_at : LogWhy → ℕ → Result (Header × List Event) LogFault
+fault_at why left = Err (record { why = why; left = left })
+
+-- the frame of a site 2 that made a rect, for site 1, of which it holds nothing
+abbrev pub frame_row : List ℕ
+frame_row = 71 ∷ 68 ∷ 79 ∷ 70 ∷ 1 ∷ 0 ∷ 0 ∷ 0 ∷ 7 ∷ 2 ∷ 1 ∷ 0 ∷ 0 ∷ 0 ∷ 1 ∷ 0 ∷ 0 ∷ 0 ∷ 0 ∷ 0 ∷ 1 ∷ 0 ∷ 0 ∷ 0 ∷ 0 ∷ 0 ∷ 0 ∷ 0 ∷ 0 ∷ 0 ∷ 0 ∷ 1 ∷ 0 ∷ 0 ∷ 0 ∷ 0 ∷ 0 ∷ 1 ∷ 2 ∷ 0 ∷ 1 ∷ 1 ∷ 1 ∷ 0 ∷ 0 ∷ 0 ∷ 0 ∷ 0 ∷ 0 ∷ 0 ∷ 0 ∷ 0 ∷ 0 ∷ 0 ∷ 10 ∷ 0 ∷ 0 ∷ 0 ∷ 10 ∷ 0 ∷ []
+
+abbrev pub frame_value : Frame
+frame_value =
+    record {
+      head = record { session = 7; from = 2; to = 1; ack = 0; count = 1; clock = 1 };
+      note = record { number = 0; name = None; focus = None };
+      events = event 1 2 1 (square (pos 0)) ∷ [];
+    }
+
+-- the same of version 2, from site 17, with an event of another site, above the count and above the clock, with the number
+-- 0, of no kind, of a width of 1,000,001, and with a label that isn't there
+abbrev pub frame_of_version_2 : List ℕ
+frame_of_version_2 = 71 ∷ 68 ∷ 79 ∷ 70 ∷ 2 ∷ 0 ∷ 0 ∷ 0 ∷ 7 ∷ 2 ∷ 1 ∷ 0 ∷ 0 ∷ 0 ∷ 1 ∷ 0 ∷ 0 ∷ 0 ∷ 0 ∷ 0 ∷ 1 ∷ 0 ∷ 0 ∷ 0 ∷ 0 ∷ 0 ∷ 0 ∷ 0 ∷ 0 ∷ 0 ∷ 0 ∷ 1 ∷ 0 ∷ 0 ∷ 0 ∷ 0 ∷ 0 ∷ 1 ∷ 2 ∷ 0 ∷ 1 ∷ 1 ∷ 1 ∷ 0 ∷ 0 ∷ 0 ∷ 0 ∷ 0 ∷ 0 ∷ 0 ∷ 0 ∷ 0 ∷ 0 ∷ 0 ∷ 10 ∷ 0 ∷ 0 ∷ 0 ∷ 10 ∷ 0 ∷ []
+
+abbrev pub frame_of_site_17 : List ℕ
+frame_of_site_17 = 71 ∷ 68 ∷ 79 ∷ 70 ∷ 1 ∷ 0 ∷ 0 ∷ 0 ∷ 7 ∷ 17 ∷ 1 ∷ 0 ∷ 0 ∷ 0 ∷ 1 ∷ 0 ∷ 0 ∷ 0 ∷ 0 ∷ 0 ∷ 1 ∷ 0 ∷ 0 ∷ 0 ∷ 0 ∷ 0 ∷ 0 ∷ 0 ∷ 0 ∷ 0 ∷ 0 ∷ 1 ∷ 0 ∷ 0 ∷ 0 ∷ 0 ∷ 0 ∷ 1 ∷ 2 ∷ 0 ∷ 1 ∷ 1 ∷ 1 ∷ 0 ∷ 0 ∷ 0 ∷ 0 ∷ 0 ∷ 0 ∷ 0 ∷ 0 ∷ 0 ∷ 0 ∷ 0 ∷ 10 ∷ 0 ∷ 0 ∷ 0 ∷ 10 ∷ 0 ∷ []
+
+abbrev pub frame_of_another_site : List ℕ
+frame_of_another_site = 71 ∷ 68 ∷ 79 ∷ 70 ∷ 1 ∷ 0 ∷ 0 ∷ 0 ∷ 7 ∷ 2 ∷ 1 ∷ 0 ∷ 0 ∷ 0 ∷ 1 ∷ 0 ∷ 0 ∷ 0 ∷ 0 ∷ 0 ∷ 1 ∷ 0 ∷ 0 ∷ 0 ∷ 0 ∷ 0 ∷ 0 ∷ 0 ∷ 0 ∷ 0 ∷ 0 ∷ 1 ∷ 0 ∷ 0 ∷ 0 ∷ 0 ∷ 0 ∷ 1 ∷ 1 ∷ 0 ∷ 1 ∷ 1 ∷ 1 ∷ 0 ∷ 0 ∷ 0 ∷ 0 ∷ 0 ∷ 0 ∷ 0 ∷ 0 ∷ 0 ∷ 0 ∷ 0 ∷ 10 ∷ 0 ∷ 0 ∷ 0 ∷ 10 ∷ 0 ∷ []
+
+abbrev pub frame_above_its_count : List ℕ
+frame_above_its_count = 71 ∷ 68 ∷ 79 ∷ 70 ∷ 1 ∷ 0 ∷ 0 ∷ 0 ∷ 7 ∷ 2 ∷ 1 ∷ 0 ∷ 0 ∷ 0 ∷ 0 ∷ 0 ∷ 0 ∷ 0 ∷ 0 ∷ 0 ∷ 1 ∷ 0 ∷ 0 ∷ 0 ∷ 0 ∷ 0 ∷ 0 ∷ 0 ∷ 0 ∷ 0 ∷ 0 ∷ 1 ∷ 0 ∷ 0 ∷ 0 ∷ 0 ∷ 0 ∷ 1 ∷ 2 ∷ 0 ∷ 1 ∷ 1 ∷ 1 ∷ 0 ∷ 0 ∷ 0 ∷ 0 ∷ 0 ∷ 0 ∷ 0 ∷ 0 ∷ 0 ∷ 0 ∷ 0 ∷ 10 ∷ 0 ∷ 0 ∷ 0 ∷ 10 ∷ 0 ∷ []
+
+abbrev pub frame_above_its_clock : List ℕ
+frame_above_its_clock = 71 ∷ 68 ∷ 79 ∷ 70 ∷ 1 ∷ 0 ∷ 0 ∷ 0 ∷ 7 ∷ 2 ∷ 1 ∷ 0 ∷ 0 ∷ 0 ∷ 1 ∷ 0 ∷ 0 ∷ 0 ∷ 0 ∷ 0 ∷ 0 ∷ 0 ∷ 0 ∷ 0 ∷ 0 ∷ 0 ∷ 0 ∷ 0 ∷ 0 ∷ 0 ∷ 0 ∷ 1 ∷ 0 ∷ 0 ∷ 0 ∷ 0 ∷ 0 ∷ 1 ∷ 2 ∷ 0 ∷ 1 ∷ 1 ∷ 1 ∷ 0 ∷ 0 ∷ 0 ∷ 0 ∷ 0 ∷ 0 ∷ 0 ∷ 0 ∷ 0 ∷ 0 ∷ 0 ∷ 10 ∷ 0 ∷ 0 ∷ 0 ∷ 10 ∷ 0 ∷ []
+
+abbrev pub frame_of_number_0 : List ℕ
+frame_of_number_0 = 71 ∷ 68 ∷ 79 ∷ 70 ∷ 1 ∷ 0 ∷ 0 ∷ 0 ∷ 7 ∷ 2 ∷ 1 ∷ 0 ∷ 0 ∷ 0 ∷ 1 ∷ 0 ∷ 0 ∷ 0 ∷ 0 ∷ 0 ∷ 1 ∷ 0 ∷ 0 ∷ 0 ∷ 0 ∷ 0 ∷ 0 ∷ 0 ∷ 0 ∷ 0 ∷ 0 ∷ 1 ∷ 0 ∷ 0 ∷ 0 ∷ 0 ∷ 0 ∷ 1 ∷ 2 ∷ 0 ∷ 0 ∷ 1 ∷ 1 ∷ 0 ∷ 0 ∷ 0 ∷ 0 ∷ 0 ∷ 0 ∷ 0 ∷ 0 ∷ 0 ∷ 0 ∷ 0 ∷ 10 ∷ 0 ∷ 0 ∷ 0 ∷ 10 ∷ 0 ∷ []
+
+abbrev pub frame_of_no_kind : List ℕ
+frame_of_no_kind = 71 ∷ 68 ∷ 79 ∷ 70 ∷ 1 ∷ 0 ∷ 0 ∷ 0 ∷ 7 ∷ 2 ∷ 1 ∷ 0 ∷ 0 ∷ 0 ∷ 1 ∷ 0 ∷ 0 ∷ 0 ∷ 0 ∷ 0 ∷ 1 ∷ 0 ∷ 0 ∷ 0 ∷ 0 ∷ 0 ∷ 0 ∷ 0 ∷ 0 ∷ 0 ∷ 0 ∷ 1 ∷ 0 ∷ 0 ∷ 0 ∷ 0 ∷ 0 ∷ 1 ∷ 2 ∷ 0 ∷ 1 ∷ 1 ∷ 5 ∷ 0 ∷ 0 ∷ 0 ∷ 0 ∷ 0 ∷ 0 ∷ 0 ∷ 0 ∷ 0 ∷ 0 ∷ 0 ∷ 10 ∷ 0 ∷ 0 ∷ 0 ∷ 10 ∷ 0 ∷ []
+
+abbrev pub frame_too_wide : List ℕ
+frame_too_wide = 71 ∷ 68 ∷ 79 ∷ 70 ∷ 1 ∷ 0 ∷ 0 ∷ 0 ∷ 7 ∷ 2 ∷ 1 ∷ 0 ∷ 0 ∷ 0 ∷ 1 ∷ 0 ∷ 0 ∷ 0 ∷ 0 ∷ 0 ∷ 1 ∷ 0 ∷ 0 ∷ 0 ∷ 0 ∷ 0 ∷ 0 ∷ 0 ∷ 0 ∷ 0 ∷ 0 ∷ 1 ∷ 0 ∷ 0 ∷ 0 ∷ 0 ∷ 0 ∷ 1 ∷ 2 ∷ 0 ∷ 1 ∷ 1 ∷ 1 ∷ 0 ∷ 0 ∷ 0 ∷ 0 ∷ 0 ∷ 0 ∷ 0 ∷ 0 ∷ 0 ∷ 15 ∷ 66 ∷ 65 ∷ 0 ∷ 0 ∷ 0 ∷ 10 ∷ 0 ∷ []
+
+abbrev pub frame_without_its_label : List ℕ
+frame_without_its_label = 71 ∷ 68 ∷ 79 ∷ 70 ∷ 1 ∷ 0 ∷ 0 ∷ 0 ∷ 7 ∷ 2 ∷ 1 ∷ 0 ∷ 0 ∷ 0 ∷ 1 ∷ 0 ∷ 0 ∷ 0 ∷ 0 ∷ 0 ∷ 1 ∷ 0 ∷ 0 ∷ 0 ∷ 0 ∷ 0 ∷ 0 ∷ 0 ∷ 0 ∷ 0 ∷ 0 ∷ 1 ∷ 0 ∷ 0 ∷ 0 ∷ 0 ∷ 0 ∷ 1 ∷ 2 ∷ 0 ∷ 1 ∷ 1 ∷ 1 ∷ 0 ∷ 0 ∷ 0 ∷ 0 ∷ 0 ∷ 0 ∷ 0 ∷ 0 ∷ 0 ∷ 0 ∷ 0 ∷ 10 ∷ 0 ∷ 0 ∷ 0 ∷ 10 ∷ 1 ∷ []
+
+abbrev pub misread : WireWhy → ℕ → Result Frame Misread
+misread why left = Err (record { why = why; left = left })

@@ -1,0 +1,333 @@
+-- Worked rows of sites and worlds: lists of steps, the frames of a site that runs ahead, and what becomes of them.
+use Rattle.std.specs.Prelude.{ℕ, ◌-◌, ℤ, pos, List, [], ◌∷◌, ◌++◌, codes, Some, Ok, Err}
+use Rattle.gd_base.specs.declared.edit.Edit.{Edit}
+use Rattle.gd_base.specs.declared.edit.Edit.TheVariants as wish
+use Rattle.gd_base.specs.declared.note.Note.{Note}
+use Rattle.gd_base.specs.declared.shape.Shape.TheVariants.{Rect}
+use Rattle.gd_base.specs.declared.site_status.SiteStatus.{SiteStatus}
+use Rattle.gd_events.specs.declared.op.Op.TheVariants as op
+use Rattle.gd_events.specs.Events.{Event}
+use Rattle.gd_outside.specs.Seen.{Entry, Packet, Failure}
+use Rattle.gd_base.specs.declared.refusal.LineFault.TheVariants.{UnknownCommand}
+use Rattle.gd_lines.specs.declared.command.Command.TheVariants as command
+use Rattle.gd_effects.specs.Effects.{Effect, Head, Print, Record, Try, Work}
+use Rattle.gd_grammar.specs.FrameBytes.{Frame, frame_bytes}
+use Rattle.gd_reference.specs.NodeRun.{ReadLine, node_effects}
+use Rattle.gd_reference.specs.SlowSite.{SlowSite, new_site, no_note}
+use Rattle.gd_grammar.specs.Spelling.{spelling}
+use Rattle.gd_reference.specs.World.{World, Step, Edits, Names, Focuses, At, Send, Deliver, Restart, Editing, after}
+use Rattle.gd_rows.specs.Worked.{at_stamp, event, member, frame_row, header_bytes}
+
+abbrev pub site_status : ℕ → ℕ → ℕ → ℕ → SiteStatus
+site_status held kept line clock = record { held = held; kept = kept; line = line; clock = clock }
+
+-- a rect of size 10 10
+abbrev pub new_rect : ℤ → Edit
+new_rect x = wish.Create Rect x (pos 0) (pos 10) (pos 10) []
+
+abbrev pub move_to : ℕ → ℕ → ℕ → ℕ → Edit
+move_to clock site x y = wish.Move (at_stamp clock site) (pos x) (pos y)
+
+-- ---- a move that comes late is covered by a later one
+
+-- all but the delivery of the late move
+abbrev pub cover_begins : List Step
+cover_begins =
+    At 1 (Edits (new_rect (pos 0)))
+    ∷ Send 1 2
+    ∷ Deliver 0
+    ∷ At 1 (Edits (move_to 1 1 50 50))
+    ∷ At 1 (Edits (move_to 1 1 60 60))
+    ∷ At 2 (Edits (move_to 1 1 90 90))
+    ∷ Send 2 1
+    ∷ []
+
+abbrev pub cover_steps : List Step
+cover_steps = cover_begins ++ Deliver 1 ∷ []
+
+-- site 1 before the late move comes
+abbrev pub cover_site : SlowSite
+cover_site = (after 2 7 cover_begins).at 1
+
+abbrev pub cover_world : World
+cover_world = after 2 7 cover_steps
+
+abbrev pub covered_move : Event
+covered_move = event 2 2 1 (op.Move (at_stamp 1 1) (pos 90) (pos 90))
+
+-- what site 1 holds then
+abbrev pub cover_held : List Event
+cover_held =
+    event 1 1 1 (op.Create Rect (pos 0) (pos 0) (pos 10) (pos 10) [])
+    ∷ event 2 1 2 (op.Move (at_stamp 1 1) (pos 50) (pos 50))
+    ∷ event 3 1 3 (op.Move (at_stamp 1 1) (pos 60) (pos 60))
+    ∷ covered_move
+    ∷ []
+
+-- the second mail: site 2 holds the one event of site 1 and sends its own
+abbrev pub cover_frame : Frame
+cover_frame =
+    record {
+      head = record { session = 7; from = 2; to = 1; ack = 1; count = 1; clock = 2 };
+      note = no_note;
+      events = covered_move ∷ [];
+    }
+
+abbrev pub cover_effects : List Effect
+cover_effects = Work 0 ∷ Record (spelling covered_move) ∷ Print (codes "echo 2.2 dropped by 3.1\n") ∷ []
+
+abbrev pub cover_text : List (List ℕ)
+cover_text = codes "rect 1.1 in - at 60 60 size 10 10 stroke 000000 fill none width 1\n" ∷ codes "end 1\n" ∷ []
+
+-- ---- two groups at once, one of which takes a member from the other
+
+abbrev pub group_of : ℕ → ℕ → ℕ → ℕ → Edit
+group_of clock site other_clock other_site = wish.Group (at_stamp clock site ∷ at_stamp other_clock other_site ∷ [])
+
+-- all but the delivery of the late group
+abbrev pub closure_begins : List Step
+closure_begins =
+    At 1 (Edits (new_rect (pos 0)))
+    ∷ At 1 (Edits (new_rect (pos 20)))
+    ∷ At 2 (Edits (new_rect (pos 40)))
+    ∷ Send 1 2
+    ∷ Deliver 0
+    ∷ At 2 (Edits (group_of 2 1 1 2))
+    ∷ At 1 (Edits (wish.Raise (at_stamp 1 1)))
+    ∷ At 1 (Edits (group_of 1 1 2 1))
+    ∷ At 1 (Edits (move_to 4 1 5 5))
+    ∷ Send 2 1
+    ∷ []
+
+abbrev pub closure_steps : List Step
+closure_steps = closure_begins ++ Deliver 1 ∷ []
+
+-- site 1 before the late group comes
+abbrev pub closure_site : SlowSite
+closure_site = (after 2 7 closure_begins).at 1
+
+abbrev pub closure_world : World
+closure_world = after 2 7 closure_steps
+
+abbrev pub other_create : Event
+other_create = event 1 2 1 (op.Create Rect (pos 40) (pos 0) (pos 10) (pos 10) [])
+
+abbrev pub late_group : Event
+late_group = event 3 2 2 (op.Group (member 1 2 (pos 0) (pos 0) ∷ member 2 1 (pos 0) (pos 0) ∷ []))
+
+-- what site 1 holds then
+abbrev pub closure_held : List Event
+closure_held =
+    event 1 1 1 (op.Create Rect (pos 0) (pos 0) (pos 10) (pos 10) [])
+    ∷ event 2 1 2 (op.Create Rect (pos 20) (pos 0) (pos 10) (pos 10) [])
+    ∷ event 3 1 3 (op.Raise (at_stamp 1 1))
+    ∷ event 4 1 4 (op.Group (member 1 1 (pos 0) (pos 0) ∷ member 2 1 (pos 0) (pos 0) ∷ []))
+    ∷ event 5 1 5 (op.Move (at_stamp 4 1) (pos 5) (pos 5))
+    ∷ other_create
+    ∷ late_group
+    ∷ []
+
+-- the second mail: site 2 holds two events of site 1
+abbrev pub closure_frame : Frame
+closure_frame =
+    record {
+      head = record { session = 7; from = 2; to = 1; ack = 2; count = 2; clock = 3 };
+      note = no_note;
+      events = other_create ∷ late_group ∷ [];
+    }
+
+-- The create bears on nothing behind it. The group takes a member that the group 4.1 took, so that one and its move are
+-- redone.
+abbrev pub closure_effects : List Effect
+closure_effects =
+    Work 1
+    ∷ Record (spelling other_create)
+    ∷ Print (codes "echo 1.2 applied\n")
+    ∷ Work 5
+    ∷ Record (spelling late_group)
+    ∷ Print (codes "echo 3.2 reworked 2\n")
+    ∷ []
+
+abbrev pub closure_text : List (List ℕ)
+closure_text =
+    codes "group 3.2 in - at 0 0\n"
+    ∷ codes "rect 1.2 in 3.2 at 40 0 size 10 10 stroke 000000 fill none width 1\n"
+    ∷ codes "group 4.1 in - at 5 5\n"
+    ∷ codes "rect 2.1 in 4.1 at 25 5 size 10 10 stroke 000000 fill none width 1\n"
+    ∷ codes "rect 1.1 in 4.1 at 5 5 size 10 10 stroke 000000 fill none width 1\n"
+    ∷ codes "end 5\n"
+    ∷ []
+
+-- ---- the frames of site 2 for site 1 of 2
+
+abbrev pub listener : SlowSite
+listener = new_site 1 2 7
+
+-- a rect of site 2, and moves of it
+abbrev pub ahead_create : Event
+ahead_create = event 1 2 1 (op.Create Rect (pos 0) (pos 0) (pos 10) (pos 10) [])
+
+-- the event of that number and that clock
+abbrev pub ahead_move : ℕ → Event
+ahead_move k = event k 2 k (op.Move (at_stamp 1 2) (pos (k - 1)) (pos (k - 1)))
+
+abbrev pub frame_of : ℕ → ℕ → List Event → Frame
+frame_of count clock events =
+    record { head = record { session = 7; from = 2; to = 1; ack = 0; count = count; clock = clock }; note = no_note; events = events }
+
+-- the first event, then the third and the fourth, then the second to the fourth
+abbrev pub ahead_first : Frame
+ahead_first = frame_of 1 1 (ahead_create ∷ [])
+
+abbrev pub ahead_gap : Frame
+ahead_gap = frame_of 4 4 (ahead_move 3 ∷ ahead_move 4 ∷ [])
+
+abbrev pub ahead_rest : Frame
+ahead_rest = frame_of 4 4 (ahead_move 2 ∷ ahead_move 3 ∷ ahead_move 4 ∷ [])
+
+-- two events under a clock of 9, and then an event of that clock
+abbrev pub sure_frame : Frame
+sure_frame = frame_of 2 9 (ahead_create ∷ ahead_move 2 ∷ [])
+
+abbrev pub sure_raise : Event
+sure_raise = event 9 2 3 (op.Raise (at_stamp 1 2))
+
+abbrev pub sure_late_frame : Frame
+sure_late_frame = frame_of 3 9 (sure_raise ∷ [])
+
+-- ---- edits that are refused
+
+-- three rects, of which the first two are a group that was moved
+abbrev pub grouped_steps : List Step
+grouped_steps =
+    At 1 (Edits (new_rect (pos 0)))
+    ∷ At 1 (Edits (new_rect (pos 20)))
+    ∷ At 1 (Edits (new_rect (pos 40)))
+    ∷ At 1 (Edits (group_of 1 1 2 1))
+    ∷ At 1 (Edits (move_to 4 1 5 7))
+    ∷ []
+
+abbrev pub grouped_site : SlowSite
+grouped_site = (after 1 7 grouped_steps).at 1
+
+-- the group at the greatest place
+abbrev pub far_site : SlowSite
+far_site = (after 1 7 (grouped_steps ++ At 1 (Edits (move_to 4 1 1000000000 0)) ∷ At 1 (Edits (wish.Ungroup (at_stamp 4 1))) ∷ [])).at 1
+
+-- ---- notes, mail and a restart
+
+-- a note, an edit, and the mail of both
+abbrev pub noted_steps : List Step
+noted_steps =
+    At 1 (Names (codes "Ann"))
+    ∷ At 1 (Focuses (Some (at_stamp 9 2)))
+    ∷ At 1 (Edits (new_rect (pos 0)))
+    ∷ Send 1 2
+    ∷ Deliver 0
+    ∷ Deliver 0
+    ∷ []
+
+abbrev pub noted_world : World
+noted_world = after 2 7 noted_steps
+
+abbrev pub noted_note : Note
+noted_note = record { number = 2; name = Some (codes "Ann"); focus = Some (at_stamp 9 2) }
+
+-- the answer to that mail comes back
+abbrev pub answered_world : World
+answered_world = after 2 7 (noted_steps ++ Send 2 1 ∷ Deliver 1 ∷ [])
+
+-- an event that site 1 had made, but not stored, when it stopped; and one that it had
+abbrev pub lost_world : World
+lost_world = after 2 7 (noted_steps ++ Restart 1 0 (Editing (new_rect (pos 20))) ∷ [])
+
+abbrev pub stored_world : World
+stored_world = after 2 7 (noted_steps ++ Restart 1 1 (Editing (new_rect (pos 20))) ∷ [])
+
+-- ---- the link of site 1 of 2
+
+-- one frame three times
+abbrev pub repeat_entries : List Entry
+repeat_entries = Packet frame_row ∷ Packet frame_row ∷ Packet frame_row ∷ []
+
+-- the frame that answers it: one event of site 2 is held
+abbrev pub answer_row : List ℕ
+answer_row = 71 ∷ 68 ∷ 79 ∷ 70 ∷ 1 ∷ 0 ∷ 0 ∷ 0 ∷ 7 ∷ 1 ∷ 2 ∷ 0 ∷ 1 ∷ 0 ∷ 0 ∷ 0 ∷ 0 ∷ 0 ∷ 0 ∷ 0 ∷ 1 ∷ 0 ∷ 0 ∷ 0 ∷ 0 ∷ 0 ∷ 0 ∷ 0 ∷ 0 ∷ 0 ∷ 0 ∷ 0 ∷ []
+
+-- the event of that frame
+abbrev pub record_row : List ℕ
+record_row = 0 ∷ 0 ∷ 0 ∷ 0 ∷ 0 ∷ 1 ∷ 2 ∷ 0 ∷ 1 ∷ 1 ∷ 1 ∷ 0 ∷ 0 ∷ 0 ∷ 0 ∷ 0 ∷ 0 ∷ 0 ∷ 0 ∷ 0 ∷ 0 ∷ 0 ∷ 10 ∷ 0 ∷ 0 ∷ 0 ∷ 10 ∷ 0 ∷ []
+
+abbrev pub repeat_effects : List Effect
+repeat_effects =
+    Head header_bytes
+    ∷ Print (codes "ready 1 of 2\n")
+    ∷ Work 1
+    ∷ Record record_row
+    ∷ Print (codes "echo 1.2 applied\n")
+    ∷ Try 2 answer_row
+    ∷ Print (codes "polled 3\n")
+    ∷ []
+
+-- the header, the event and a closed gate
+abbrev pub repeat_journal : List ℕ
+repeat_journal = header_bytes ++ 195 ∷ record_row ++ 0 ∷ []
+
+abbrev pub ahead_entries : List Entry
+ahead_entries = Packet (frame_bytes ahead_first) ∷ Packet (frame_bytes ahead_gap) ∷ Packet (frame_bytes ahead_rest) ∷ []
+
+abbrev pub sure_entries : List Entry
+sure_entries = Packet (frame_bytes sure_frame) ∷ Packet (frame_bytes sure_late_frame) ∷ []
+
+-- the first event, its count and clock again, a failure, and the second event
+abbrev pub failing_entries : List Entry
+failing_entries =
+    Packet (frame_bytes ahead_first)
+    ∷ Packet (frame_bytes (frame_of 1 1 []))
+    ∷ Failure
+    ∷ Packet (frame_bytes (frame_of 2 2 (ahead_move 2 ∷ [])))
+    ∷ []
+
+-- a new node 1 of 2 in session 7
+abbrev pub listening : List Entry → List ReadLine → List Effect
+listening entries lines = node_effects 1 2 7 entries lines
+
+abbrev pub ahead_printed : List ℕ
+ahead_printed =
+    codes "ready 1 of 2\necho 1.2 applied\necho 2.2 applied\necho 3.2 applied\necho 4.2 applied\npolled 3\nheld 4 kept 0 line 4 clock 4\n"
+
+abbrev pub sure_printed : List ℕ
+sure_printed =
+    codes "ready 1 of 2\necho 1.2 applied\necho 2.2 applied\nevent 9.2 refused: Backdated 9 9\npolled 2\nheld 2 kept 0 line 2 clock 2\n"
+
+abbrev pub failing_printed : List ℕ
+failing_printed = codes "ready 1 of 2\necho 1.2 applied\nlink fault after 2\necho 2.2 applied\npolled 1\n"
+
+-- what is no frame: no byte, another session, and one byte too many
+abbrev pub refused_entries : List Entry
+refused_entries =
+    Packet []
+    ∷ Packet (frame_bytes (record { head = record { session = 8; from = 2; to = 1; ack = 0; count = 1; clock = 1 }; note = no_note; events = ahead_create ∷ [] }))
+    ∷ Packet (frame_row ++ 0 ∷ [])
+    ∷ []
+
+abbrev pub refused_printed : List ℕ
+refused_printed =
+    codes "ready 1 of 2\nframe refused: Short at 0\nframe refused: Session\nframe refused: Trailing at 60\npolled 3\nend 0\n"
+
+abbrev pub noting_lines : List ReadLine
+noting_lines =
+    Ok (command.Name (codes "Ada"))
+    ∷ Ok (command.Focus (Some (at_stamp 1 1)))
+    ∷ Ok command.Who
+    ∷ Err UnknownCommand
+    ∷ Ok command.Blank
+    ∷ Ok (command.Edit (new_rect (pos 0)))
+    ∷ Ok (command.Edit (wish.Ungroup (at_stamp 1 1)))
+    ∷ Ok command.Quit
+    ∷ Ok command.Show
+    ∷ []
+
+abbrev pub noting_printed : List ℕ
+noting_printed =
+    codes "ready 1 of 2\nnoted 1\nnoted 2\nwho 1 Ada focus 1.1\nend 1\nrefused: UnknownCommand\nok 1.1\nrefused: NotGroup\n"

@@ -1,0 +1,7 @@
+//! The definitions, computed on rows worked by hand. No other crate stands on this one.
+#![tactic(auto)]
+
+pub mod line_rows;
+pub mod node_rows;
+pub mod rows;
+pub mod world_rows;

@@ -1,0 +1,144 @@
+//! The definitions, computed on worked rows.
+
+ghost use Rattle.std.specs.Prelude.{◌≡◌, ◌++◌, ◌∷◌, [], Ok, Err, pos, take};
+ghost use Rattle.gd_base.specs.declared.fault.LogWhy.TheVariants.{Short, Magic, Version, Field, FutureId, MemberOrder, NoSite, Turn, Backdated};
+ghost use Rattle.gd_outside.specs.declared.status.Status.TheVariants as status;
+ghost use Rattle.gd_base.specs.declared.fault.WireWhy.TheVariants as wire;
+ghost use Rattle.gd_model.specs.declared.before.Before.TheVariants.{Place};
+ghost use Rattle.gd_repair.specs.Repair.Outcome.{applied, dropped, reworked};
+ghost use Rattle.gd_grammar.specs.FrameBytes.{frame, frame_bytes};
+ghost use Rattle.gd_grammar.specs.LogBytes.{log};
+ghost use Rattle.gd_model.specs.Drawing.{picture};
+ghost use Rattle.gd_model.specs.Splices.{splice};
+ghost use Rattle.gd_model.specs.Arrivals.{drawn, all_drawn, outcome_of, costs};
+ghost use Rattle.gd_reference.specs.DrawingText.{text};
+ghost use Rattle.gd_reference.specs.SlowRun.{slow_effects, slow_end};
+ghost use Rattle.gd_lines.specs.Replies.{usage_line};
+ghost use Rattle.gd_rows.specs.Worked.{header, header_bytes, empty_log, tie_log, tie_events, tie_text, rank_events, rank_text, effect_before_cause, end_alone, replay_words, other_words, prints_of, works_of, cut_text, moved_log, moved_events, moved_text, styled_log, styled_events, styled_text, no_tag_log, grouped_log, grouped_events, unordered_log, one_member_log, many_members_log, regrouped_events, regrouped_text, nested_events, nested_text, no_magic, no_version, no_field, future_log, future_resize_log, no_colour_log, no_site_log, turn_log, backdated_log, fault_at, frame_row, frame_value, frame_of_version_2, frame_of_site_17, frame_of_another_site, frame_above_its_count, frame_above_its_clock, frame_of_number_0, frame_of_no_kind, frame_too_wide, frame_without_its_label, misread, at_stamp, move_to, moves_held, late_move, late_delete, tied_held, late_group, undone_by_the_group};
+
+/// A log without events prints no object, with its closed gate and without.
+pub fn an_empty_log_prints_its_end()
+    ensures gate { slow_effects replay_words empty_log ≡ prints_of end_alone }
+    ensures no_gate { slow_effects replay_words header_bytes ≡ prints_of end_alone }
+{}
+
+/// Events of one clock are ordered by their sites.
+pub fn a_tie_of_clocks_goes_by_sites()
+    ensures read { log tie_log ≡ Ok (header, tie_events) }
+    ensures printed { slow_effects replay_words tie_log ≡ works_of (1 ∷ 1 ∷ []) ++ prints_of tie_text }
+    ensures end { slow_end replay_words tie_log ≡ status.Done }
+{}
+
+/// A move puts an object at another place, and a label is printed behind all else.
+pub fn a_move_and_a_label_are_shown()
+    ensures read { log moved_log ≡ Ok (header, moved_events) }
+    ensures printed { slow_effects replay_words moved_log ≡ works_of (1 ∷ 1 ∷ []) ++ prints_of moved_text }
+{}
+
+/// A size, both colours, the width and a label are those that were set last, and what is set of no object changes nothing.
+pub fn a_look_is_set()
+    ensures read { log styled_log ≡ Ok (header, styled_events) }
+    ensures printed { slow_effects replay_words styled_log ≡ works_of (1 ∷ 1 ∷ 1 ∷ 1 ∷ 1 ∷ 1 ∷ 1 ∷ []) ++ prints_of styled_text }
+{}
+
+/// A raise lifts its object above all whose creates and raises come before it by their stamps.
+pub fn the_last_raise_is_on_top()
+    ensures { text (picture rank_events) ≡ rank_text }
+{}
+
+/// A group is read with its members and their shifts.
+pub fn a_group_is_read()
+    ensures { log grouped_log ≡ Ok (header, grouped_events) }
+{}
+
+/// Grouping again, after an ungroup and a move, moves nothing.
+pub fn regrouping_moves_nothing()
+    ensures { text (picture regrouped_events) ≡ regrouped_text }
+{}
+
+/// What stands in a deleted group is hidden, and what stands in a dissolved one is shown in the group that holds it.
+pub fn deleted_and_dissolved_groups_are_seen_through()
+    ensures { text (picture nested_events) ≡ nested_text }
+{}
+
+/// A delete that comes before the create of its object by arrival alone still deletes it.
+pub fn an_effect_before_its_cause_counts()
+    ensures { text (picture effect_before_cause) ≡ end_alone }
+{}
+
+/// A late move is dropped by the next move of its object, and a late delete has that one redone.
+pub fn a_late_event_is_dropped_or_has_others_redone()
+    ensures dropped { outcome_of moves_held late_move ≡ dropped (drawn (move_to 3 1 (pos 60))) }
+    ensures redone { outcome_of (moves_held ++ late_move ∷ []) late_delete ≡ reworked (all_drawn (move_to 3 1 (pos 60) ∷ [])) }
+    ensures first { outcome_of [] late_move ≡ applied }
+    ensures steps { costs (moves_held ++ late_move ∷ late_delete ∷ []) ≡ 1 ∷ 1 ∷ 1 ∷ 0 ∷ 3 ∷ [] }
+{}
+
+/// Where a move is dropped, its before-value is that of the move that drops it, which now finds the place that the dropped one sets.
+pub fn a_dropped_event_is_spliced_in()
+    ensures { splice (at_stamp 2 2) late_move.op (at_stamp 3 1) (move_to 3 1 (pos 60)).op (Place (pos 50) (pos 50)) ≡ (Place (pos 50) (pos 50), Place (pos 90) (pos 90)) }
+{}
+
+/// An event that depends on a late one through another event alone is undone with it.
+pub fn dependents_of_dependents_are_redone()
+    ensures { outcome_of tied_held late_group ≡ reworked (all_drawn undone_by_the_group) }
+{}
+
+/// A raise doesn't depend on that of another object, and a delete covers the create of its object.
+pub fn what_others_do_costs_nothing()
+    ensures ranks { costs rank_events ≡ 1 ∷ 1 ∷ 1 ∷ 1 ∷ [] }
+    ensures before_its_cause { costs effect_before_cause ≡ 1 ∷ 0 ∷ [] }
+{}
+
+/// The first fault of a log, with its place as the number of bytes that stand from it on.
+pub fn a_fault_has_its_place()
+    ensures magic { log no_magic ≡ fault_at Magic 11 }
+    ensures version { log no_version ≡ fault_at Version 7 }
+    ensures field { log no_field ≡ fault_at Field 2 }
+    ensures future { log future_log ≡ fault_at FutureId 7 }
+    ensures future_resize { log future_resize_log ≡ fault_at FutureId 15 }
+    ensures no_colour { log no_colour_log ≡ fault_at Field 4 }
+    ensures cut { log (take 32 tie_log) ≡ fault_at Short 0 }
+    ensures no_tag { log no_tag_log ≡ fault_at Field 1 }
+    ensures unordered { log unordered_log ≡ fault_at MemberOrder 15 }
+    ensures one_member { log one_member_log ≡ fault_at Field 1 }
+    ensures many_members { log many_members_log ≡ fault_at Field 1 }
+    ensures no_site { log no_site_log ≡ fault_at NoSite 52 }
+    ensures turn { log turn_log ≡ fault_at Turn 51 }
+    ensures backdated { log backdated_log ≡ fault_at Backdated 29 }
+{}
+
+/// Bytes that are no log are refused with the place and the reason of the first fault.
+pub fn what_is_no_log_is_refused()
+    ensures printed { slow_effects replay_words (take 32 tie_log) ≡ prints_of cut_text }
+    ensures end { slow_end replay_words (take 32 tie_log) ≡ status.BadLog }
+{}
+
+/// Words that name no command are refused, whatever the input is.
+pub fn other_words_are_refused()
+    ensures printed { slow_effects other_words tie_log ≡ prints_of (usage_line ∷ []) }
+    ensures end { slow_end other_words tie_log ≡ status.Usage }
+    ensures none { slow_end [] tie_log ≡ status.Usage }
+    ensures twice { slow_end (replay_words ++ replay_words) tie_log ≡ status.Usage }
+{}
+
+/// A frame is read from its bytes, and written as them.
+pub fn a_frame_is_read_and_written()
+    ensures read { frame frame_row ≡ Ok frame_value }
+    ensures written { frame_bytes frame_value ≡ frame_row }
+{}
+
+/// The first fault of bytes that are no frame, with its place as the number of bytes that stand from it on.
+pub fn a_fault_of_a_frame_has_its_place()
+    ensures cut { frame (take 33 frame_row) ≡ misread wire.Short 0 }
+    ensures version { frame frame_of_version_2 ≡ misread wire.Version 56 }
+    ensures site { frame frame_of_site_17 ≡ misread wire.Field 51 }
+    ensures sender { frame frame_of_another_site ≡ misread wire.Disorder 28 }
+    ensures count { frame frame_above_its_count ≡ misread wire.Disorder 28 }
+    ensures clock { frame frame_above_its_clock ≡ misread wire.Disorder 28 }
+    ensures number { frame frame_of_number_0 ≡ misread wire.Field 21 }
+    ensures kind { frame frame_of_no_kind ≡ misread wire.Field 18 }
+    ensures width { frame frame_too_wide ≡ misread wire.Field 9 }
+    ensures label { frame frame_without_its_label ≡ misread wire.Short 0 }
+    ensures tail { frame (frame_row ++ 0 ∷ []) ≡ misread wire.Trailing 1 }
+{}
