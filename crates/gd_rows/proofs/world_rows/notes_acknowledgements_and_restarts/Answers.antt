@@ -33,3 +33,11 @@ returns-clause-stored c = refl
 pub returns-clause-forgotten : goal.returns-clause-forgotten
 unfolding computing
 returns-clause-forgotten c = refl
+
+pub returns-clause-taken : goal.returns-clause-taken
+unfolding computing
+returns-clause-taken c = refl
+
+pub returns-clause-sure_of : goal.returns-clause-sure_of
+unfolding computing
+returns-clause-sure_of c = refl
