@@ -10,7 +10,8 @@ use Rattle.std.proofs.lemmas.Bool.{and_parts}
 use Rattle.gd_base.specs.Stamps.{Stamp, is_same, is_before}
 use Rattle.gd_base.proofs.StampLemmas.{is_same-refl, is_same-comm, is_before-apart, is_before-trans}
 use Rattle.gd_model.specs.declared.object.Object.{Object}
-use Rattle.gd_model.specs.Objects.{Body, body}
+use Rattle.gd_model.specs.declared.object.Body.{Body}
+use Rattle.gd_model.specs.Objects.{body}
 use Rattle.gd_model.specs.Drawing.{is_there}
 use Rattle.gd_model.specs.Board.{Board, Level, level_cmp, without_ranks}
 use Rattle.gd_drawing.proofs.Stacking.{level_cmp-IsAntisymmetric, level_below, at_rank, t_first, t_second, t_both, t_of, Stands}

@@ -5,7 +5,8 @@ use Rattle.std.specs.FinMap as map_of
 use Rattle.gd_base.specs.Stamps.{Stamp, stamp_cmp, is_same}
 use Rattle.gd_base.proofs.StampLemmas.{is_same-refl}
 use Rattle.gd_model.specs.declared.object.Object.{Object}
-use Rattle.gd_model.specs.Objects.{Body, body}
+use Rattle.gd_model.specs.declared.object.Body.{Body}
+use Rattle.gd_model.specs.Objects.{body}
 use Rattle.gd_model.specs.Board.{Board, Level, level_cmp, stack, without_ranks, listed}
 use Rattle.gd_drawing.proofs.Stacking.{level_test, at_rank, get-stack}
 

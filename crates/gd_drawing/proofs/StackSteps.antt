@@ -15,8 +15,10 @@ use Rattle.gd_model.specs.declared.content.Content.{Content}
 use Rattle.gd_model.specs.declared.content.Content.TheVariants.{ToPlace, ToSize, ToStroke, ToFill, ToWidth, ToText, ToFlag, ToRank}
 use Rattle.gd_model.specs.declared.object.Link.{Link}
 use Rattle.gd_model.specs.declared.object.Object.{Object}
-use Rattle.gd_model.specs.Objects.{Body, body, ranked, new_group, new_shape, fits, put, put_body, set, set_body, linked, linked_body}
-use Rattle.gd_model.specs.Forms.{Sets, Creates, Deletes, Groups, form}
+use Rattle.gd_model.specs.declared.object.Body.{Body}
+use Rattle.gd_model.specs.Objects.{body, ranked, new_group, new_shape, fits, put, put_body, set, set_body, linked, linked_body}
+use Rattle.gd_model.specs.declared.form.Form.TheVariants.{Sets, Creates, Deletes, Groups}
+use Rattle.gd_model.specs.Forms.{form}
 use Rattle.gd_model.specs.Drawing.{Drawing, has_id, link_given, at_id, without, to_top, draw}
 use Rattle.gd_model.specs.Board.{Board, Level, level_cmp, without_ranks, board_with, apply}
 use Rattle.gd_drawing.proofs.Lookups.{get-board_with}

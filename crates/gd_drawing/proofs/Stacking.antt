@@ -8,7 +8,8 @@ use Rattle.std.specs.Cmp.{IsTotalOrder, then_total, on_total, tied_then}
 use Rattle.gd_base.specs.Stamps.{Stamp, stamp_cmp, is_same, is_before}
 use Rattle.gd_base.proofs.StampLemmas.{stamp_cmp-total, stamp_cmp-IsAntisymmetric, is_same-true, is_before-apart}
 use Rattle.gd_model.specs.declared.object.Object.{Object}
-use Rattle.gd_model.specs.Objects.{Body, body}
+use Rattle.gd_model.specs.declared.object.Body.{Body}
+use Rattle.gd_model.specs.Objects.{body}
 use Rattle.gd_model.specs.Board.{Board, Level, level_cmp, levels, stack, without_ranks, listed}
 
 -- ---- levels

@@ -25,7 +25,7 @@ use Rattle.gd_events.specs.Events.{Event}
 use Rattle.gd_events.specs.Sound.{is_shift_in_range}
 use Rattle.gd_model.specs.declared.object.Kind.{Kind}
 use Rattle.gd_model.specs.declared.object.Kind.TheVariants.{Shape, Group}
-use Rattle.gd_model.specs.Objects.{Body}
+use Rattle.gd_model.specs.declared.object.Body.{Body}
 use Rattle.gd_model.specs.Drawing.{Drawing, picture}
 use Rattle.gd_model.specs.Shown.{Above, above, is_gone}
 use Rattle.gd_reference.specs.SlowSite.{SlowSite, own, clock}
