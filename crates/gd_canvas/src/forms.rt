@@ -8,7 +8,7 @@ ghost use Rattle.gd_canvas.specs.Aims.{aim_of, first_touch, members_of};
 use crate::new_objects;
 use gd_base::{Member, Stamp, Style};
 use gd_events::Op;
-use gd_model::{Content, Form, Part};
+use gd_model::{Content, Form, Part, Rank};
 
 /// A form without what it puts into the drawing: what kind of change it is, and of which object.
 #[derive(Drop)]
@@ -40,7 +40,7 @@ pub fn form_of(stamp: Stamp, op: &Op) -> Form
         Op::Retext { id, label } => Form::Sets(*id, Content::ToText(label.copy())),
         Op::Group { members } => Form::Groups(members.copy()),
         Op::Ungroup { id } => Form::Sets(*id, Content::ToFlag(true)),
-        Op::Raise { id } => Form::Sets(*id, Content::ToRank(stamp)),
+        Op::Raise { id } => Form::Sets(*id, Content::ToRank(Rank::top(stamp))),
     }
 }
 

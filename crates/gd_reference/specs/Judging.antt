@@ -27,7 +27,8 @@ use Rattle.gd_model.specs.declared.object.Kind.{Kind}
 use Rattle.gd_model.specs.declared.object.Kind.TheVariants.{Shape, Group}
 use Rattle.gd_model.specs.declared.object.Body.{Body}
 use Rattle.gd_model.specs.Drawing.{Drawing, picture}
-use Rattle.gd_model.specs.Shown.{Above, above, is_gone}
+use Rattle.gd_model.specs.declared.above.Above.{Above}
+use Rattle.gd_model.specs.Shown.{above, is_gone}
 use Rattle.gd_reference.specs.SlowSite.{SlowSite, own, clock}
 
 -- ---- one object
