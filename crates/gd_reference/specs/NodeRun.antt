@@ -25,7 +25,7 @@ use Rattle.gd_lines.specs.Refusals.{line_refusal}
 use Rattle.gd_lines.specs.Replies.{ready_line, refused_line, status_line, who_line, long_frame_line, polled_line, link_fault_line}
 use Rattle.gd_reference.specs.SiteEffects.{tries, of_edit, of_note, of_read, after_read}
 use Rattle.gd_reference.specs.SlowSite.{SlowSite, new_site, journal_header, status}
-use Rattle.gd_grammar.specs.Spelling.{AreBytes}
+use Rattle.gd_grammar.specs.FieldBytes.{AreBytes}
 use Rattle.gd_lines.specs.Text.{end_line}
 use Rattle.gd_reference.specs.DrawingText.{text}
 use Rattle.gd_reference.specs.World.{after_line, Names, Focuses}

@@ -10,7 +10,7 @@ use Rattle.gd_events.specs.Events.{Event}
 use Rattle.gd_base.specs.declared.fault.LogWhy.{LogWhy}
 use Rattle.gd_base.specs.declared.fault.WireWhy.{WireWhy}
 use Rattle.gd_grammar.specs.FrameBytes.{Frame, Misread}
-use Rattle.gd_grammar.specs.LogBytes.{Header, LogFault}
+use Rattle.gd_grammar.specs.LogBytes.{Header, LogMisread}
 use Rattle.gd_effects.specs.Effects.{Effect, Print, Work}
 
 abbrev pub at_stamp : ℕ → ℕ → Stamp
@@ -299,7 +299,7 @@ turn_log = 71 ∷ 68 ∷ 79 ∷ 76 ∷ 1 ∷ 0 ∷ 0 ∷ 0 ∷ 7 ∷ 1 ∷ 2 ∷
 abbrev pub backdated_log : List ℕ
 backdated_log = 71 ∷ 68 ∷ 79 ∷ 76 ∷ 1 ∷ 0 ∷ 0 ∷ 0 ∷ 7 ∷ 1 ∷ 2 ∷ 195 ∷ 0 ∷ 0 ∷ 0 ∷ 0 ∷ 0 ∷ 1 ∷ 2 ∷ 0 ∷ 1 ∷ 1 ∷ 1 ∷ 0 ∷ 0 ∷ 0 ∷ 5 ∷ 0 ∷ 0 ∷ 0 ∷ 5 ∷ 0 ∷ 0 ∷ 0 ∷ 10 ∷ 0 ∷ 0 ∷ 0 ∷ 10 ∷ 0 ∷ 195 ∷ 0 ∷ 0 ∷ 0 ∷ 0 ∷ 0 ∷ 1 ∷ 2 ∷ 0 ∷ 2 ∷ 1 ∷ 2 ∷ 0 ∷ 0 ∷ 0 ∷ 0 ∷ 0 ∷ 0 ∷ 0 ∷ 0 ∷ 0 ∷ 0 ∷ 0 ∷ 20 ∷ 0 ∷ 0 ∷ 0 ∷ 20 ∷ 0 ∷ 0 ∷ []
 
-abbrev pub fault_at : LogWhy → ℕ → Result (Header × List Event) LogFault
+abbrev pub fault_at : LogWhy → ℕ → Result (Header × List Event) LogMisread
 fault_at why left = Err (record { why = why; left = left })
 
 -- the frame of a site 2 that made a rect, for site 1, of which it holds nothing
