@@ -9,8 +9,8 @@ use Rattle.gd_base.specs.declared.fault.LogWhy.TheVariants.{NoSite, Turn}
 use Rattle.gd_events.specs.Events.{Event}
 use Rattle.gd_grammar.specs.EventBytes.{event_at}
 use Rattle.gd_grammar.specs.LogBytes.{Header, LogFault, log_why, in_log, turn_fault, left_of, gate, header_at, record_at, step_at}
-use Rattle.gd_wire.proofs.Steady.{IsEnd}
-use Rattle.gd_wire.proofs.SteadyFields.{Steady-event, Steady-header, event-long}
+use Rattle.gd_grammar.proofs.Steady.{IsEnd}
+use Rattle.gd_grammar.proofs.SteadyFields.{Steady-event, Steady-header, event-long}
 use Rattle.gd_logs.specs.Turns.{turn_place}
 use Rattle.gd_logs.specs.Steps.{IsFault}
 

@@ -13,8 +13,8 @@ use Rattle.gd_base.specs.Results.{◌>>=◌}
 use Rattle.gd_grammar.specs.Reading.{Reads}
 use Rattle.gd_grammar.specs.EventBytes.{event_at}
 use Rattle.gd_grammar.specs.LogBytes.{Header, LogFault, log_why, in_log, turn_fault, left_of, gate, header_at, record_at, step_at}
-use Rattle.gd_wire.proofs.Steady.{Steady, farther}
-use Rattle.gd_wire.proofs.SteadyFields.{Steady-event, Steady-header}
+use Rattle.gd_grammar.proofs.Steady.{Steady, farther}
+use Rattle.gd_grammar.proofs.SteadyFields.{Steady-event, Steady-header}
 use Rattle.gd_logs.specs.Steps.{Step, IsFault}
 use Rattle.gd_logs.proofs.RecordLemmas.{nine_bytes, record-taken, record-refused, record-faulty}
 

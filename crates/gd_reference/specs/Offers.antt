@@ -16,7 +16,8 @@ use Rattle.gd_base.specs.declared.offer.Offer.TheVariants.{Next, Repeat, Gap, Ba
 use Rattle.gd_base.specs.declared.refusal.FrameFault.{FrameFault}
 use Rattle.gd_base.specs.declared.refusal.FrameFault.TheVariants.{Session, NotForMe, FromMe, NoSuchSite, OverAck}
 use Rattle.gd_events.specs.Events.{Event}
-use Rattle.gd_grammar.specs.FrameBytes.{Frame, Head, most_frame_events}
+use Rattle.gd_grammar.specs.FrameBytes.{Frame, most_frame_events}
+use Rattle.gd_grammar.specs.declared.frame.Head.{Head}
 use Rattle.gd_reference.specs.PerSite.{put, is_site}
 use Rattle.gd_reference.specs.SlowSite.{SlowSite, count, own, clock}
 

@@ -1,7 +1,7 @@
 use Rattle.std.proofs.Common.{ℕ, List, Ok, ap, sym, arith}
 use Rattle.std.specs.Prelude.{Result}
 use Rattle.gd_grammar.specs.LogBytes.{Header, LogFault}
-use Rattle.gd_wire.proofs.SteadyFields.{Steady-header}
+use Rattle.gd_grammar.proofs.SteadyFields.{Steady-header}
 use Rattle.gd_logs.proofs.RecordLemmas.{header-left, header-faulty}
 use Rattle.gd_logs.proofs.reader.parse_header.Goals as goal
 

@@ -2,7 +2,7 @@ use Rattle.std.proofs.Common.{ℕ, List, Ok, ap, sym, arith}
 use Rattle.gd_events.specs.Events.{Event}
 use Rattle.std.specs.Prelude.{Result}
 use Rattle.gd_grammar.specs.LogBytes.{LogFault}
-use Rattle.gd_wire.proofs.SteadyFields.{Steady-event}
+use Rattle.gd_grammar.proofs.SteadyFields.{Steady-event}
 use Rattle.gd_logs.proofs.RecordLemmas.{event-left, record-taken, refused-there, faulty-there, turn-near}
 use Rattle.gd_logs.proofs.record.parse_event.Goals as goal
 
