@@ -3,6 +3,7 @@ use Rattle.std.proofs.Common.{◌≡◌, ℕ, zero, suc, ◌≤◌, Bool, true, 
 use Rattle.std.proofs.lemmas.Int.{ints}
 use Rattle.std.specs.Prelude.{option_map, is_some}
 use Rattle.std.specs.FinMap as map_of
+use Rattle.gd_base.specs.declared.ranges.TheConstants.{SESSION_EVENTS}
 use Rattle.gd_base.specs.Stamps.{stamp_cmp, is_before}
 use Rattle.gd_base.specs.Stamps.{Stamp}
 use Rattle.gd_model.specs.declared.object.Link.{Link}
@@ -137,7 +138,7 @@ cut None f e h = cc
 cut {d = d} {sum = sum} {below = below} (Some l) f e h = at_bound sum d below l ∙ ap (λ m. joined sum (above_in m d below (Some l))) (sym h) ∙ f.whole
 
 -- a sum of few links is one of at most all
-pub wider : (n : ℕ) (s : Above) → n ≤ 1048560 → Within n s → Within 1048560 s
+pub wider : (n : ℕ) (s : Above) → n ≤ SESSION_EVENTS → Within n s → Within SESSION_EVENTS s
 wider n s h w =
     let left = w.left in
     let right = w.right in

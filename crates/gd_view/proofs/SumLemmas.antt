@@ -8,6 +8,7 @@ use Rattle.std.specs.FinMap.Entries.{put, below_all}
 use Rattle.std.proofs.lemmas.Int.{ints}
 use Rattle.std.proofs.Math.Seq.{drop-length}
 use Rattle.indexmap.specs.IndexMap as index_map
+use Rattle.gd_base.specs.declared.ranges.TheConstants.{SESSION_EVENTS}
 use Rattle.gd_base.specs.Stamps.{stamp_cmp, is_same, is_before}
 use Rattle.gd_base.specs.contracts.stamp.StampPartialEq.TheImpl.{eq-value}
 use Rattle.gd_base.proofs.StampLemmas.{stamp_cmp-total, is_same-true, is_same-comm, is_before-apart, is_before-trans}
@@ -190,7 +191,7 @@ same_length [] = refl
 same_length (e ∷ es) = ap suc (same_length es)
 
 -- there are no more turns than objects
-pub few_turns : {b : Board} {ks : List Stamp} {k : Known} {turn : ℕ} → Summed b ks k turn → (rest : List Stamp) (id : Stamp) → ks ≡ rest ++ id ∷ [] → map_of.len b ≤ 1048560 → turn < 1048560
+pub few_turns : {b : Board} {ks : List Stamp} {k : Known} {turn : ℕ} → Summed b ks k turn → (rest : List Stamp) (id : Stamp) → ks ≡ rest ++ id ∷ [] → map_of.len b ≤ SESSION_EVENTS → turn < SESSION_EVENTS
 few_turns {b = b} {ks = ks} s rest id e h =
     let keys : length (map_of.entries b) ≡ length (map_of.keys b) = same_length (map_of.entries b) in
     let size : map_of.len b ≡ length (map_of.entries b) = map_of.len-entries b in
@@ -219,7 +220,7 @@ some_wider n None h = tt
 some_wider n (Some a) h = one_wider n a h
 
 -- the same up to all links
-all_wider : (n : ℕ) (x : Option Above) → n ≤ 1048560 → IfSome x (λ a. Within n a) → IfSome x (λ a. Within 1048560 a)
+all_wider : (n : ℕ) (x : Option Above) → n ≤ SESSION_EVENTS → IfSome x (λ a. Within n a) → IfSome x (λ a. Within SESSION_EVENTS a)
 all_wider n None l h = tt
 all_wider n (Some a) l h = wider n a l h
 
@@ -264,7 +265,7 @@ summed_next {b = b} {k = k} {turn = turn} s rest id x next more e is within put 
     bound q false w = some_wider (length s.done) (known k q) (s.sums.within q)
 
 -- after the last turn
-pub summed_all : {b : Board} {ks : List Stamp} {k : Known} {turn : ℕ} → Summed b ks k turn → ks ≡ [] → map_of.len b ≤ 1048560 → AreKnown (listed b) k
+pub summed_all : {b : Board} {ks : List Stamp} {k : Known} {turn : ℕ} → Summed b ks k turn → ks ≡ [] → map_of.len b ≤ SESSION_EVENTS → AreKnown (listed b) k
 summed_all {b = b} {k = k} s e few =
     let all : map_of.keys b ≡ s.done = s.all ∙ ap (λ ks. ks ++ s.done) e in
     let keys : length (map_of.entries b) ≡ length (map_of.keys b) = same_length (map_of.entries b) in

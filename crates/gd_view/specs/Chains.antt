@@ -1,5 +1,5 @@
 -- A chain that is followed link by link, with what was summed so far.
-use Rattle.std.specs.Prelude.{ℕ, ◌*◌, pos, neg_ℤ, ◌+ℤ◌, ◌≤ℤ◌, if◌then◌else◌, Option, None, Some}
+use Rattle.std.specs.Prelude.{ℕ, ◌*◌, ◌^◌, pos, neg_ℤ, ◌+ℤ◌, ◌≤ℤ◌, if◌then◌else◌, Option, None, Some}
 use Rattle.std.specs.FinMap as map_of
 use Rattle.gd_base.specs.Stamps.{stamp_cmp, is_before}
 use Rattle.gd_base.specs.Stamps.{Stamp}
@@ -25,9 +25,17 @@ with_link s parent l g = record { parent = parent; dx = s.dx +ℤ (l.dx +ℤ g.x
 abbrev pub group_in : Drawing → Stamp → Link → Option Body
 group_in d below l = if is_before below l.parent then map_of.find stamp_cmp l.parent d else None
 
--- the sum of at most n links: a shift and a place are each within 2^31, so a link adds 2^32 at most
+-- a shift and a place are each within 2^31, so a link adds this at most
+abbrev pub link_limit : ℕ
+link_limit = 2 ^ 32
+
+-- what is added to stays within this, and so within 64 bits
+abbrev pub sum_limit : ℕ
+sum_limit = 2 ^ 53
+
+-- the sum of at most n links
 pub record Within (n : ℕ) (s : Above) : Type 0 where
-  pub left : neg_ℤ (pos (4294967296 * n)) ≤ℤ s.dx
-  pub right : s.dx ≤ℤ pos (4294967296 * n)
-  pub up : neg_ℤ (pos (4294967296 * n)) ≤ℤ s.dy
-  pub down : s.dy ≤ℤ pos (4294967296 * n)
+  pub left : neg_ℤ (pos (link_limit * n)) ≤ℤ s.dx
+  pub right : s.dx ≤ℤ pos (link_limit * n)
+  pub up : neg_ℤ (pos (link_limit * n)) ≤ℤ s.dy
+  pub down : s.dy ≤ℤ pos (link_limit * n)

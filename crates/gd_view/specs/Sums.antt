@@ -4,6 +4,7 @@ use Rattle.std.specs.Option.{option_flatten}
 use Rattle.std.specs.FinMap as map_of
 use Rattle.std.specs.BTreeSet.{insert_key}
 use Rattle.indexmap.specs.IndexMap as index_map
+use Rattle.gd_base.specs.declared.ranges.TheConstants.{SESSION_EVENTS}
 use Rattle.gd_base.specs.Stamps.{stamp_cmp, is_same}
 use Rattle.gd_base.specs.Stamps.{Stamp}
 use Rattle.gd_model.specs.declared.object.Body.{Body}
@@ -34,4 +35,4 @@ with_id (Some id) ks = insert_key stamp_cmp ks id
 -- the sums of all objects are kept
 pub record AreKnown (d : Drawing) (k : Known) : Type 0 where
   pub are : (q : Stamp) → known k q ≡ above_at d q
-  pub within : (q : Stamp) → IfSome (known k q) (λ a. Within 1048560 a)
+  pub within : (q : Stamp) → IfSome (known k q) (λ a. Within SESSION_EVENTS a)

@@ -1,11 +1,12 @@
 //! What stands above one object, by its chain of links.
 
 ghost use Rattle.std.specs.Prelude.{◌≡◌, ◌≤◌, ◌+◌, ◌+ℤ◌, ◌≤ℤ◌, pos, neg_ℤ, length, None, Some, IfSome, option_copied, option_map, if◌then◌else◌};
+ghost use Rattle.gd_base.specs.declared.ranges.TheConstants.{SESSION_EVENTS};
 ghost use Rattle.gd_model.specs.Objects.{body};
 ghost use Rattle.gd_model.specs.Board.{listed};
 ghost use Rattle.gd_model.specs.Shown.{above, above_in};
 ghost use Rattle.gd_canvas.specs.Slots.{board_of};
-ghost use Rattle.gd_view.specs.Chains.{first_parent, group_in, parent_by, with_link, Within};
+ghost use Rattle.gd_view.specs.Chains.{first_parent, group_in, link_limit, parent_by, sum_limit, with_link, Within};
 
 use crate::OBJECTS;
 use gd_base::Stamp;
@@ -15,18 +16,18 @@ use gd_model::{Above, Link, Object};
 /// What stands above an object of that id and link. Ids rise along a chain, so it has at most as many links as there are
 /// objects.
 pub(crate) fn above(canvas: &Canvas, id: Stamp, link: Option<Link>) -> Option<Above>
-    requires { length (listed (board_of canvas.now)) ≤ 1048560 }
+    requires { length (listed (board_of canvas.now)) ≤ SESSION_EVENTS }
     ensures above { result ≡ above (listed (board_of canvas.now)) id link }
-    ensures within { IfSome result (λ a. Within 1048560 a) }
+    ensures within { IfSome result (λ a. Within SESSION_EVENTS a) }
 {
     above_within(canvas, id, link, OBJECTS)
 }
 
 /// The same along at most so many links.
 fn above_within(canvas: &Canvas, id: Stamp, link: Option<Link>, most: u32) -> Option<Above>
-    requires { most ≤ 1048560 }
+    requires { most ≤ SESSION_EVENTS }
     ensures above { result ≡ above_in most (listed (board_of canvas.now)) id link }
-    ensures within { IfSome result (λ a. Within 1048560 a) }
+    ensures within { IfSome result (λ a. Within SESSION_EVENTS a) }
 {
     let mut sum = Above {
         parent: None,
@@ -52,7 +53,8 @@ fn above_within(canvas: &Canvas, id: Stamp, link: Option<Link>, most: u32) -> Op
 
 /// The group that a link leads to, where it is there and has a greater id.
 pub(crate) fn group_at<'a>(canvas: &'a Canvas, below: Stamp, link: &Link) -> Option<&'a Object>
-    ensures { option_map body (option_copied result) ≡ group_in (listed (board_of canvas.now)) below link.now }
+    ensures { option_map body (option_copied result)
+        ≡ group_in (listed (board_of canvas.now)) below link.now }
 {
     if below.is_before(link.parent) {
         canvas.get(link.parent)
@@ -69,7 +71,7 @@ pub(crate) fn with_link(
     group: &Object,
     turn: u32,
 ) -> Above
-    requires few { turn ≤ 1048560 }
+    requires few { turn ≤ SESSION_EVENTS }
     requires within { Within turn sum.now }
     ensures sum { result ≡ with_link sum.now parent link.now (body group.now) }
     ensures within { Within (1 + turn) result }
@@ -102,11 +104,11 @@ pub(crate) fn first_parent(parent: Option<Stamp>, further: Option<Stamp>) -> Opt
 
 /// The sum with one shift and one place more.
 pub(crate) fn add(sum: i64, shift: i32, place: i32) -> i64
-    requires low { neg_ℤ (pos 9007199254740992) ≤ℤ sum }
-    requires high { sum ≤ℤ pos 9007199254740992 }
+    requires low { neg_ℤ (pos sum_limit) ≤ℤ sum }
+    requires high { sum ≤ℤ pos sum_limit }
     ensures sum { result ≡ sum +ℤ (shift +ℤ place) }
-    ensures low { sum ≤ℤ (result +ℤ pos 4294967296) }
-    ensures high { result ≤ℤ (sum +ℤ pos 4294967296) }
+    ensures low { sum ≤ℤ (result +ℤ pos link_limit) }
+    ensures high { result ≤ℤ (sum +ℤ pos link_limit) }
 {
     sum + (i64::from(shift) + i64::from(place))
 }

@@ -36,7 +36,8 @@ impl Known {
     }
 
     pub(crate) fn put(&mut self, id: Stamp, sum: Option<Above>) -> Result<(), AllocError>
-        ensures { OnOk result ((q : stamps.Stamp) → known self.new q ≡ (if is_same q id then sum else known self.old q)) }
+        ensures { OnOk result ((q : stamps.Stamp) → known self.new q
+            ≡ (if is_same q id then sum else known self.old q)) }
     {
         self.sums.insert(id, sum)?;
         Ok(())

@@ -3,6 +3,7 @@
 
 ghost use Rattle.std.specs.Prelude.{◌≡◌, ◌≤◌, ◌+◌, Some, IsTrue, IfOk, IfSome, option_map, if◌then◌else◌};
 ghost use Rattle.std.specs.FinMap as map_of;
+ghost use Rattle.gd_base.specs.declared.ranges.TheConstants.{SESSION_EVENTS};
 ghost use Rattle.gd_base.specs.Stamps as stamps;
 ghost use Rattle.gd_base.specs.Stamps.{is_before};
 ghost use Rattle.gd_model.specs.Objects.{body};
@@ -22,7 +23,7 @@ use std::alloc::{AllocError, Global};
 
 /// What stands above each object.
 pub(crate) fn sums(alloc: Global, canvas: &Canvas) -> Result<Known, AllocError>
-    requires few { map_of.len (board_of canvas.now) ≤ 1048560 }
+    requires few { map_of.len (board_of canvas.now) ≤ SESSION_EVENTS }
     ensures { IfOk result (λ table. AreKnown (listed (board_of canvas.now)) table) }
 {
     let mut ids = ids(alloc, canvas)?;
@@ -38,8 +39,9 @@ pub(crate) fn sums(alloc: Global, canvas: &Canvas) -> Result<Known, AllocError>
 
 /// What stands above the object of that id, by the sums that are known.
 fn sum_at(canvas: &Canvas, table: &Known, id: Stamp, turn: u32) -> Option<Above>
-    requires few { turn ≤ 1048560 }
-    requires greater { (p : stamps.Stamp) → IsTrue (is_before id p) → known table.now p ≡ above_at (listed (board_of canvas.now)) p }
+    requires few { turn ≤ SESSION_EVENTS }
+    requires greater { (p : stamps.Stamp) → IsTrue (is_before id p)
+        → known table.now p ≡ above_at (listed (board_of canvas.now)) p }
     requires within { (p : stamps.Stamp) → IfSome (known table.now p) (λ a. Within turn a) }
     ensures above { result ≡ above_at (listed (board_of canvas.now)) id }
     ensures within { IfSome result (λ a. Within (1 + turn) a) }
@@ -59,8 +61,9 @@ fn sum_at(canvas: &Canvas, table: &Known, id: Stamp, turn: u32) -> Option<Above>
 
 /// What stands above an object with a link, by the sum that is known at the link's end.
 fn sum_by(canvas: &Canvas, table: &Known, id: Stamp, link: &Link, turn: u32) -> Option<Above>
-    requires few { turn ≤ 1048560 }
-    requires greater { IsTrue (is_before id link.now.parent) → known table.now link.now.parent ≡ above_at (listed (board_of canvas.now)) link.now.parent }
+    requires few { turn ≤ SESSION_EVENTS }
+    requires greater { IsTrue (is_before id link.now.parent)
+        → known table.now link.now.parent ≡ above_at (listed (board_of canvas.now)) link.now.parent }
     requires within { IfSome (known table.now link.now.parent) (λ a. Within turn a) }
     ensures above { result ≡ above (listed (board_of canvas.now)) id (Some link.now) }
     ensures within { IfSome result (λ a. Within (1 + turn) a) }
@@ -76,7 +79,7 @@ fn sum_by(canvas: &Canvas, table: &Known, id: Stamp, link: &Link, turn: u32) -> 
 
 /// What stands above a group's member, by what stands above the group.
 fn through(sum: &Above, link: &Link, group: &Object, turn: u32) -> Above
-    requires few { turn ≤ 1048560 }
+    requires few { turn ≤ SESSION_EVENTS }
     requires within { Within turn sum.now }
     ensures sum { result ≡ above_by link.now (body group.now) sum.now }
     ensures within { Within (1 + turn) result }
