@@ -5,12 +5,12 @@ use Rattle.std.proofs.lemmas.List.Sums.{length-filter}
 use Rattle.std.specs.List.{AllByRecursion as Every}
 use Rattle.gd_events.specs.Events.{Event}
 use Rattle.gd_events.specs.Sound.{IsSound}
-use Rattle.gd_log.proofs.WrittenLemmas.{log-logged}
-use Rattle.gd_log.specs.Written.{AreNext}
+use Rattle.gd_logs.proofs.WrittenLemmas.{log-logged}
+use Rattle.gd_logs.specs.Written.{AreNext}
 use Rattle.gd_grammar.specs.LogBytes.{count_of, last_clock, log, logged, turn_fault}
 use Rattle.gd_reference.specs.PerSite.{is_site}
 use Rattle.gd_reference.specs.SlowSite.{SlowSite, is_by, journal_header, made_by}
-use Rattle.gd_reference.specs.SlowRun.{replayed, replayed_as, shown}
+use Rattle.gd_reference.specs.SlowRun.{replayed, replayed_as, replay_effects}
 use Rattle.gd_reference.specs.World.{Step, IsSession, IsStep, after}
 use Rattle.gd_protocol.proofs.Chains.{IsChain-back, last_clock-made_by, made_by-append}
 use Rattle.gd_protocol.proofs.Least.{is_site-bounds}
@@ -52,5 +52,5 @@ well_journal slow h =
 pub journals_after : (sites session : ℕ) (steps : List Step) (s : ℕ) → IsSession sites session → Every IsStep steps → is_site sites s ≡ true → log (logged (journal_header ((after sites session steps).at s)) ((after sites session steps).at s).held) ≡ Ok (journal_header ((after sites session steps).at s), ((after sites session steps).at s).held)
 journals_after sites session steps s met ranged inside = well_journal ((after sites session steps).at s) (sites_are_well_after sites session steps s met ranged inside)
 
-pub well_replayed : (slow : SlowSite) → IsWell slow → replayed (logged (journal_header slow) slow.held) ≡ shown slow.held
+pub well_replayed : (slow : SlowSite) → IsWell slow → replayed (logged (journal_header slow) slow.held) ≡ replay_effects slow.held
 well_replayed slow h = ap (replayed_as (logged (journal_header slow) slow.held)) (well_journal slow h)

@@ -10,15 +10,14 @@
 -- The run is several functions of the same arguments: the effects, the site after, and the entries left. Its lines are given
 -- as they were read.
 use Rattle.std.specs.Prelude.{◌≡◌, ℕ, zero, suc, ◌+◌, Bool, true, false, List, [], ◌∷◌, ◌++◌, length, map, Result, Ok, Err, ◌==◌, nat_lt, if◌then◌else◌}
-use Rattle.gd_base.specs.Labels.{is_name}
 use Rattle.gd_base.specs.declared.refusal.LineFault.{LineFault}
 use Rattle.gd_outside.specs.Seen.{Entry, Packet, Pause, Failure}
 use Rattle.gd_lines.specs.declared.command.Command.{Command}
 use Rattle.gd_lines.specs.declared.command.Command.TheVariants as command
 use Rattle.gd_model.specs.Drawing.{picture}
 use Rattle.gd_effects.specs.Effects.{Effect, Head, Print}
-use Rattle.gd_grammar.specs.FrameBytes.{frame, IsFocus}
-use Rattle.gd_lines.specs.InRange.{IsEdit}
+use Rattle.gd_grammar.specs.FrameBytes.{frame}
+use Rattle.gd_lines.specs.InRange.{IsCommand}
 use Rattle.gd_reference.specs.Judging.{edited}
 use Rattle.gd_grammar.specs.LogBytes.{header_bytes}
 use Rattle.gd_lines.specs.Refusals.{line_refusal}
@@ -157,11 +156,9 @@ node_after me sites session entries lines = site_after (new_site me sites sessio
 
 -- ---- the ranges of a run
 
-abbrev pub IsCommand : ReadLine → Type 0
-IsCommand (Ok (command.Edit edit)) = IsEdit edit
-IsCommand (Ok (command.Name name)) = is_name name ≡ true
-IsCommand (Ok (command.Focus focus)) = IsFocus focus
-IsCommand other = Unit {0}
+abbrev pub IsRead : ReadLine → Type 0
+IsRead (Ok command) = IsCommand command
+IsRead (Err fault) = Unit {0}
 
 -- a datagram is a list of bytes
 abbrev pub IsEntry : Entry → Type 0

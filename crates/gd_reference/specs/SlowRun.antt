@@ -13,12 +13,12 @@ use Rattle.gd_model.specs.Arrivals.{costs}
 use Rattle.gd_effects.specs.Effects.{Effect, Print, Work}
 
 -- the events of a log arrive in its order, and then their drawing is printed
-abbrev pub shown : List Event → List Effect
-shown events = map Work (costs events) ++ map Print (text (picture events))
+abbrev pub replay_effects : List Event → List Effect
+replay_effects events = map Work (costs events) ++ map Print (text (picture events))
 
 -- what `replay` does with bytes that were read so, a log or none
 abbrev pub replayed_as : List ℕ → Result (Header × List Event) LogFault → List Effect
-replayed_as bytes (Ok found) = shown found.1
+replayed_as bytes (Ok found) = replay_effects found.1
 replayed_as bytes (Err fault) = Print (bad_log_line (place bytes fault.left) fault.why) ∷ []
 
 abbrev pub replayed : List ℕ → List Effect
