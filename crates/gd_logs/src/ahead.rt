@@ -1,6 +1,6 @@
 ghost use Rattle.std.specs.Prelude.{◌≡◌, ℕ, ◌<◌, ◌≤◌, ◌-◌, [], List, length, take, drop, IsErr, IsSome, OnOk};
 ghost use Rattle.gd_outside.specs.Told.{told};
-ghost use Rattle.gd_outside.specs.Causes.{Rose};
+ghost use Rattle.gd_outside.specs.Called.{SourceCalled};
 ghost use Rattle.gd_logs.specs.Stream.{ReadsAhead};
 
 use gd_outside::{Failed, Source};
@@ -60,8 +60,7 @@ impl Ahead {
         requires { want ≤ 65536 }
         ensures stream { ReadsAhead self.old (S.seen source.old).left self.new (S.seen source.new).left }
         ensures enough { OnOk result (length self.new < want → IsSome (S.seen source.new).left → told (S.seen source.new).left ≡ []) }
-        ensures count { (S.seen source.old).faults ≤ (S.seen source.new).faults }
-        ensures cause { IsErr result → Rose (S.seen source.old).faults (S.seen source.new).faults }
+        ensures called { SourceCalled (S.seen source.old) (S.seen source.new) (IsErr result) }
     {
         if self.end - self.start >= want {
             return Ok(());

@@ -4,7 +4,7 @@ ghost use Rattle.std.specs.Prelude.{◌≡◌, ◌≤◌, length, IfOk, IsSome, 
 ghost use Rattle.gd_events.specs.Ordered.{are_distinct};
 ghost use Rattle.gd_grammar.specs.LogBytes.{log};
 ghost use Rattle.gd_outside.specs.Told.{told};
-ghost use Rattle.gd_outside.specs.Causes.{Rose};
+ghost use Rattle.gd_outside.specs.Called.{SourceCalled};
 ghost use Rattle.gd_logs.specs.Logs.{LogIs};
 ghost use Rattle.gd_logs.specs.Turns.{most_events};
 
@@ -45,12 +45,10 @@ impl From<AllocError> for ReadError {
 
 /// The events of a log, in its order. No two of them have one stamp.
 pub fn read_log<S: Source>(alloc: Global, source: &mut S) -> Result<EventList, ReadError>
-    ensures was { IsSome (S.seen source.new).left → IsSome (S.seen source.old).left }
     ensures exact { IsSome (S.seen source.new).left → LogIs result (told (S.seen source.old).left) }
     ensures few { IfOk result (λ events. length events ≤ most_events) }
     ensures distinct { IfOk result (λ events. IsTrue (are_distinct events)) }
-    ensures count { (S.seen source.old).faults ≤ (S.seen source.new).faults }
-    ensures cause { result ≡ Err (ReadError.Log LogFault.Read) → Rose (S.seen source.old).faults (S.seen source.new).faults }
+    ensures called { SourceCalled (S.seen source.old) (S.seen source.new) (result ≡ Err (ReadError.Log LogFault.Read)) }
 {
     let (mut reader, _) = LogReader::start(source)?;
     let mut events = EventList::new(alloc);

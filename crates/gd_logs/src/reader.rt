@@ -2,7 +2,7 @@ ghost use Rattle.std.specs.Prelude.{◌≡◌, ℕ, ◌+◌, ◌≤◌, [], ◌�
 ghost use Rattle.gd_events.specs.Events.{Event as EventValue};
 ghost use Rattle.gd_grammar.specs.LogBytes.{header_at, in_log, step_at};
 ghost use Rattle.gd_outside.specs.Told.{told};
-ghost use Rattle.gd_outside.specs.Causes.{Rose};
+ghost use Rattle.gd_outside.specs.Called.{SourceCalled};
 ghost use Rattle.gd_logs.specs.Stream.{stream};
 ghost use Rattle.gd_logs.specs.Turns.{Follows, Took, OneMore};
 ghost use Rattle.gd_logs.specs.Steps.{HeaderIs, NextIs, StartIs};
@@ -49,13 +49,11 @@ impl LogReader {
     ///
     /// `Read` where a read failed, and `Bad` at the first fault of the header.
     pub fn start<S: Source>(source: &mut S) -> Result<(LogReader, LogHeader), LogFault>
-        ensures was { IsSome (S.seen source.new).left → IsSome (S.seen source.old).left }
         ensures header { IfOk result (λ x. x.0.header ≡ x.1) }
         ensures fresh { IfOk result (λ x. Follows x.0.turns []) }
         ensures on { IfOk result (λ x. x.0.stopped ≡ None) }
         ensures exact { IsSome (S.seen source.new).left → StartIs result (told (S.seen source.old).left) (told (S.seen source.new).left) }
-        ensures count { (S.seen source.old).faults ≤ (S.seen source.new).faults }
-        ensures cause { result ≡ Err LogFault.Read → Rose (S.seen source.old).faults (S.seen source.new).faults }
+        ensures called { SourceCalled (S.seen source.old) (S.seen source.new) (result ≡ Err LogFault.Read) }
     {
         let mut ahead = Ahead::new();
         ahead.fill(source, HEADER)?;
@@ -83,7 +81,6 @@ impl LogReader {
     /// `Read` where a read failed, and `Bad` at the first fault of the record. After None and after each fault the reader
     /// stands where it stood, and answers the same again from then on, without a read.
     pub fn next<S: Source>(&mut self, source: &mut S) -> Result<Option<Event>, LogFault>
-        ensures was { IsSome (S.seen source.new).left → IsSome (S.seen source.old).left }
         ensures exact { self.old.stopped ≡ None → (seen : List EventValue) → Follows self.old.turns seen → IsSome (S.seen source.new).left
             → NextIs result (step_at self.old.header.n seen (stream self.old.ahead (S.seen source.old).left))
             self.old.place (stream self.old.ahead (S.seen source.old).left) self.new.place (stream self.new.ahead (S.seen source.new).left) }
@@ -94,8 +91,7 @@ impl LogReader {
         ensures err { OnErr result ((self.new.turns ≡ self.old.turns) × (self.new.place ≡ self.old.place)) }
         ensures stops { self.new.stopped ≡ stop_of result }
         ensures again { IfSome self.old.stopped (λ stopped. (result ≡ answer_of stopped) × (self.new ≡ self.old) × (S.seen source.new ≡ S.seen source.old)) }
-        ensures count { (S.seen source.old).faults ≤ (S.seen source.new).faults }
-        ensures cause { self.old.stopped ≡ None → result ≡ Err LogFault.Read → Rose (S.seen source.old).faults (S.seen source.new).faults }
+        ensures called { SourceCalled (S.seen source.old) (S.seen source.new) ((self.old.stopped ≡ None) × (result ≡ Err LogFault.Read)) }
     {
         match self.stopped {
             Some(stopped) => stopped.answer(),
@@ -106,7 +102,6 @@ impl LogReader {
     /// Reads the next event, where reading hasn't come to its end.
     fn read_on<S: Source>(&mut self, source: &mut S) -> Result<Option<Event>, LogFault>
         requires { self.old.stopped ≡ None }
-        ensures was { IsSome (S.seen source.new).left → IsSome (S.seen source.old).left }
         ensures exact { (seen : List EventValue) → Follows self.old.turns seen → IsSome (S.seen source.new).left
             → NextIs result (step_at self.old.header.n seen (stream self.old.ahead (S.seen source.old).left))
             self.old.place (stream self.old.ahead (S.seen source.old).left) self.new.place (stream self.new.ahead (S.seen source.new).left) }
@@ -116,8 +111,7 @@ impl LogReader {
         ensures ended { result ≡ Ok None → (self.new.turns ≡ self.old.turns) × (self.new.place ≡ self.old.place) }
         ensures err { OnErr result ((self.new.turns ≡ self.old.turns) × (self.new.place ≡ self.old.place)) }
         ensures stops { self.new.stopped ≡ stop_of result }
-        ensures count { (S.seen source.old).faults ≤ (S.seen source.new).faults }
-        ensures cause { result ≡ Err LogFault.Read → Rose (S.seen source.old).faults (S.seen source.new).faults }
+        ensures called { SourceCalled (S.seen source.old) (S.seen source.new) (result ≡ Err LogFault.Read) }
     {
         let read = self.step(source);
         self.stopped = stop_of(&read);
@@ -126,7 +120,6 @@ impl LogReader {
 
     /// Reads the next event, and leaves how reading came to its end as it was.
     fn step<S: Source>(&mut self, source: &mut S) -> Result<Option<Event>, LogFault>
-        ensures was { IsSome (S.seen source.new).left → IsSome (S.seen source.old).left }
         ensures exact { (seen : List EventValue) → Follows self.old.turns seen → IsSome (S.seen source.new).left
             → NextIs result (step_at self.old.header.n seen (stream self.old.ahead (S.seen source.old).left))
             self.old.place (stream self.old.ahead (S.seen source.old).left) self.new.place (stream self.new.ahead (S.seen source.new).left) }
@@ -135,8 +128,7 @@ impl LogReader {
         ensures header { self.new.header ≡ self.old.header }
         ensures ended { result ≡ Ok None → (self.new.turns ≡ self.old.turns) × (self.new.place ≡ self.old.place) }
         ensures err { OnErr result ((self.new.turns ≡ self.old.turns) × (self.new.place ≡ self.old.place)) }
-        ensures count { (S.seen source.old).faults ≤ (S.seen source.new).faults }
-        ensures cause { result ≡ Err LogFault.Read → Rose (S.seen source.old).faults (S.seen source.new).faults }
+        ensures called { SourceCalled (S.seen source.old) (S.seen source.new) (result ≡ Err LogFault.Read) }
     {
         match read_record(self.header.n(), &mut self.turns, &mut self.ahead, source) {
             Ok(Some((event, count))) => {

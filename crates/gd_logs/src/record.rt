@@ -4,7 +4,7 @@ ghost use Rattle.std.specs.Prelude.{◌≡◌, ℕ, ◌+◌, ◌≤◌, [], ◌�
 ghost use Rattle.gd_events.specs.Events.{Event as EventValue};
 ghost use Rattle.gd_grammar.specs.LogBytes.{log_why, record_at, step_at};
 ghost use Rattle.gd_logs.specs.Turns.{turn_place};
-ghost use Rattle.gd_outside.specs.Causes.{Rose};
+ghost use Rattle.gd_outside.specs.Called.{SourceCalled};
 ghost use Rattle.gd_logs.specs.Stream.{stream};
 ghost use Rattle.gd_logs.specs.Turns.{Follows, Took, OneMore};
 ghost use Rattle.gd_logs.specs.Steps.{RecordIs, StepIs, StreamStepIs, IsNear};
@@ -143,7 +143,6 @@ pub fn read_record<S: Source>(
     source: &mut S,
 ) -> Result<Option<(Event, usize)>, Stop>
     requires { n ≤ 16 }
-    ensures was { IsSome (S.seen source.new).left → IsSome (S.seen source.old).left }
     ensures exact { (seen : List EventValue) → Follows turns.old seen → IsSome (S.seen source.new).left
         → StreamStepIs result (step_at n seen (stream ahead.old (S.seen source.old).left)) (stream ahead.old (S.seen source.old).left) (stream ahead.new (S.seen source.new).left) }
     ensures follows { IfOk result (λ o. IfSome o (λ x. (seen : List EventValue) → Follows turns.old seen → Took seen x.0 turns.new)) }
@@ -152,8 +151,7 @@ pub fn read_record<S: Source>(
     ensures near { IsNear result }
     ensures none { result ≡ Ok None → turns.new ≡ turns.old }
     ensures err { OnErr result (turns.new ≡ turns.old) }
-    ensures count { (S.seen source.old).faults ≤ (S.seen source.new).faults }
-    ensures cause { result ≡ Err Stop.Read → Rose (S.seen source.old).faults (S.seen source.new).faults }
+    ensures called { SourceCalled (S.seen source.old) (S.seen source.new) (result ≡ Err Stop.Read) }
 {
     ahead.fill(source, RECORD)?;
     match parse_record(n, turns, ahead.as_slice()) {

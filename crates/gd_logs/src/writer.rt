@@ -4,7 +4,7 @@ ghost use Rattle.std.specs.Prelude.{◌≡◌, ℕ, ◌+◌, ◌^◌, ◌≤◌,
 ghost use Rattle.gd_events.specs.Events.{Event as EventValue};
 ghost use Rattle.gd_grammar.specs.LogBytes.{Header, logged};
 ghost use Rattle.gd_grammar.specs.Spelling.{spelling};
-ghost use Rattle.gd_outside.specs.Causes.{Rose};
+ghost use Rattle.gd_outside.specs.Called.{JournalCalled};
 ghost use Rattle.gd_outside.specs.Journals.{put_at, MayWrite};
 ghost use Rattle.gd_outside.specs.Told.{told, Stays};
 ghost use Rattle.gd_logs.specs.Written.{IsLogAt, IsLogOf, IsWithOrWithout, with_record};
@@ -42,14 +42,11 @@ impl LogWriter {
         name: &str,
         header: &LogHeader,
     ) -> Result<LogWriter, Failed>
-        ensures contents_was { IsSome (J.seen journal.new).contents → IsSome (J.seen journal.old).contents }
-        ensures name_was { IsSome (J.seen journal.new).name → IsSome (J.seen journal.old).name }
         ensures place { IfOk result (λ w. w ≡ 11) }
         ensures written { OnOk result (IsSome (J.seen journal.new).contents → told (J.seen journal.new).contents ≡ logged header.now []) }
         ensures named { OnOk result (IsSome (J.seen journal.new).name → told (J.seen journal.new).name ≡ name.now) }
         ensures log { IfOk result (λ w. IsSome (J.seen journal.new).contents → IsLogAt w (told (J.seen journal.new).contents)) }
-        ensures count { (J.seen journal.old).faults ≤ (J.seen journal.new).faults }
-        ensures cause { IsErr result → Rose (J.seen journal.old).faults (J.seen journal.new).faults }
+        ensures called { JournalCalled (J.seen journal.old) (J.seen journal.new) (IsErr result) }
     {
         let head = head_of(header);
         journal.create(name)?;
@@ -64,7 +61,6 @@ impl LogWriter {
     pub fn append<J: Journal>(&mut self, journal: &mut J, event: &Event) -> Result<(), Failed>
         requires room { self.old ≤ 2 ^ 62 }
         requires log { IsSome (J.seen journal.old).contents → IsLogAt self.old (told (J.seen journal.old).contents) }
-        ensures was { IsSome (J.seen journal.new).contents → IsSome (J.seen journal.old).contents }
         ensures added { OnOk result (IsSome (J.seen journal.new).contents
             → told (J.seen journal.new).contents ≡ with_record (told (J.seen journal.old).contents) (spelling event.now)) }
         ensures logged { OnOk result (IsSome (J.seen journal.new).contents → (h : Header) (events : List EventValue)
@@ -76,8 +72,7 @@ impl LogWriter {
             → IsWithOrWithout (told (J.seen journal.old).contents) (spelling event.now) (told (J.seen journal.new).contents)) }
         ensures err { OnErr result (self.new ≡ self.old) }
         ensures name { Stays (J.seen journal.old).name (J.seen journal.new).name }
-        ensures count { (J.seen journal.old).faults ≤ (J.seen journal.new).faults }
-        ensures cause { IsErr result → Rose (J.seen journal.old).faults (J.seen journal.new).faults }
+        ensures called { JournalCalled (J.seen journal.old) (J.seen journal.new) (IsErr result) }
     {
         let record = record_of(event);
         put(journal, self.place + 1, record.as_slice())?;
@@ -99,14 +94,12 @@ impl LogWriter {
 /// Fails only where the journal's count of faults rises, and leaves then what a failed write may leave.
 fn put<J: Journal>(journal: &mut J, pos: u64, piece: &[u8]) -> Result<(), Failed>
     requires { IsSome (J.seen journal.old).contents → pos ≤ length (told (J.seen journal.old).contents) }
-    ensures was { IsSome (J.seen journal.new).contents → IsSome (J.seen journal.old).contents }
     ensures written { OnOk result (IsSome (J.seen journal.new).contents
         → told (J.seen journal.new).contents ≡ put_at (told (J.seen journal.old).contents) pos piece.now) }
     ensures torn { OnErr result (IsSome (J.seen journal.new).contents
         → MayWrite (told (J.seen journal.old).contents) pos piece.now (told (J.seen journal.new).contents)) }
     ensures name { Stays (J.seen journal.old).name (J.seen journal.new).name }
-    ensures count { (J.seen journal.old).faults ≤ (J.seen journal.new).faults }
-    ensures cause { IsErr result → Rose (J.seen journal.old).faults (J.seen journal.new).faults }
+    ensures called { JournalCalled (J.seen journal.old) (J.seen journal.new) (IsErr result) }
 {
     journal.write_at(pos, piece)?;
     journal.sync()

@@ -14,7 +14,7 @@ loop-self-preserved g c = record {
   whole = grind (arith, common_steps);
   stream = rw (take-put c.loop-self.self-inside.end (65536 - c.loop-self.self-inside.end) c.in_ok-count.count c.loop-self.self-inside.bytes c.read.new.buf (omega arith) c.in_ok-count.ensures.size)
       (reads_more c.loop-self.invariant.stream c.in_ok-count.ensures.handed);
-  count = omega (arith, c.in_ok-count.ensures.count);
+  count = omega (arith, c.in_ok-count.ensures.called.count);
 }
 
 pub returns-then-count-eq0-clause-stream : goal.returns-then-count-eq0-clause-stream
