@@ -21,7 +21,7 @@ use Rattle.gd_reference.specs.Judging.{are_apart, by_id, edit, judged, placed, t
 use Rattle.gd_reference.specs.NodeRun.{answers, of_received, received, who_behind}
 use Rattle.gd_reference.specs.Offers.{all_arrived, frame_for, offered, offers, refusal, take_frame}
 use Rattle.gd_reference.specs.PerSite.{least_of_others, put}
-use Rattle.gd_reference.specs.SiteEffects.{of_events, tries_behind}
+use Rattle.gd_reference.specs.SiteEffects.{events_replies, of_events, tries_behind}
 use Rattle.gd_reference.specs.SlowRun.{slow_effects, slow_end}
 use Rattle.gd_reference.specs.SlowSite.{greatest_clock, made_by, resumed}
 use Rattle.gd_reference.specs.World.{after_from, after_line, happens, with_site}
@@ -38,7 +38,7 @@ lines_compute = tt
 
 -- drawings, sites, worlds and runs
 unfoldable pub sites_compute : ⊤
-unfolding stamp_cmp inserted_by covers independent splice are_apart by_id edit judged placed targets answers of_received received who_behind all_arrived frame_for offered offers refusal take_frame least_of_others put of_events tries_behind slow_effects slow_end greatest_clock made_by resumed after_from after_line happens with_site
+unfolding stamp_cmp inserted_by covers independent splice are_apart by_id edit judged placed targets answers of_received received who_behind all_arrived frame_for offered offers refusal take_frame least_of_others put events_replies of_events tries_behind slow_effects slow_end greatest_clock made_by resumed after_from after_line happens with_site
 sites_compute = tt
 
 unfoldable pub computing : ⊤

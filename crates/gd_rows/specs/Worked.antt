@@ -185,8 +185,11 @@ effect_before_cause =
 abbrev pub move_to : ℕ → ℕ → ℤ → Event
 move_to clock site x = event clock site clock (Move (at_stamp 1 1) x x)
 
+abbrev pub last_move : Event
+last_move = move_to 3 1 (pos 60)
+
 abbrev pub moves_held : List Event
-moves_held = event 1 1 1 (square (pos 0)) ∷ move_to 2 1 (pos 50) ∷ move_to 3 1 (pos 60) ∷ []
+moves_held = event 1 1 1 (square (pos 0)) ∷ move_to 2 1 (pos 50) ∷ last_move ∷ []
 
 abbrev pub late_move : Event
 late_move = move_to 2 2 (pos 90)

@@ -1,6 +1,7 @@
 -- Worked rows of typed lines: what each is read as.
 use Rattle.std.specs.Prelude.{ℕ, List, [], ◌∷◌, ◌++◌, codes, Some, None, Result, Ok, Err}
 use Rattle.gd_base.specs.declared.edit.Edit.TheVariants as edit
+use Rattle.gd_base.specs.declared.note.Note.{Note}
 use Rattle.gd_base.specs.declared.refusal.LineFault.{LineFault}
 use Rattle.gd_base.specs.declared.refusal.LineFault.TheVariants as fault
 use Rattle.gd_lines.specs.declared.command.Command.{Command}
@@ -41,3 +42,10 @@ script_lines =
     ∷ (codes "at x show 1", Err fault.WrongCount)
     ∷ (codes "at x move a b c", Err fault.BadNumber)
     ∷ []
+
+-- notes with everything, and with nothing but a number
+abbrev pub ada : Note
+ada = record { number = 2; name = Some (codes "Ada"); focus = Some (at_stamp 1 1) }
+
+abbrev pub nobody : Note
+nobody = record { number = 1; name = None; focus = None }

@@ -27,6 +27,10 @@ new_rect x = wish.Create Rect x (pos 0) (pos 10) (pos 10) []
 abbrev pub move_to : ℕ → ℕ → ℕ → ℕ → Edit
 move_to clock site x y = wish.Move (at_stamp clock site) (pos x) (pos y)
 
+-- the first event of site 1, where that is the rect at 0
+abbrev pub first_rect : Event
+first_rect = event 1 1 1 (op.Create Rect (pos 0) (pos 0) (pos 10) (pos 10) [])
+
 -- ---- a move that comes late is covered by a later one
 
 -- all but the delivery of the late move
@@ -57,7 +61,7 @@ covered_move = event 2 2 1 (op.Move (at_stamp 1 1) (pos 90) (pos 90))
 -- what site 1 holds then
 abbrev pub cover_held : List Event
 cover_held =
-    event 1 1 1 (op.Create Rect (pos 0) (pos 0) (pos 10) (pos 10) [])
+    first_rect
     ∷ event 2 1 2 (op.Move (at_stamp 1 1) (pos 50) (pos 50))
     ∷ event 3 1 3 (op.Move (at_stamp 1 1) (pos 60) (pos 60))
     ∷ covered_move
@@ -117,7 +121,7 @@ late_group = event 3 2 2 (op.Group (member 1 2 (pos 0) (pos 0) ∷ member 2 1 (p
 -- what site 1 holds then
 abbrev pub closure_held : List Event
 closure_held =
-    event 1 1 1 (op.Create Rect (pos 0) (pos 0) (pos 10) (pos 10) [])
+    first_rect
     ∷ event 2 1 2 (op.Create Rect (pos 20) (pos 0) (pos 10) (pos 10) [])
     ∷ event 3 1 3 (op.Raise (at_stamp 1 1))
     ∷ event 4 1 4 (op.Group (member 1 1 (pos 0) (pos 0) ∷ member 2 1 (pos 0) (pos 0) ∷ []))
@@ -188,9 +192,22 @@ ahead_gap = frame_of 4 4 (ahead_move 3 ∷ ahead_move 4 ∷ [])
 abbrev pub ahead_rest : Frame
 ahead_rest = frame_of 4 4 (ahead_move 2 ∷ ahead_move 3 ∷ ahead_move 4 ∷ [])
 
+-- the listener behind the first of these, behind the second too, and behind all three
+abbrev pub ahead_one : SlowSite
+ahead_one = take_frame listener ahead_first
+
+abbrev pub ahead_none : SlowSite
+ahead_none = take_frame ahead_one ahead_gap
+
+abbrev pub ahead_all : SlowSite
+ahead_all = take_frame ahead_none ahead_rest
+
 -- two events under a clock of 9, and then an event of that clock
 abbrev pub sure_frame : Frame
 sure_frame = frame_of 2 9 (ahead_create ∷ ahead_move 2 ∷ [])
+
+abbrev pub sure_site : SlowSite
+sure_site = take_frame listener sure_frame
 
 abbrev pub sure_raise : Event
 sure_raise = event 9 2 3 (op.Raise (at_stamp 1 2))
@@ -218,6 +235,9 @@ refused_heads =
     ∷ (record ahead_head { ack = 1 }, Some (fault.OverAck 1 0))
     ∷ (ahead_head, None)
     ∷ []
+
+abbrev pub over_acknowledged : Frame
+over_acknowledged = record ahead_first { head = record ahead_head { ack = 1 } }
 
 -- ---- notes, mail and a restart
 
@@ -278,6 +298,10 @@ turned_world = after 2 7 turned_steps
 
 abbrev pub named : ℕ → List ℕ → Note
 named number name = record { number = number; name = Some name; focus = None }
+
+-- the listener behind a note of site 2
+abbrev pub noted_site : SlowSite
+noted_site = take_frame listener (noting_frame (named 1 (codes "Ann")))
 
 -- ---- the own note
 

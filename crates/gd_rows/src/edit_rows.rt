@@ -21,7 +21,8 @@ pub fn an_edit_is_judged()
 pub fn clocks_and_numbers_come_to_an_end()
     ensures last_clock { edit (listener_at 281474976710654) (new_rect (pos 0))
         ≡ Ok (event 281474976710655 1 1 (op.Create Rect (pos 0) (pos 0) (pos 10) (pos 10) [])) }
-    ensures no_more_clocks { edit (listener_at 281474976710655) (new_rect (pos 0)) ≡ Err why.ClockEnd }
+    ensures no_more_clocks { edit (listener_at 281474976710655) (new_rect (pos 0))
+        ≡ Err why.ClockEnd }
     ensures last_number { edit_by 1 70000 65534 (Ok raised) ≡ Ok (event 70001 1 65535 raised) }
     ensures no_more_numbers { edit_by 1 70000 65535 (Ok raised) ≡ Err why.SessionFull }
 {}

@@ -6,7 +6,7 @@ ghost use Rattle.gd_lines.specs.Lines.{read};
 ghost use Rattle.gd_lines.specs.ScriptLines.{read_script};
 ghost use Rattle.gd_lines.specs.Replies.{status_line, who_line, backdated_line};
 ghost use Rattle.gd_rows.specs.Worked.{at_stamp};
-ghost use Rattle.gd_rows.specs.WorkedLines.{read_lines, faulty_lines, script_lines};
+ghost use Rattle.gd_rows.specs.WorkedLines.{ada, nobody, read_lines, faulty_lines, script_lines};
 
 /// A label is everything behind one space, and one CR at the end is taken off.
 pub fn lines_are_read()
@@ -25,9 +25,10 @@ pub fn lines_of_a_rehearsal_are_read()
 
 /// Replies are printed with their numbers, ids and names.
 pub fn replies_are_printed()
-    ensures status { status_line (record { held = 12; kept = 0; line = 5; clock = 5 }) ≡ codes "held 12 kept 0 line 5 clock 5\n" }
-    ensures who { who_line 1 (record { number = 2; name = Some (codes "Ada"); focus = Some (at_stamp 1 1) })
-        ≡ codes "who 1 Ada focus 1.1\n" }
-    ensures nobody { who_line 2 (record { number = 1; name = None; focus = None }) ≡ codes "who 2 - focus -\n" }
-    ensures backdated { backdated_line (at_stamp 9 2) 9 9 ≡ codes "event 9.2 refused: Backdated 9 9\n" }
+    ensures status { status_line (record { held = 12; kept = 0; line = 5; clock = 5 })
+        ≡ codes "held 12 kept 0 line 5 clock 5\n" }
+    ensures who { who_line 1 ada ≡ codes "who 1 Ada focus 1.1\n" }
+    ensures nobody { who_line 2 nobody ≡ codes "who 2 - focus -\n" }
+    ensures backdated { backdated_line (at_stamp 9 2) 9 9
+        ≡ codes "event 9.2 refused: Backdated 9 9\n" }
 {}

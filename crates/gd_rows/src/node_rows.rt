@@ -10,28 +10,34 @@ ghost use Rattle.gd_rows.specs.WorkedNodes.{alone, created_effects, full_entries
 /// A frame that comes three times is taken once, and answered once.
 pub fn a_repeated_frame()
     ensures effects { listening repeat_entries (Ok command.Poll ∷ []) ≡ repeat_effects }
-    ensures journal { journal_after [] (listening repeat_entries (Ok command.Poll ∷ [])) ≡ repeat_journal }
+    ensures journal { journal_after [] (listening repeat_entries (Ok command.Poll ∷ []))
+        ≡ repeat_journal }
 {}
 
 /// What runs ahead is taken once what was missing is there.
 pub fn a_run_ahead()
-    ensures { printed (listening ahead_entries (Ok command.Poll ∷ Ok command.Status ∷ [])) ≡ ahead_printed }
+    ensures { printed (listening ahead_entries (Ok command.Poll ∷ Ok command.Status ∷ []))
+        ≡ ahead_printed }
 {}
 
 /// An event at the sure clock is printed as refused.
 pub fn an_event_at_the_sure_clock()
-    ensures { printed (listening sure_entries (Ok command.Poll ∷ Ok command.Status ∷ [])) ≡ sure_printed }
+    ensures { printed (listening sure_entries (Ok command.Poll ∷ Ok command.Status ∷ []))
+        ≡ sure_printed }
 {}
 
 /// A failed receive ends a poll; the next one goes on behind it.
 pub fn a_link_that_fails()
-    ensures printed { printed (listening failing_entries (Ok command.Poll ∷ Ok command.Poll ∷ [])) ≡ failing_printed }
-    ensures tried { length (tried (listening failing_entries (Ok command.Poll ∷ Ok command.Poll ∷ []))) ≡ 2 }
+    ensures printed { printed (listening failing_entries (Ok command.Poll ∷ Ok command.Poll ∷ []))
+        ≡ failing_printed }
+    ensures tried { length (tried (listening failing_entries (Ok command.Poll ∷ Ok command.Poll
+        ∷ []))) ≡ 2 }
 {}
 
 /// What isn't a frame, or isn't taken, is printed with its cause.
 pub fn frames_that_are_refused()
-    ensures { printed (listening refused_entries (Ok command.Poll ∷ Ok command.Show ∷ [])) ≡ refused_printed }
+    ensures { printed (listening refused_entries (Ok command.Poll ∷ Ok command.Show ∷ []))
+        ≡ refused_printed }
 {}
 
 /// Notes, faulty lines, edits, and the end.
@@ -46,7 +52,8 @@ pub fn an_own_event()
 
 /// A poll takes 64 datagrams at most, and ends behind a pause, which is no datagram.
 pub fn a_poll_comes_to_its_end()
-    ensures { printed (alone full_entries (Ok command.Poll ∷ Ok command.Poll ∷ Ok command.Poll ∷ Ok command.Poll ∷ [])) ≡ full_printed }
+    ensures { printed (alone full_entries (Ok command.Poll ∷ Ok command.Poll ∷ Ok command.Poll
+        ∷ Ok command.Poll ∷ [])) ≡ full_printed }
 {}
 
 /// A datagram of 8,192 bytes is read, and one of a byte more is not.

@@ -13,7 +13,7 @@ ghost use Rattle.gd_model.specs.Arrivals.{drawn, all_drawn, outcome_of, costs};
 ghost use Rattle.gd_reference.specs.DrawingText.{text};
 ghost use Rattle.gd_reference.specs.SlowRun.{slow_effects, slow_end};
 ghost use Rattle.gd_lines.specs.Replies.{usage_line};
-ghost use Rattle.gd_rows.specs.Worked.{header, header_bytes, empty_log, tie_log, tie_events, tie_text, rank_events, rank_text, effect_before_cause, end_alone, replay_words, other_words, prints_of, works_of, cut_text, moved_log, moved_events, moved_text, styled_log, styled_events, styled_text, grouped_log, grouped_events, regrouped_events, regrouped_text, nested_events, nested_text, frame_row, frame_value, at_stamp, move_to, moves_held, late_move, late_delete, tied_held, late_group, undone_by_the_group, log_faults, frame_faults};
+ghost use Rattle.gd_rows.specs.Worked.{header, header_bytes, empty_log, tie_log, tie_events, tie_text, rank_events, rank_text, effect_before_cause, end_alone, replay_words, other_words, prints_of, works_of, cut_text, moved_log, moved_events, moved_text, styled_log, styled_events, styled_text, grouped_log, grouped_events, regrouped_events, regrouped_text, nested_events, nested_text, frame_row, frame_value, at_stamp, moves_held, late_move, late_delete, tied_held, late_group, undone_by_the_group, log_faults, frame_faults, last_move};
 
 /// A log without events prints no object, with its closed gate and without.
 pub fn an_empty_log_prints_its_end()
@@ -24,20 +24,23 @@ pub fn an_empty_log_prints_its_end()
 /// Events of one clock are ordered by their sites.
 pub fn a_tie_of_clocks_goes_by_sites()
     ensures read { log tie_log ≡ Ok (header, tie_events) }
-    ensures printed { slow_effects replay_words tie_log ≡ works_of (1 ∷ 1 ∷ []) ++ prints_of tie_text }
+    ensures printed { slow_effects replay_words tie_log
+        ≡ works_of (1 ∷ 1 ∷ []) ++ prints_of tie_text }
     ensures end { slow_end replay_words tie_log ≡ status.Done }
 {}
 
 /// A move puts an object at another place, and a label is printed behind all else.
 pub fn a_move_and_a_label_are_shown()
     ensures read { log moved_log ≡ Ok (header, moved_events) }
-    ensures printed { slow_effects replay_words moved_log ≡ works_of (1 ∷ 1 ∷ []) ++ prints_of moved_text }
+    ensures printed { slow_effects replay_words moved_log
+        ≡ works_of (1 ∷ 1 ∷ []) ++ prints_of moved_text }
 {}
 
 /// A size, both colours, the width and a label are those that were set last, and what is set of no object changes nothing.
 pub fn a_look_is_set()
     ensures read { log styled_log ≡ Ok (header, styled_events) }
-    ensures printed { slow_effects replay_words styled_log ≡ works_of (1 ∷ 1 ∷ 1 ∷ 1 ∷ 1 ∷ 1 ∷ 1 ∷ []) ++ prints_of styled_text }
+    ensures printed { slow_effects replay_words styled_log
+        ≡ works_of (1 ∷ 1 ∷ 1 ∷ 1 ∷ 1 ∷ 1 ∷ 1 ∷ []) ++ prints_of styled_text }
 {}
 
 /// A raise lifts its object above all whose creates and raises come before it by their stamps.
@@ -67,15 +70,17 @@ pub fn an_effect_before_its_cause_counts()
 
 /// A late move is dropped by the next move of its object, and a late delete has that one redone.
 pub fn a_late_event_is_dropped_or_has_others_redone()
-    ensures dropped { outcome_of moves_held late_move ≡ dropped (drawn (move_to 3 1 (pos 60))) }
-    ensures redone { outcome_of (moves_held ++ late_move ∷ []) late_delete ≡ reworked (all_drawn (move_to 3 1 (pos 60) ∷ [])) }
+    ensures dropped { outcome_of moves_held late_move ≡ dropped (drawn last_move) }
+    ensures redone { outcome_of (moves_held ++ late_move ∷ []) late_delete
+        ≡ reworked (all_drawn (last_move ∷ [])) }
     ensures first { outcome_of [] late_move ≡ applied }
     ensures steps { costs (moves_held ++ late_move ∷ late_delete ∷ []) ≡ 1 ∷ 1 ∷ 1 ∷ 0 ∷ 3 ∷ [] }
 {}
 
 /// Where a move is dropped, its before-value is that of the move that drops it, which now finds the place that the dropped one sets.
 pub fn a_dropped_event_is_spliced_in()
-    ensures { splice (at_stamp 2 2) late_move.op (at_stamp 3 1) (move_to 3 1 (pos 60)).op (Place (pos 50) (pos 50)) ≡ (Place (pos 50) (pos 50), Place (pos 90) (pos 90)) }
+    ensures { splice (at_stamp 2 2) late_move.op (at_stamp 3 1) last_move.op
+        (Place (pos 50) (pos 50)) ≡ (Place (pos 50) (pos 50), Place (pos 90) (pos 90)) }
 {}
 
 /// An event that depends on a late one through another event alone is undone with it.

@@ -6,13 +6,17 @@ pub returns-clause-held : goal.returns-clause-held
 unfolding computing
 returns-clause-held c = refl
 
+pub returns-clause-mail : goal.returns-clause-mail
+unfolding computing
+returns-clause-mail c = refl
+
 pub returns-clause-effects : goal.returns-clause-effects
 unfolding computing
 returns-clause-effects c = refl
 
-pub returns-clause-mail : goal.returns-clause-mail
+pub returns-clause-said : goal.returns-clause-said
 unfolding computing
-returns-clause-mail c = refl
+returns-clause-said c = refl
 
 pub returns-clause-status : goal.returns-clause-status
 unfolding computing

@@ -10,14 +10,14 @@ pub returns-clause-last : goal.returns-clause-last
 unfolding computing
 returns-clause-last c = refl
 
-pub returns-clause-last_printed : goal.returns-clause-last_printed
+pub returns-clause-last_said : goal.returns-clause-last_said
 unfolding computing
-returns-clause-last_printed c = refl
+returns-clause-last_said c = refl
 
 pub returns-clause-no_more : goal.returns-clause-no_more
 unfolding computing
 returns-clause-no_more c = refl
 
-pub returns-clause-no_more_printed : goal.returns-clause-no_more_printed
+pub returns-clause-no_more_said : goal.returns-clause-no_more_said
 unfolding computing
-returns-clause-no_more_printed c = refl
+returns-clause-no_more_said c = refl

@@ -14,6 +14,10 @@ pub returns-clause-effects : goal.returns-clause-effects
 unfolding computing
 returns-clause-effects c = refl
 
+pub returns-clause-said : goal.returns-clause-said
+unfolding computing
+returns-clause-said c = refl
+
 pub returns-clause-shown : goal.returns-clause-shown
 unfolding computing
 returns-clause-shown c = refl
