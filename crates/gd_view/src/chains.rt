@@ -5,20 +5,18 @@ ghost use Rattle.gd_model.specs.Objects.{body};
 ghost use Rattle.gd_model.specs.Board.{listed};
 ghost use Rattle.gd_model.specs.Shown.{above, above_in};
 ghost use Rattle.gd_canvas.specs.Slots.{board_of};
-ghost use Rattle.gd_view.specs.Seen.{told};
-ghost use Rattle.gd_view.specs.Chains.{after_link, first_parent, group_in, Within};
+ghost use Rattle.gd_view.specs.Chains.{first_parent, group_in, parent_by, with_link, Within};
 
 use crate::OBJECTS;
-use crate::places::Above;
 use gd_base::Stamp;
 use gd_canvas::Canvas;
-use gd_model::{Link, Object};
+use gd_model::{Above, Link, Object};
 
 /// What stands above an object of that id and link. Ids rise along a chain, so it has at most as many links as there are
 /// objects.
 pub(crate) fn above(canvas: &Canvas, id: Stamp, link: Option<Link>) -> Option<Above>
     requires { length (listed (board_of canvas.now)) ≤ 1048560 }
-    ensures above { option_map told result ≡ above (listed (board_of canvas.now)) id link }
+    ensures above { result ≡ above (listed (board_of canvas.now)) id link }
     ensures within { IfSome result (λ a. Within 1048560 a) }
 {
     above_within(canvas, id, link, OBJECTS)
@@ -27,7 +25,7 @@ pub(crate) fn above(canvas: &Canvas, id: Stamp, link: Option<Link>) -> Option<Ab
 /// The same along at most so many links.
 fn above_within(canvas: &Canvas, id: Stamp, link: Option<Link>, most: u32) -> Option<Above>
     requires { most ≤ 1048560 }
-    ensures above { option_map told result ≡ above_in most (listed (board_of canvas.now)) id link }
+    ensures above { result ≡ above_in most (listed (board_of canvas.now)) id link }
     ensures within { IfSome result (λ a. Within 1048560 a) }
 {
     let mut sum = Above {
@@ -44,7 +42,8 @@ fn above_within(canvas: &Canvas, id: Stamp, link: Option<Link>, most: u32) -> Op
         let Some(group) = group_at(canvas, below, &link) else {
             return None;
         };
-        sum = with_link(&sum, &link, group, turn);
+        let parent = first_parent(sum.parent, parent_by(&link, group));
+        sum = with_link(&sum, parent, &link, group, turn);
         below = link.parent;
         next = group.link;
     }
@@ -62,30 +61,42 @@ pub(crate) fn group_at<'a>(canvas: &'a Canvas, below: Stamp, link: &Link) -> Opt
     }
 }
 
-/// The sum with one link more, at the far end.
-fn with_link(sum: &Above, link: &Link, group: &Object, turn: u32) -> Above
+/// The sum with one link more, and that parent.
+pub(crate) fn with_link(
+    sum: &Above,
+    parent: Option<Stamp>,
+    link: &Link,
+    group: &Object,
+    turn: u32,
+) -> Above
     requires few { turn ≤ 1048560 }
     requires within { Within turn sum.now }
-    ensures sum { result ≡ after_link sum.now link.now (body group.now) }
+    ensures sum { result ≡ with_link sum.now parent link.now (body group.now) }
     ensures within { Within (1 + turn) result }
 {
-    let parent = parent_after(sum.parent, link, group);
     let dx = add(sum.dx, link.dx, group.x);
     let dy = add(sum.dy, link.dy, group.y);
     Above { parent, dx, dy }
 }
 
-/// The first group of the chain that isn't dissolved, with one link more.
-fn parent_after(parent: Option<Stamp>, link: &Link, group: &Object) -> Option<Stamp>
-    ensures { result ≡ first_parent parent (if group.now.dissolved then None else Some link.now.parent) }
+/// The parent that a link gives, where its group isn't dissolved.
+pub(crate) fn parent_by(link: &Link, group: &Object) -> Option<Stamp>
+    ensures { result ≡ parent_by link.now (body group.now) }
+{
+    if group.dissolved {
+        None
+    } else {
+        Some(link.parent)
+    }
+}
+
+/// The parent that comes first along a chain.
+pub(crate) fn first_parent(parent: Option<Stamp>, further: Option<Stamp>) -> Option<Stamp>
+    ensures { result ≡ first_parent parent further }
 {
     match parent {
         Some(parent) => Some(parent),
-        None => if group.dissolved {
-            None
-        } else {
-            Some(link.parent)
-        },
+        None => further,
     }
 }
 

@@ -5,8 +5,8 @@ ghost use Rattle.gd_base.specs.Stamps as stamps;
 ghost use Rattle.gd_base.specs.Stamps.{is_same};
 ghost use Rattle.gd_view.specs.Sums.{known};
 
-use crate::places::Above;
 use gd_base::Stamp;
+use gd_model::Above;
 use indexmap::IndexMap;
 use std::alloc::{AllocError, Global};
 

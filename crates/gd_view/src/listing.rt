@@ -6,19 +6,17 @@ ghost use Rattle.gd_model.specs.Objects.{body};
 ghost use Rattle.gd_model.specs.Board.{listed};
 ghost use Rattle.gd_model.specs.Shown.{above, shape_of, item_at, shown, shown_items};
 ghost use Rattle.gd_canvas.specs.Slots.{board_of};
-ghost use Rattle.gd_view.specs.Seen.{told};
 ghost use Rattle.gd_view.specs.Chains.{Within};
 ghost use Rattle.gd_view.specs.Sums.{known, AreKnown};
 ghost use Rattle.gd_view.specs.Levels.{item_of};
 
 use crate::known::Known;
 use crate::levels::levels;
-use crate::places::Above;
 use crate::seen::{is_gone, place_at};
 use crate::sums::sums;
 use gd_base::{Item, ShapeItem, Stamp};
 use gd_canvas::Canvas;
-use gd_model::{Kind, Object};
+use gd_model::{Above, Kind, Object};
 use std::alloc::{AllocError, Global};
 
 /// The items of all objects that are shown, in list order.
@@ -58,23 +56,21 @@ fn item_of(canvas: &Canvas, table: &Known, id: Stamp) -> Option<Item>
 
 /// The item of an object, where it is shown.
 fn item(canvas: &Canvas, table: &Known, id: Stamp, object: &Object) -> Option<Item>
-    requires sum { option_map told (known table.now id) ≡ above (listed (board_of canvas.now)) id object.now.link }
+    requires sum { known table.now id ≡ above (listed (board_of canvas.now)) id object.now.link }
     requires within { IfSome (known table.now id) (λ a. Within 1048560 a) }
     ensures { result ≡ shown (listed (board_of canvas.now)) (id, body object.now) }
 {
     if is_gone(object) {
         return None;
     }
-    match table.get(id) {
-        Some(sum) => Some(item_by(id, object, &sum)),
-        None => None,
-    }
+    let sum = table.get(id)?;
+    Some(item_by(id, object, &sum))
 }
 
 /// The item of an object, by what stands above it.
 fn item_by(id: Stamp, object: &Object, above: &Above) -> Item
     requires { Within 1048560 above.now }
-    ensures { result ≡ item_at id (body object.now) (told above.now) }
+    ensures { result ≡ item_at id (body object.now) above.now }
 {
     let at = place_at(object, above);
     let shape = shape_of(object);

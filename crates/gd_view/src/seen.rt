@@ -6,14 +6,14 @@ ghost use Rattle.gd_model.specs.Objects.{body};
 ghost use Rattle.gd_model.specs.Board.{listed};
 ghost use Rattle.gd_model.specs.Shown.{is_gone};
 ghost use Rattle.gd_canvas.specs.Slots.{board_of};
-ghost use Rattle.gd_view.specs.Seen.{told, shown_at, seen_as, seen, has_no_parent};
+ghost use Rattle.gd_view.specs.Seen.{shown_at, seen_as, seen, has_no_parent};
 ghost use Rattle.gd_view.specs.Chains.{Within};
 
 use crate::chains::above;
-use crate::places::{Above, Shown};
+use crate::places::Shown;
 use gd_base::{Place, Stamp};
 use gd_canvas::Canvas;
-use gd_model::{Kind, Object};
+use gd_model::{Above, Kind, Object};
 
 /// The object of that id as it is shown. None where it isn't shown: it isn't there, is hidden, or is a dissolved group.
 pub fn shown(canvas: &Canvas, id: Stamp) -> Option<Shown>
@@ -44,16 +44,14 @@ fn shown_as(canvas: &Canvas, id: Stamp, object: &Object) -> Option<Shown>
     if is_gone(object) {
         return None;
     }
-    match above(canvas, id, object.link) {
-        Some(above) => Some(shown_at(object, &above)),
-        None => None,
-    }
+    let above = above(canvas, id, object.link)?;
+    Some(shown_at(object, &above))
 }
 
 /// The object with what stands above it.
 fn shown_at(object: &Object, above: &Above) -> Shown
     requires { Within 1048560 above.now }
-    ensures { result ≡ shown_at (body object.now) (told above.now) }
+    ensures { result ≡ shown_at (body object.now) above.now }
 {
     let at = place_at(object, above);
     let sum = place(above.dx, above.dy);
