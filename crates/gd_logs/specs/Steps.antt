@@ -3,16 +3,16 @@ use Rattle.std.specs.Prelude.{◌≡◌, ℕ, ◌+◌, ◌≤◌, List, length, 
 use Rattle.gd_base.specs.declared.fault.LogWhy.{LogWhy}
 use Rattle.gd_events.specs.Events.{Event}
 use Rattle.gd_grammar.specs.Reading.{place}
-use Rattle.gd_grammar.specs.LogBytes.{Header, LogFault, header_at, in_log}
+use Rattle.gd_grammar.specs.LogBytes.{Header, LogMisread, header_at, in_log}
 use Rattle.gd_logs.specs.declared.stopped.LogFault as reader
 use Rattle.gd_logs.specs.declared.stopped.LogFault.TheVariants.{Read, Bad}
 
 -- what one step of a log is: an event and the bytes behind it, or the end, or the first fault
 abbrev pub Step : Type 0
-Step = Result (Option (Event × List ℕ)) LogFault
+Step = Result (Option (Event × List ℕ)) LogMisread
 
 -- reading these bytes gives a fault for this reason, at this place in them
-pub record IsFault {A : Type 0} (read : Result A LogFault) (bytes : List ℕ) (at : ℕ) (why : LogWhy) : Type 0 where
+pub record IsFault {A : Type 0} (read : Result A LogMisread) (bytes : List ℕ) (at : ℕ) (why : LogWhy) : Type 0 where
   pub left : ℕ
   pub is : read ≡ Err (record { why = why; left = left })
   pub inside : left ≤ length bytes
