@@ -37,7 +37,8 @@ impl LogHeader {
     /// None exactly where the site isn't from 1 to `n`, or `n` is above `SITES`.
     pub fn new(session: u32, site: u8, n: u8) -> Option<Self>
         ensures value { IfSome result (λ h. h ≡ record { session = session; site = site; n = n }) }
-        ensures ranges { IsSome result ↔ IsHeader (record { session = session; site = site; n = n }) }
+        ensures ranges { IsSome result
+            ↔ IsHeader (record { session = session; site = site; n = n }) }
     {
         if site < 1 || site > n || n > SITES {
             return None;
