@@ -17,6 +17,7 @@ use Rattle.gd_base.specs.declared.refusal.FrameFault.{FrameFault}
 use Rattle.gd_base.specs.declared.refusal.FrameFault.TheVariants.{Session, NotForMe, FromMe, NoSuchSite, OverAck}
 use Rattle.gd_events.specs.Events.{Event}
 use Rattle.gd_grammar.specs.FrameBytes.{Frame, most_frame_events}
+use Rattle.gd_grammar.specs.declared.frame.Head.{Head}
 use Rattle.gd_reference.specs.PerSite.{put, is_site}
 use Rattle.gd_reference.specs.SlowSite.{SlowSite, count, own, clock}
 
@@ -58,17 +59,20 @@ offers slow (e ∷ es) = offer slow e ∷ offers (arrived slow e) es
 
 -- ---- a frame
 
--- why the frame is refused, if it is
-unfoldable pub refusal : SlowSite → Frame → Option FrameFault
-refusal slow f =
-    if f.head.session == slow.session then (
-    if f.head.to == slow.me then (
-    if f.head.from == slow.me then Some FromMe else (
-    if is_site slow.sites f.head.from then (
-    if nat_le f.head.ack (length (own slow)) then None else Some (OverAck f.head.ack (length (own slow))))
+-- why a frame with that head is refused, if it is, in that session, at that site of so many, which has made so many events
+abbrev pub refused : ℕ → ℕ → ℕ → ℕ → Head → Option FrameFault
+refused session me sites made head =
+    if head.session == session then (
+    if head.to == me then (
+    if head.from == me then Some FromMe else (
+    if is_site sites head.from then (
+    if nat_le head.ack made then None else Some (OverAck head.ack made))
     else Some NoSuchSite))
     else Some NotForMe)
     else Some Session
+
+unfoldable pub refusal : SlowSite → Frame → Option FrameFault
+refusal slow f = refused slow.session slow.me slow.sites (length (own slow)) f.head
 
 abbrev pub with_ack : SlowSite → Frame → SlowSite
 with_ack slow f = record slow { acked = put slow.acked f.head.from (max (slow.acked f.head.from) f.head.ack) }
