@@ -71,7 +71,7 @@ impl LogHeader {
 
 impl<'a> Bytes<'a> {
     /// Reads the header at the front, of 11 bytes: GDOL, the version 1, the session, the site and the number of sites.
-    /// The first fault is the answer: `Short` at the end of all bytes where a field isn't whole, `Magic` or `Version`
+    /// The first fault is returned: `Short` at the end of all bytes where a field isn't whole, `Magic` or `Version`
     /// at another magic or version, and `Field` at a site that isn't from 1 to 16, or at a number of sites that isn't
     /// from the site to 16.
     #[tactic(auto, unfolding(gd_grammar::specs::LogBytes::header_at))]
