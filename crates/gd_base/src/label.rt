@@ -3,11 +3,14 @@ ghost use Rattle.gd_base.specs.Labels.{IsLabel, IsLabelFault, has_control};
 
 use arrayvec::ArrayString;
 use std::marker::Model;
+use thiserror::Error;
 
 /// Why a text is no label.
-#[derive(Clone, Copy, Debug, PartialEq, Eq)]
+#[derive(Clone, Copy, Debug, PartialEq, Eq, Error)]
 pub enum LabelFault {
+    #[error("the text has more than 64 bytes")]
     TooLong,
+    #[error("the text has a control character")]
     Control,
 }
 
@@ -33,7 +36,9 @@ impl Label {
     /// `TooLong` exactly above 64 bytes, else `Control` exactly where a character of U+0000 to U+001F or of U+007F to
     /// U+009F stands.
     pub fn new(text: &str) -> Result<Self, LabelFault>
-        ensures { MatchResult result (λ label. (label ≡ text.now) × IsLabel text.now) (λ fault. IsLabelFault text.now fault) }
+        ensures { MatchResult result
+            (λ label. (label ≡ text.now) × IsLabel text.now)
+            (λ fault. IsLabelFault text.now fault) }
     {
         let Ok(kept) = ArrayString::from(text) else {
             return Err(LabelFault::TooLong);

@@ -1,15 +1,14 @@
-//! How two events bear on each other, by what they touch: a part of an object or the whole of it, and of a group the links of
-//! its members too.
-ghost use Rattle.std.specs.Prelude.{◌≡◌, ◌||◌, [], not, option_copied, unwrap_or};
-ghost use Rattle.gd_base.specs.Stamps.{Stamp as StampValue};
+//! Which events are independent and which cover which, by the parts of objects that each touches; a new group touches the
+//! links of its members too.
+ghost use Rattle.std.specs.Prelude.{◌≡◌, ◌||◌, not};
 ghost use Rattle.std.specs.List.{list_all};
 ghost use Rattle.gd_model.specs.Objects.{is_same_part};
-ghost use Rattle.gd_model.specs.Forms.{Deletes, form};
-ghost use Rattle.gd_model.specs.Relations.{link_touch, meets, misses, touches, independent, covers_by, covers};
-ghost use Rattle.gd_canvas.specs.Touches.{first_touch, is_same_touch, members_of};
+ghost use Rattle.gd_model.specs.Relations.{link_touch, meets, misses, touches, independent, covers};
+ghost use Rattle.gd_canvas.specs.Aims.{first_touch, members_of, aim_covers};
 
-use crate::contents::{part_number, style_part};
-use gd_base::{Members, Stamp};
+use crate::contents::part_number;
+use crate::forms::{Aim, aim_of, members_of, object_of, part_of};
+use gd_base::Stamp;
 use gd_events::Op;
 use gd_model::Part;
 
@@ -18,154 +17,73 @@ use gd_model::Part;
 pub fn independent(s: Stamp, e: &Op, t: Stamp, f: &Op) -> bool
     ensures { result ≡ independent s e.now t f.now }
 {
-    if first_meets(first_object(s, e), e, t, f) {
+    let aim = aim_of(s, e);
+    let other = aim_of(t, f);
+    if first_meets(&aim, &other) {
         return false;
     }
-    if !first_misses_links(s, e, f) {
+    if !misses_links(object_of(&aim), part_of(&aim), f) {
         return false;
     }
     links_miss(e, t, f)
 }
 
 /// Whether `f`, at the stamp `t`, leaves nothing of `e`, at `s`, where it comes behind it.
-#[tactic(auto, using(crate::proofs::RelationLemmas::covers_set), unfolding(gd_model::specs::Relations::covers))]
+#[tactic(auto, using(crate::proofs::RelationLemmas::covers_aims), unfolding(gd_model::specs::Relations::covers))]
 pub fn covers(t: Stamp, f: &Op, s: Stamp, e: &Op) -> bool
     ensures { result ≡ covers t f.now s e.now }
 {
-    match f {
-        Op::Create { .. } => false,
-        Op::Group { .. } => false,
-        Op::Delete { id } => is_taken_by_delete(*id, s, e),
-        Op::Move { id, .. } => sets_part(*id, Part::Place, s, e),
-        Op::Resize { id, .. } => sets_part(*id, Part::Size, s, e),
-        Op::Restyle { id, style } => sets_part(*id, style_part(*style), s, e),
-        Op::Retext { id, .. } => sets_part(*id, Part::Label, s, e),
-        Op::Ungroup { id } => sets_part(*id, Part::Flag, s, e),
-        Op::Raise { id } => sets_part(*id, Part::Rank, s, e),
+    aim_covers(&aim_of(t, f), &aim_of(s, e))
+}
+
+/// Whether a later event with that aim covers an earlier one with the other aim.
+fn aim_covers(later: &Aim, earlier: &Aim) -> bool
+    ensures { result ≡ aim_covers later.now earlier.now }
+{
+    match later {
+        Aim::Sets(id, part) => match earlier {
+            Aim::Sets(other, other_part) => id.is_same(*other) && is_same_part(*part, *other_part),
+            _ => false,
+        },
+        Aim::Deletes(id) => match earlier {
+            Aim::Sets(other, _) | Aim::Creates(other) | Aim::Deletes(other) => id.is_same(*other),
+            Aim::Groups(_) => false,
+        },
+        Aim::Creates(_) | Aim::Groups(_) => false,
     }
 }
 
-/// Whether nothing is left of `e` behind a delete of the object.
-fn is_taken_by_delete(id: Stamp, s: Stamp, e: &Op) -> bool
-    ensures { result ≡ covers_by (Deletes id) s (form s e.now) }
+/// Whether the first touches meet.
+fn first_meets(aim: &Aim, other: &Aim) -> bool
+    ensures { result ≡ meets (first_touch aim.now) (first_touch other.now) }
 {
-    if let Op::Group { .. } = e {
-        return false;
-    }
-    let (other, _) = first_touch(s, e);
-    id.is_same(other)
-}
-
-/// Whether `e` sets that part of the object.
-fn sets_part(id: Stamp, part: Part, s: Stamp, e: &Op) -> bool
-    ensures { result ≡ is_same_touch (id, part) (first_touch s e.now) }
-{
-    let (other, other_part) = first_touch(s, e);
-    id.is_same(other) && is_same_part(part, other_part)
-}
-
-/// What the operation touches, but for the links of members.
-fn first_touch(stamp: Stamp, op: &Op) -> (Stamp, Part)
-    ensures { result ≡ first_touch stamp op.now }
-{
-    (first_object(stamp, op), first_part(op))
-}
-
-fn first_object(stamp: Stamp, op: &Op) -> Stamp
-    ensures { result ≡ (first_touch stamp op.now).0 }
-{
-    match op {
-        Op::Create { .. } | Op::Group { .. } => stamp,
-        Op::Delete { id }
-        | Op::Move { id, .. }
-        | Op::Resize { id, .. }
-        | Op::Restyle { id, .. }
-        | Op::Retext { id, .. }
-        | Op::Ungroup { id }
-        | Op::Raise { id } => *id,
-    }
-}
-
-fn first_part(op: &Op) -> Part
-    ensures { (stamp : StampValue) → result ≡ (first_touch stamp op.now).1 }
-{
-    match op {
-        Op::Create { .. } | Op::Group { .. } | Op::Delete { .. } => Part::Whole,
-        Op::Move { .. } => Part::Place,
-        Op::Resize { .. } => Part::Size,
-        Op::Restyle { style, .. } => style_part(*style),
-        Op::Retext { .. } => Part::Label,
-        Op::Ungroup { .. } => Part::Flag,
-        Op::Raise { .. } => Part::Rank,
-    }
-}
-
-/// Whether the first touch of `e`, which is of the object, meets that of `f`.
-fn first_meets(id: Stamp, e: &Op, t: Stamp, f: &Op) -> bool
-    ensures { (s : StampValue) → id ≡ (first_touch s e.now).0 → result ≡ meets (first_touch s e.now) (first_touch t f.now) }
-{
-    id.is_same(first_object(t, f)) && parts_meet(first_part(e), first_part(f))
+    object_of(aim).is_same(object_of(other)) && parts_meet(part_of(aim), part_of(other))
 }
 
 /// Whether the touch meets none of `f`'s.
 fn misses(id: Stamp, part: Part, t: Stamp, f: &Op) -> bool
     ensures { result ≡ misses (touches t f.now) (id, part) }
 {
-    let (other, other_part) = first_touch(t, f);
-    !meets(id, part, other, other_part) && misses_links(id, part, f)
-}
-
-/// Whether the first touch of `e` meets no link of the members of `f`.
-fn first_misses_links(s: Stamp, e: &Op, f: &Op) -> bool
-    ensures { result ≡ list_all (λ m. not (meets (first_touch s e.now) (link_touch m))) (members_of f.now) }
-{
-    match group_members(f) {
-        Some(_) => misses_links(first_object(s, e), first_part(e), f),
-        None => true,
-    }
+    let other = aim_of(t, f);
+    !meets(id, part, object_of(&other), part_of(&other)) && misses_links(id, part, f)
 }
 
 /// Whether the touch meets no link of a group's members.
 fn misses_links(id: Stamp, part: Part, f: &Op) -> bool
     ensures { result ≡ list_all (λ m. not (meets (id, part) (link_touch m))) (members_of f.now) }
 {
-    match group_members(f) {
-        Some(members) => members
-            .as_slice()
-            .iter()
-            .all(|member| !meets(id, part, member.id, Part::Link)),
-        None => true,
-    }
+    members_of(f)
+        .iter()
+        .all(|member| !meets(id, part, member.id, Part::Link))
 }
 
 /// Whether no link of a group's members is met by a touch of `f`.
 fn links_miss(e: &Op, t: Stamp, f: &Op) -> bool
     ensures { result ≡ list_all (λ m. misses (touches t f.now) (link_touch m)) (members_of e.now) }
 {
-    match group_members(e) {
-        Some(members) => members
-            .as_slice()
-            .iter()
-            .all(|member| misses(member.id, Part::Link, t, f)),
-        None => true,
-    }
-}
-
-/// The members of a new group.
-fn group_members(op: &Op) -> Option<&Members>
-    ensures { unwrap_or (option_copied result) [] ≡ members_of op.now }
-{
-    match op {
-        Op::Group { members } => Some(members),
-        Op::Create { .. }
-        | Op::Delete { .. }
-        | Op::Move { .. }
-        | Op::Resize { .. }
-        | Op::Restyle { .. }
-        | Op::Retext { .. }
-        | Op::Ungroup { .. }
-        | Op::Raise { .. } => None,
-    }
+    members_of(e)
+        .iter()
+        .all(|member| misses(member.id, Part::Link, t, f))
 }
 
 /// Whether both touches are of one object, and of parts that meet.

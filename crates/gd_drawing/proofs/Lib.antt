@@ -1,4 +1,6 @@
+pub mod Linking
 pub mod Lookups
+pub mod RankLemmas
 pub mod Stacking
 pub mod Listed
 pub mod Chains
@@ -8,7 +10,7 @@ pub mod Entries
 pub mod StackSteps
 pub mod InOrder
 pub mod ObjectParts
-pub mod Frames
+pub mod Locality
 pub mod Inverse
 pub mod Covers
 pub mod DrawingParts

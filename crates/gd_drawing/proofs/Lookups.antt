@@ -9,8 +9,11 @@ use Rattle.gd_base.specs.declared.member.Member.{Member}
 use Rattle.gd_events.specs.declared.op.Op.{Op}
 use Rattle.gd_model.specs.declared.object.Link.{Link}
 use Rattle.gd_model.specs.declared.object.Object.{Object}
-use Rattle.gd_model.specs.Objects.{ranked, new_group, set, with_link, linked}
-use Rattle.gd_model.specs.Forms.{Form, Sets, Creates, Deletes, Groups, form}
+use Rattle.gd_model.specs.Objects.{ranked, new_group, set, with_link}
+use Rattle.gd_drawing.proofs.Linking.{linked}
+use Rattle.gd_model.specs.declared.form.Form.{Form}
+use Rattle.gd_model.specs.declared.form.Form.TheVariants.{Sets, Creates, Deletes, Groups}
+use Rattle.gd_model.specs.Forms.{form}
 use Rattle.gd_model.specs.Drawing.{first_naming, link_given}
 use Rattle.gd_model.specs.Board.{Board, put_at, change, link_members, board_with, apply}
 use Rattle.gd_model.specs.Undoing.{Lookup}

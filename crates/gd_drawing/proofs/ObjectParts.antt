@@ -10,8 +10,10 @@ use Rattle.gd_model.specs.declared.content.Part.TheVariants as part
 use Rattle.gd_model.specs.declared.object.Kind.{Kind}
 use Rattle.gd_model.specs.declared.object.Link.{Link}
 use Rattle.gd_model.specs.declared.object.Object.{Object}
-use Rattle.gd_model.specs.Objects.{is_same_part, part_of, fits, put, old, set, linked}
-use Rattle.gd_model.specs.Undoing.{kept, old_in, old_link}
+use Rattle.gd_model.specs.Ranks.{top}
+use Rattle.gd_model.specs.Objects.{is_same_part, part_of, fits, put, old, set}
+use Rattle.gd_drawing.proofs.Linking.{linked}
+use Rattle.gd_model.specs.Undoing.{before_of, old_in, old_link}
 
 -- an object of that kind, and nothing else
 abbrev pub blank : Kind → Object
@@ -28,7 +30,7 @@ blank k =
       label = [];
       link = None;
       dissolved = false;
-      rank = record { clock = 0; site = 0 };
+      rank = top record { clock = 0; site = 0 };
     }
 
 -- the object's kind and that part of it
@@ -122,8 +124,8 @@ set_elsewhere c p (Some o) n w = ap Some (cond_elsewhere c p o (fits c o.kind) n
 pub old_in_by_part : (c : Content) (x : Option Object) → old_in c (seen (part_of c) x) ≡ old_in c x
 old_in_by_part c None = refl
 old_in_by_part c (Some o) =
-    ap (λ b. cond b (kept (old c (only (part_of c) o))) Nothing) (fits_by_part c o)
-    ∙ ap (λ v. cond (fits c o.kind) (kept v) Nothing) (old_by_part c o)
+    ap (λ b. cond b (before_of (old c (only (part_of c) o))) Nothing) (fits_by_part c o)
+    ∙ ap (λ v. cond (fits c o.kind) (before_of v) Nothing) (old_by_part c o)
 
 pub linked_by_part : (r : Option Link) (x : Option Object) → seen part.Link (option_map (linked r) (seen part.Link x)) ≡ seen part.Link (option_map (linked r) x)
 linked_by_part r None = refl

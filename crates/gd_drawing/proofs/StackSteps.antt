@@ -15,10 +15,16 @@ use Rattle.gd_model.specs.declared.content.Content.{Content}
 use Rattle.gd_model.specs.declared.content.Content.TheVariants.{ToPlace, ToSize, ToStroke, ToFill, ToWidth, ToText, ToFlag, ToRank}
 use Rattle.gd_model.specs.declared.object.Link.{Link}
 use Rattle.gd_model.specs.declared.object.Object.{Object}
-use Rattle.gd_model.specs.Objects.{Body, body, ranked, new_group, new_shape, fits, put, put_body, set, set_body, linked, linked_body}
-use Rattle.gd_model.specs.Forms.{Sets, Creates, Deletes, Groups, form}
+use Rattle.gd_model.specs.declared.object.Body.{Body}
+use Rattle.gd_model.specs.Objects.{body, ranked, new_group, new_shape, fits, put, put_body, set, set_body, linked_body}
+use Rattle.gd_drawing.proofs.Linking.{linked}
+use Rattle.gd_model.specs.declared.form.Form.TheVariants.{Sets, Creates, Deletes, Groups}
+use Rattle.gd_model.specs.Forms.{form}
 use Rattle.gd_model.specs.Drawing.{Drawing, has_id, link_given, at_id, without, to_top, draw}
-use Rattle.gd_model.specs.Board.{Board, Level, level_cmp, without_ranks, board_with, apply}
+use Rattle.gd_model.specs.declared.rank.Rank.{Rank}
+use Rattle.gd_model.specs.declared.rank.Level.{Level}
+use Rattle.gd_model.specs.Ranks.{level, top, is_same_rank, level_cmp}
+use Rattle.gd_model.specs.Board.{Board, without_ranks, board_with, apply}
 use Rattle.gd_drawing.proofs.Lookups.{get-board_with}
 use Rattle.gd_drawing.proofs.Stacking.{level_cmp-total, level_test, same_levels, at_rank, Stands}
 use Rattle.gd_drawing.proofs.Entries.{Entries, mapped, sorted-mapped, find-mapped, sorted-append, all_before, under_from, all_before-more, all_before-mapped, all_before-where, all_before-append, present_before, absent, no_id, drawn-mapped, drawn-append, drawn-where, find-where}
@@ -63,35 +69,35 @@ rank-where c o true e = rank-put c o e
 rank-where c o false e = refl
 
 -- what is answered at a rank after a content went into the object of that id
-set_cell : (c : Content) (rank : Stamp) (same : Bool) (x : Option Object) → keeps_rank c ≡ true
+set_cell : (c : Content) (rank : Rank) (same : Bool) (x : Option Object) → keeps_rank c ≡ true
     → option_map (λ y. cond same (set_body c y) y) (at_rank rank x) ≡ at_rank rank (cond same (option_map (set c) x) x)
 set_cell c rank false x e = same_body (at_rank rank x)
 set_cell c rank true None e = refl
 set_cell c rank true (Some o) e =
-    elim (is_same rank o.rank) as (λ t. option_map (set_body c) (cond t (Some (body o)) None) ≡ cond t (Some (set_body c (body o))) None) [ true ↦ refl | false ↦ refl ]
-    ∙ (λ i. cond (is_same rank (sym (rank-where c o (fits c o.kind) e) i)) (Some (sym (body-where c o (fits c o.kind)) i)) None)
+    elim (is_same_rank rank o.rank) as (λ t. option_map (set_body c) (cond t (Some (body o)) None) ≡ cond t (Some (set_body c (body o))) None) [ true ↦ refl | false ↦ refl ]
+    ∙ (λ i. cond (is_same_rank rank (sym (rank-where c o (fits c o.kind) e) i)) (Some (sym (body-where c o (fits c o.kind)) i)) None)
 
 -- what is answered at a rank after an object was linked
-linked_cell : (link : Option Link) (rank : Stamp) (x : Option Object) → option_map (linked_body link) (at_rank rank x) ≡ at_rank rank (option_map (linked link) x)
+linked_cell : (link : Option Link) (rank : Rank) (x : Option Object) → option_map (linked_body link) (at_rank rank x) ≡ at_rank rank (option_map (linked link) x)
 linked_cell link rank None = refl
 linked_cell None rank (Some o) =
-    elim (is_same rank o.rank) as (λ t. option_map (linked_body None) (cond t (Some (body o)) None) ≡ cond t (Some (body o)) None) [ true ↦ refl | false ↦ refl ]
+    elim (is_same_rank rank o.rank) as (λ t. option_map (linked_body None) (cond t (Some (body o)) None) ≡ cond t (Some (body o)) None) [ true ↦ refl | false ↦ refl ]
 linked_cell (Some link) rank (Some o) =
-    elim (is_same rank o.rank) as (λ t. option_map (linked_body (Some link)) (cond t (Some (body o)) None) ≡ cond t (Some (linked_body (Some link) (body o))) None) [ true ↦ refl | false ↦ refl ]
+    elim (is_same_rank rank o.rank) as (λ t. option_map (linked_body (Some link)) (cond t (Some (body o)) None) ≡ cond t (Some (linked_body (Some link) (body o))) None) [ true ↦ refl | false ↦ refl ]
 
 -- ---- the event at s, on a list that stands for a board and is before s
 module _ (s : Stamp) (b : Board) (es : Entries) (stands : Stands b es) (low : all_before s es ≡ true) where
   -- one part of an object in the middle
   pub set_step : (id : Stamp) (c : Content) → keeps_rank c ≡ true → Step s (board_with s (Sets id c) b) (at_id id (set_body c) (without_ranks es))
   set_step id c e =
-      let f : Level → Body → Body = λ l v. cond (is_same id l.1) (set_body c v) v in
+      let f : Level → Body → Body = λ l v. cond (is_same id l.id) (set_body c v) v in
       record {
         entries = mapped f es;
         stands = record {
           sorted = subst T (sym (sorted-mapped f es)) stands.sorted;
           found = λ r k.
-              find-mapped f es (r, k)
-              ∙ ap (option_map (f (r, k))) (stands.found r k)
+              find-mapped f es (level r k)
+              ∙ ap (option_map (f (level r k))) (stands.found r k)
               ∙ ap (λ t. option_map (λ y. cond t (set_body c y) y) (at_rank r (map_of.get b k))) (is_same-comm id k)
               ∙ set_cell c r (is_same k id) (map_of.get b k) e
               ∙ ap (at_rank r) (sym (get-board_with s (Sets id c) b k));
@@ -101,7 +107,7 @@ module _ (s : Stamp) (b : Board) (es : Entries) (stands : Stands b es) (low : al
       }
 
   -- what is answered at a rank where one object more stands at the level of the event
-  new_cell : (v : Body) (r : Stamp) (same_rank same_id : Bool) (y : Option Body) (z : Option Object) → is_same r s ≡ same_rank → y ≡ at_rank r z → (same_id ≡ true → z ≡ None)
+  new_cell : (v : Body) (r : Rank) (same_rank same_id : Bool) (y : Option Body) (z : Option Object) → is_same_rank r (top s) ≡ same_rank → y ≡ at_rank r z → (same_id ≡ true → z ≡ None)
       → cond (same_rank && same_id) (Some v) y ≡ at_rank r (cond same_id (Some (ranked v s)) z)
   new_cell v r true true y z e h none = ap (λ t. cond t (Some v) None) (sym e)
   new_cell v r false true y z e h none = h ∙ ap (at_rank r) (none refl) ∙ ap (λ t. cond t (Some v) None) (sym e)
@@ -109,16 +115,16 @@ module _ (s : Stamp) (b : Board) (es : Entries) (stands : Stands b es) (low : al
   new_cell v r false false y z e h none = h
 
   -- nothing stands at the level of the event
-  here_none : map_of.find level_cmp (s, s) es ≡ None
-  here_none = stands.found s s ∙ ap (at_rank s) (absent s b es stands low)
+  here_none : map_of.find level_cmp (level (top s) s) es ≡ None
+  here_none = stands.found (top s) s ∙ ap (at_rank (top s)) (absent s b es stands low)
 
   -- nor does the board answer at the event's stamp
   id_none : (k : Stamp) (h : Option Object → Option Object) → h None ≡ None → is_same k s ≡ true → h (map_of.get b k) ≡ None
   id_none k h e same = ap (λ i. h (map_of.get b i)) (is_same-true k s same) ∙ ap h (absent s b es stands low) ∙ e
 
   -- a list with one object more at the level of the event is before each later stamp
-  new_later : (v : Body) (fs : Entries) → all_before s fs ≡ true → (t : Stamp) → is_before s t ≡ true → all_before t (fs ++ ((s, s), v) ∷ []) ≡ true
-  new_later v fs h t l = all_before-append t s s v fs (all_before-more s t fs l h) l l
+  new_later : (v : Body) (fs : Entries) → all_before s fs ≡ true → (t : Stamp) → is_before s t ≡ true → all_before t (fs ++ (level (top s) s, v) ∷ []) ≡ true
+  new_later v fs h t l = all_before-append t (top s) s v fs (all_before-more s t fs l h) l l
 
   -- the event's stamp is new
   not_present : is_some (map_of.get b s) ≡ false
@@ -136,41 +142,41 @@ module _ (s : Stamp) (b : Board) (es : Entries) (stands : Stands b es) (low : al
   pub create_step : (v : Body) → Step s (board_with s (Creates v) b) (draw s (Creates v) (without_ranks es))
   create_step v =
       record {
-        entries = es ++ ((s, s), v) ∷ [];
+        entries = es ++ (level (top s) s, v) ∷ [];
         stands = record {
-          sorted = sorted-append (s, s) v es stands.sorted (under_from s s es low);
+          sorted = sorted-append (level (top s) s) v es stands.sorted (under_from s s es low);
           found = λ r k.
-              find-append level_cmp level_cmp-total es (s, s) v (r, k) here_none
-              ∙ ap (λ t. cond t (Some v) (map_of.find level_cmp (r, k) es)) (level_test r k s s)
-              ∙ new_cell v r (is_same r s) (is_same k s) _ (map_of.get b k) refl (stands.found r k) (id_none k (λ x. x) refl)
+              find-append level_cmp level_cmp-total es (level (top s) s) v (level r k) here_none
+              ∙ ap (λ t. cond t (Some v) (map_of.find level_cmp (level r k) es)) (level_test r k (top s) s)
+              ∙ new_cell v r (is_same_rank r (top s)) (is_same k s) _ (map_of.get b k) refl (stands.found r k) (id_none k (λ x. x) refl)
               ∙ ap (at_rank r) (get-new v k ∙ sym (get-board_with s (Creates v) b k));
         };
-        drawn = drawn-append es (((s, s), v) ∷ []) ∙ ap (λ t. cond t (without_ranks es) (without_ranks es ++ (s, v) ∷ [])) (sym (no_id s es low));
+        drawn = drawn-append es ((level (top s) s, v) ∷ []) ∙ ap (λ t. cond t (without_ranks es) (without_ranks es ++ (s, v) ∷ [])) (sym (no_id s es low));
         later = new_later v es low;
       }
 
   -- members linked in the middle, and a new group at the end
   pub group_step : (ms : List Member) → Step s (board_with s (Groups ms) b) (draw s (Groups ms) (without_ranks es))
   group_step ms =
-      let f : Level → Body → Body = λ l v. linked_body (link_given s ms l.1) v in
+      let f : Level → Body → Body = λ l v. linked_body (link_given s ms l.id) v in
       let fs : Entries = mapped f es in
       let linked_at : Stamp → Option Object → Option Object = λ k x. option_map (linked (link_given s ms k)) x in
-      let none : map_of.find level_cmp (s, s) fs ≡ None = find-mapped f es (s, s) ∙ ap (option_map (f (s, s))) here_none in
+      let none : map_of.find level_cmp (level (top s) s) fs ≡ None = find-mapped f es (level (top s) s) ∙ ap (option_map (f (level (top s) s))) here_none in
       let low_fs : all_before s fs ≡ true = all_before-mapped s f es ∙ low in
       record {
-        entries = fs ++ ((s, s), new_group) ∷ [];
+        entries = fs ++ (level (top s) s, new_group) ∷ [];
         stands = record {
-          sorted = sorted-append (s, s) new_group fs (subst T (sym (sorted-mapped f es)) stands.sorted) (under_from s s fs low_fs);
+          sorted = sorted-append (level (top s) s) new_group fs (subst T (sym (sorted-mapped f es)) stands.sorted) (under_from s s fs low_fs);
           found = λ r k.
-              find-append level_cmp level_cmp-total fs (s, s) new_group (r, k) none
-              ∙ ap (λ t. cond t (Some new_group) (map_of.find level_cmp (r, k) fs)) (level_test r k s s)
-              ∙ new_cell new_group r (is_same r s) (is_same k s) _ (linked_at k (map_of.get b k)) refl
-              (find-mapped f es (r, k) ∙ ap (option_map (f (r, k))) (stands.found r k) ∙ linked_cell (link_given s ms k) r (map_of.get b k))
+              find-append level_cmp level_cmp-total fs (level (top s) s) new_group (level r k) none
+              ∙ ap (λ t. cond t (Some new_group) (map_of.find level_cmp (level r k) fs)) (level_test r k (top s) s)
+              ∙ new_cell new_group r (is_same_rank r (top s)) (is_same k s) _ (linked_at k (map_of.get b k)) refl
+              (find-mapped f es (level r k) ∙ ap (option_map (f (level r k))) (stands.found r k) ∙ linked_cell (link_given s ms k) r (map_of.get b k))
               (id_none k (linked_at k) refl)
               ∙ ap (at_rank r) (ap (λ t. cond t (map_of.get b k) (cond (is_same k s) (Some (ranked new_group s)) (linked_at k (map_of.get b k)))) (sym not_present) ∙ sym (get-board_with s (Groups ms) b k));
         };
         drawn =
-            drawn-append fs (((s, s), new_group) ∷ [])
+            drawn-append fs ((level (top s) s, new_group) ∷ [])
             ∙ ap (λ d. d ++ (s, new_group) ∷ []) (drawn-mapped f (λ x. linked_body (link_given s ms x.0) x.1) (λ l v. refl) es)
             ∙ ap (λ t. cond t (without_ranks es) (map (λ e. (e.0, linked_body (link_given s ms e.0) e.1)) (without_ranks es) ++ (s, new_group) ∷ [])) (sym (no_id s es low));
         later = new_later new_group fs low_fs;
@@ -178,20 +184,20 @@ module _ (s : Stamp) (b : Board) (es : Entries) (stands : Stands b es) (low : al
 
   -- the list without the object of that id
   rest : Stamp → Entries
-  rest id = where_key level_cmp (λ l. not (is_same id l.1)) es
+  rest id = where_key level_cmp (λ l. not (is_same id l.id)) es
 
   -- it is by level
   rest_sorted : (id : Stamp) → T (map_of.is_sorted level_cmp (rest id))
   unfolding rest
-  rest_sorted id = is_sorted-where_key level_cmp (λ l. not (is_same id l.1)) es stands.sorted
+  rest_sorted id = is_sorted-where_key level_cmp (λ l. not (is_same id l.id)) es stands.sorted
 
   -- it is before s
   rest_low : (id : Stamp) → all_before s (rest id) ≡ true
   unfolding rest
-  rest_low id = all_before-where s (λ l. not (is_same id l.1)) es low
+  rest_low id = all_before-where s (λ l. not (is_same id l.id)) es low
 
   -- it has the objects of other ids
-  rest_found : (id r k : Stamp) → map_of.find level_cmp (r, k) (rest id) ≡ cond (not (is_same k id)) (at_rank r (map_of.get b k)) None
+  rest_found : (id : Stamp) (r : Rank) (k : Stamp) → map_of.find level_cmp (level r k) (rest id) ≡ cond (not (is_same k id)) (at_rank r (map_of.get b k)) None
   unfolding rest
   rest_found id r k = find-where (λ i. not (is_same id i)) es r k ∙ (λ i. cond (not (is_same-comm id k i)) (stands.found r k i) None)
 
@@ -201,7 +207,7 @@ module _ (s : Stamp) (b : Board) (es : Entries) (stands : Stands b es) (low : al
   rest_drawn id = drawn-where (λ i. not (is_same id i)) es
 
   -- what is answered at a rank where the object of that id is gone
-  gone_cell : (same : Bool) (r : Stamp) (x : Option Object) → cond (not same) (at_rank r x) None ≡ at_rank r (cond same None x)
+  gone_cell : (same : Bool) (r : Rank) (x : Option Object) → cond (not same) (at_rank r x) None ≡ at_rank r (cond same None x)
   gone_cell true r x = refl
   gone_cell false r x = refl
 
@@ -220,15 +226,15 @@ module _ (s : Stamp) (b : Board) (es : Entries) (stands : Stands b es) (low : al
 
   -- the object of that id alone
   alone : Stamp → Entries
-  alone id = where_key level_cmp (λ l. is_same id l.1) es
+  alone id = where_key level_cmp (λ l. is_same id l.id) es
 
   -- it is by level
   alone_sorted : (id : Stamp) → T (map_of.is_sorted level_cmp (alone id))
   unfolding alone
-  alone_sorted id = is_sorted-where_key level_cmp (λ l. is_same id l.1) es stands.sorted
+  alone_sorted id = is_sorted-where_key level_cmp (λ l. is_same id l.id) es stands.sorted
 
   -- it has that object
-  alone_found : (id r k : Stamp) → map_of.find level_cmp (r, k) (alone id) ≡ cond (is_same k id) (at_rank r (map_of.get b k)) None
+  alone_found : (id : Stamp) (r : Rank) (k : Stamp) → map_of.find level_cmp (level r k) (alone id) ≡ cond (is_same k id) (at_rank r (map_of.get b k)) None
   unfolding alone
   alone_found id r k = find-where (λ i. is_same id i) es r k ∙ (λ i. cond (is_same-comm id k i) (stands.found r k i) None)
 
@@ -238,12 +244,12 @@ module _ (s : Stamp) (b : Board) (es : Entries) (stands : Stands b es) (low : al
   alone_drawn id = drawn-where (λ i. is_same id i) es
 
   -- nothing is answered of an absent id
-  none_cell : (same : Bool) (r : Stamp) (x : Option Object) → (same ≡ true → x ≡ None) → cond same (at_rank r x) None ≡ None
+  none_cell : (same : Bool) (r : Rank) (x : Option Object) → (same ≡ true → x ≡ None) → cond same (at_rank r x) None ≡ None
   none_cell true r x h = ap (at_rank r) (h refl)
   none_cell false r x h = refl
 
   -- what is answered of one object
-  one_cell : (same_rank same : Bool) (r : Stamp) (o : Object) (x : Option Object) → is_same r o.rank ≡ same_rank → (same ≡ true → x ≡ Some o)
+  one_cell : (same_rank same : Bool) (r : Rank) (o : Object) (x : Option Object) → is_same_rank r o.rank ≡ same_rank → (same ≡ true → x ≡ Some o)
       → cond same (at_rank r x) None ≡ cond (same_rank && same) (Some (body o)) None
   one_cell true true r o x e h = ap (at_rank r) (h refl) ∙ ap (λ t. cond t (Some (body o)) None) e
   one_cell false true r o x e h = ap (at_rank r) (h refl) ∙ ap (λ t. cond t (Some (body o)) None) e
@@ -257,35 +263,35 @@ module _ (s : Stamp) (b : Board) (es : Entries) (stands : Stands b es) (low : al
   -- an absent id has nothing
   alone_none : (id : Stamp) → map_of.get b id ≡ None → alone id ≡ []
   alone_none id e =
-      same_levels (alone id) [] (alone_sorted id) tt (λ l. alone_found id l.0 l.1 ∙ none_cell (is_same l.1 id) l.0 (map_of.get b l.1) (is_at id None e l.1))
+      same_levels (alone id) [] (alone_sorted id) tt (λ l. alone_found id l.rank l.id ∙ none_cell (is_same l.id id) l.rank (map_of.get b l.id) (is_at id None e l.id))
 
   -- an id that is there has its object, once
-  alone_one : (id : Stamp) (o : Object) → map_of.get b id ≡ Some o → alone id ≡ ((o.rank, id), body o) ∷ []
+  alone_one : (id : Stamp) (o : Object) → map_of.get b id ≡ Some o → alone id ≡ (level o.rank id, body o) ∷ []
   alone_one id o e =
-      same_levels (alone id) (((o.rank, id), body o) ∷ []) (alone_sorted id) tt
-      (λ l. alone_found id l.0 l.1
-      ∙ one_cell (is_same l.0 o.rank) (is_same l.1 id) l.0 o (map_of.get b l.1) refl (is_at id (Some o) e l.1)
-      ∙ ap (λ t. cond t (Some (body o)) None) (sym (level_test l.0 l.1 o.rank id)))
+      same_levels (alone id) ((level o.rank id, body o) ∷ []) (alone_sorted id) tt
+      (λ l. alone_found id l.rank l.id
+      ∙ one_cell (is_same_rank l.rank o.rank) (is_same l.id id) l.rank o (map_of.get b l.id) refl (is_at id (Some o) e l.id)
+      ∙ ap (λ t. cond t (Some (body o)) None) (sym (level_test l.rank l.id o.rank id)))
 
   -- what is answered at a rank after a raise of an absent id
-  stay_cell : (same : Bool) (r : Stamp) (x : Option Object) → (same ≡ true → x ≡ None) → cond (not same) (at_rank r x) None ≡ at_rank r (cond same (option_map (set (ToRank s)) x) x)
-  stay_cell true r x h = ap (λ y. at_rank r (option_map (set (ToRank s)) y)) (sym (h refl))
+  stay_cell : (same : Bool) (r : Rank) (x : Option Object) → (same ≡ true → x ≡ None) → cond (not same) (at_rank r x) None ≡ at_rank r (cond same (option_map (set (ToRank (top s))) x) x)
+  stay_cell true r x h = ap (λ y. at_rank r (option_map (set (ToRank (top s))) y)) (sym (h refl))
   stay_cell false r x h = refl
 
   -- what is answered at a rank after a raise of an object
-  top_cell : (same_rank same : Bool) (r : Stamp) (o : Object) (x : Option Object) → is_same r s ≡ same_rank → (same ≡ true → x ≡ Some o)
-      → cond (same_rank && same) (Some (body o)) (cond (not same) (at_rank r x) None) ≡ at_rank r (cond same (option_map (set (ToRank s)) x) x)
-  top_cell true true r o x e h = ap (λ t. cond t (Some (body o)) None) (sym e) ∙ ap (λ y. at_rank r (option_map (set (ToRank s)) y)) (sym (h refl))
-  top_cell false true r o x e h = ap (λ t. cond t (Some (body o)) None) (sym e) ∙ ap (λ y. at_rank r (option_map (set (ToRank s)) y)) (sym (h refl))
+  top_cell : (same_rank same : Bool) (r : Rank) (o : Object) (x : Option Object) → is_same_rank r (top s) ≡ same_rank → (same ≡ true → x ≡ Some o)
+      → cond (same_rank && same) (Some (body o)) (cond (not same) (at_rank r x) None) ≡ at_rank r (cond same (option_map (set (ToRank (top s))) x) x)
+  top_cell true true r o x e h = ap (λ t. cond t (Some (body o)) None) (sym e) ∙ ap (λ y. at_rank r (option_map (set (ToRank (top s))) y)) (sym (h refl))
+  top_cell false true r o x e h = ap (λ t. cond t (Some (body o)) None) (sym e) ∙ ap (λ y. at_rank r (option_map (set (ToRank (top s))) y)) (sym (h refl))
   top_cell true false r o x e h = refl
   top_cell false false r o x e h = refl
 
   -- the list without that id has nothing at its new level
-  not_in_rest : (id : Stamp) → map_of.find level_cmp (s, id) (rest id) ≡ None
-  not_in_rest id = rest_found id s id ∙ ap (λ t. cond (not t) (at_rank s (map_of.get b id)) None) (is_same-refl id)
+  not_in_rest : (id : Stamp) → map_of.find level_cmp (level (top s) id) (rest id) ≡ None
+  not_in_rest id = rest_found id (top s) id ∙ ap (λ t. cond (not t) (at_rank (top s) (map_of.get b id)) None) (is_same-refl id)
 
   -- a raise, by what the board answers at the id
-  raise_by : (id : Stamp) (x : Option Object) → map_of.get b id ≡ x → Step s (board_with s (Sets id (ToRank s)) b) (to_top id (without_ranks es))
+  raise_by : (id : Stamp) (x : Option Object) → map_of.get b id ≡ x → Step s (board_with s (Sets id (ToRank (top s))) b) (to_top id (without_ranks es))
   raise_by id None e =
       record {
         entries = rest id;
@@ -294,33 +300,33 @@ module _ (s : Stamp) (b : Board) (es : Entries) (stands : Stands b es) (low : al
           found = λ r k.
               rest_found id r k
               ∙ stay_cell (is_same k id) r (map_of.get b k) (is_at id None e k)
-              ∙ ap (at_rank r) (sym (get-board_with s (Sets id (ToRank s)) b k));
+              ∙ ap (at_rank r) (sym (get-board_with s (Sets id (ToRank (top s))) b k));
         };
         drawn = rest_drawn id ∙ sym (append-nil (without id (without_ranks es))) ∙ ap (λ d. without id (without_ranks es) ++ d) (sym (ap without_ranks (alone_none id e)) ∙ alone_drawn id);
         later = λ t l. all_before-more s t (rest id) l (rest_low id);
       }
   raise_by id (Some o) e =
       record {
-        entries = rest id ++ ((s, id), body o) ∷ [];
+        entries = rest id ++ (level (top s) id, body o) ∷ [];
         stands = record {
-          sorted = sorted-append (s, id) (body o) (rest id) (rest_sorted id) (under_from s id (rest id) (rest_low id));
+          sorted = sorted-append (level (top s) id) (body o) (rest id) (rest_sorted id) (under_from s id (rest id) (rest_low id));
           found = λ r k.
-              find-append level_cmp level_cmp-total (rest id) (s, id) (body o) (r, k) (not_in_rest id)
-              ∙ ap (λ t. cond t (Some (body o)) (map_of.find level_cmp (r, k) (rest id))) (level_test r k s id)
-              ∙ ap (λ y. cond (is_same r s && is_same k id) (Some (body o)) y) (rest_found id r k)
-              ∙ top_cell (is_same r s) (is_same k id) r o (map_of.get b k) refl (is_at id (Some o) e k)
-              ∙ ap (at_rank r) (sym (get-board_with s (Sets id (ToRank s)) b k));
+              find-append level_cmp level_cmp-total (rest id) (level (top s) id) (body o) (level r k) (not_in_rest id)
+              ∙ ap (λ t. cond t (Some (body o)) (map_of.find level_cmp (level r k) (rest id))) (level_test r k (top s) id)
+              ∙ ap (λ y. cond (is_same_rank r (top s) && is_same k id) (Some (body o)) y) (rest_found id r k)
+              ∙ top_cell (is_same_rank r (top s)) (is_same k id) r o (map_of.get b k) refl (is_at id (Some o) e k)
+              ∙ ap (at_rank r) (sym (get-board_with s (Sets id (ToRank (top s))) b k));
         };
         drawn =
-            drawn-append (rest id) (((s, id), body o) ∷ [])
+            drawn-append (rest id) ((level (top s) id, body o) ∷ [])
             ∙ (λ i. rest_drawn id i ++ (sym (ap without_ranks (alone_one id o e)) ∙ alone_drawn id) i);
         later = λ t l.
-            all_before-append t s id (body o) (rest id) (all_before-more s t (rest id) l (rest_low id)) l
+            all_before-append t (top s) id (body o) (rest id) (all_before-more s t (rest id) l (rest_low id)) l
             (is_before-trans id s t (present_before s b es stands low id o e).1 l);
       }
 
   -- an object that goes to the end
-  pub raise_step : (id : Stamp) → Step s (board_with s (Sets id (ToRank s)) b) (to_top id (without_ranks es))
+  pub raise_step : (id : Stamp) → Step s (board_with s (Sets id (ToRank (top s))) b) (to_top id (without_ranks es))
   raise_step id = raise_by id (map_of.get b id) refl
 
   -- each of the nine operations, by its form

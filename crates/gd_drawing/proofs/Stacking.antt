@@ -5,18 +5,23 @@ use Rattle.std.specs.FinMap.Entries.{below_all}
 use Rattle.std.specs.Ordering.{ordering_then, is_lt, eq_by_cmp}
 use Rattle.std.specs.declared.cmp.Ordering.TheVariants.{Less, Equal, Greater}
 use Rattle.std.specs.Cmp.{IsTotalOrder, then_total, on_total, tied_then}
-use Rattle.gd_base.specs.Stamps.{Stamp, stamp_cmp, is_same, is_before}
+use Rattle.gd_base.specs.Stamps.{Stamp, stamp_cmp, is_same}
 use Rattle.gd_base.proofs.StampLemmas.{stamp_cmp-total, stamp_cmp-IsAntisymmetric, is_same-true, is_before-apart}
 use Rattle.gd_model.specs.declared.object.Object.{Object}
-use Rattle.gd_model.specs.Objects.{Body, body}
-use Rattle.gd_model.specs.Board.{Board, Level, level_cmp, levels, stack, without_ranks, listed}
+use Rattle.gd_model.specs.declared.object.Body.{Body}
+use Rattle.gd_model.specs.Objects.{body}
+use Rattle.gd_model.specs.declared.rank.Rank.{Rank}
+use Rattle.gd_model.specs.declared.rank.Level.{Level}
+use Rattle.gd_model.specs.Ranks.{level, rank_cmp, is_same_rank, level_cmp}
+use Rattle.gd_model.specs.Board.{Board, levels, stack, without_ranks, listed}
+use Rattle.gd_drawing.proofs.RankLemmas.{rank_cmp-total, rank_cmp-IsAntisymmetric}
 
 -- ---- levels
 
 -- the order of levels is total
 pub level_cmp-total : IsTotalOrder level_cmp
 unfolding level_cmp
-level_cmp-total = then_total (on_total (λ (l : Level). l.0) stamp_cmp-total) (on_total (λ (l : Level). l.1) stamp_cmp-total)
+level_cmp-total = then_total (on_total (λ (l : Level). l.rank) rank_cmp-total) (on_total (λ (l : Level). l.id) stamp_cmp-total)
 
 -- two orders, the second where the first ties, tie where both do
 both_equal : (a b : Ordering) → ordering_then a b ≡ Equal → (a ≡ Equal) × (b ≡ Equal)
@@ -28,15 +33,15 @@ both_equal Greater b e = cc
 pub level_cmp-IsAntisymmetric : map_of.IsAntisymmetric level_cmp
 unfolding level_cmp
 level_cmp-IsAntisymmetric l m e =
-    let both = both_equal (stamp_cmp l.0 m.0) (stamp_cmp l.1 m.1) e in
-    let ranks = stamp_cmp-IsAntisymmetric l.0 m.0 both.0 in
-    let ids = stamp_cmp-IsAntisymmetric l.1 m.1 both.1 in
-    λ i. (ranks i, ids i)
+    let both = both_equal (rank_cmp l.rank m.rank) (stamp_cmp l.id m.id) e in
+    let ranks = rank_cmp-IsAntisymmetric l.rank m.rank both.0 in
+    let ids = stamp_cmp-IsAntisymmetric l.id m.id both.1 in
+    λ i. level (ranks i) (ids i)
 
 -- two levels are one where the ranks and the ids are
-pub level_test : (rank id r i : Stamp) → eq_by_cmp level_cmp (rank, id) (r, i) ≡ (is_same rank r && is_same id i)
+pub level_test : (rank : Rank) (id : Stamp) (r : Rank) (i : Stamp) → eq_by_cmp level_cmp (level rank id) (level r i) ≡ (is_same_rank rank r && is_same id i)
 unfolding level_cmp
-level_test rank id r i = sym (tied_then (stamp_cmp rank r) (stamp_cmp id i))
+level_test rank id r i = sym (tied_then (rank_cmp rank r) (stamp_cmp id i))
 
 -- what is less by the first order is less
 less_first : (a b : Ordering) → is_lt a ≡ true → is_lt (ordering_then a b) ≡ true
@@ -45,9 +50,9 @@ less_first Equal b e = cc
 less_first Greater b e = cc
 
 -- a level of a lower rank is lower, whatever the ids are
-pub level_below : (rank id r i : Stamp) → is_before rank r ≡ true → is_lt (level_cmp (rank, id) (r, i)) ≡ true
+pub level_below : (rank : Rank) (id : Stamp) (r : Rank) (i : Stamp) → is_lt (rank_cmp rank r) ≡ true → is_lt (level_cmp (level rank id) (level r i)) ≡ true
 unfolding level_cmp
-level_below rank id r i e = less_first (stamp_cmp rank r) (stamp_cmp id i) e
+level_below rank id r i e = less_first (rank_cmp rank r) (stamp_cmp id i) e
 
 -- two lists by level that find alike are equal
 pub same_levels : (es fs : List (Level × Body)) → T (map_of.is_sorted level_cmp es) → T (map_of.is_sorted level_cmp fs)
@@ -87,9 +92,9 @@ of_t false h = absurd h
 -- ---- what the stack of a board answers
 
 -- the object's body, where that is its rank
-abbrev pub at_rank : Stamp → Option Object → Option Body
+abbrev pub at_rank : Rank → Option Object → Option Body
 at_rank rank None = None
-at_rank rank (Some o) = cond (is_same rank o.rank) (Some (body o)) None
+at_rank rank (Some o) = cond (is_same_rank rank o.rank) (Some (body o)) None
 
 -- an id that is before all keys of a list isn't found in it
 not_found : (id : Stamp) (es : List (Stamp × Object)) → T (below_all stamp_cmp id es) → map_of.find stamp_cmp id es ≡ None
@@ -98,7 +103,7 @@ not_found id (e ∷ es) h =
     ap (λ t. cond t (Some e.1) (map_of.find stamp_cmp id es)) (is_before-apart id e.0 (of_t _ (t_first _ _ h))) ∙ not_found id es (t_second _ _ h)
 
 -- the first entry by level, by the tests of its rank and its id
-level_step : (same_rank same_id : Bool) (o : Object) (rank : Stamp) (rest : Option Object) → is_same rank o.rank ≡ same_rank → (same_id ≡ true → rest ≡ None)
+level_step : (same_rank same_id : Bool) (o : Object) (rank : Rank) (rest : Option Object) → is_same_rank rank o.rank ≡ same_rank → (same_id ≡ true → rest ≡ None)
     → cond (same_rank && same_id) (Some (body o)) (at_rank rank rest) ≡ at_rank rank (cond same_id (Some o) rest)
 level_step true true o rank rest e none = ap (λ t. cond t (Some (body o)) None) (sym e)
 level_step true false o rank rest e none = refl
@@ -106,29 +111,29 @@ level_step false true o rank rest e none = ap (at_rank rank) (none refl) ∙ ap 
 level_step false false o rank rest e none = refl
 
 -- the levels of a list by id hold at each rank what has that rank
-find-levels : (es : List (Stamp × Object)) → T (map_of.is_sorted stamp_cmp es) → (rank id : Stamp) → map_of.find level_cmp (rank, id) (levels es) ≡ at_rank rank (map_of.find stamp_cmp id es)
+find-levels : (es : List (Stamp × Object)) → T (map_of.is_sorted stamp_cmp es) → (rank : Rank) (id : Stamp) → map_of.find level_cmp (level rank id) (levels es) ≡ at_rank rank (map_of.find stamp_cmp id es)
 find-levels [] h rank id = refl
 find-levels (e ∷ es) h rank id =
-    ap (λ t. cond t (Some (body e.1)) (map_of.find level_cmp (rank, id) (levels es))) (level_test rank id e.1.rank e.0)
-    ∙ ap (λ y. cond (is_same rank e.1.rank && is_same id e.0) (Some (body e.1)) y) (find-levels es (t_second _ _ h) rank id)
-    ∙ level_step (is_same rank e.1.rank) (is_same id e.0) e.1 rank (map_of.find stamp_cmp id es) refl
+    ap (λ t. cond t (Some (body e.1)) (map_of.find level_cmp (level rank id) (levels es))) (level_test rank id e.1.rank e.0)
+    ∙ ap (λ y. cond (is_same_rank rank e.1.rank && is_same id e.0) (Some (body e.1)) y) (find-levels es (t_second _ _ h) rank id)
+    ∙ level_step (is_same_rank rank e.1.rank) (is_same id e.0) e.1 rank (map_of.find stamp_cmp id es) refl
     (λ t. not_found id es (subst (λ i. T (below_all stamp_cmp i es)) (sym (is_same-true id e.0 t)) (t_first _ _ h)))
 
 -- the stack of a board answers with the object of that id, where it has that rank
-pub get-stack : (b : Board) (rank id : Stamp) → map_of.get (stack b) (rank, id) ≡ at_rank rank (map_of.get b id)
+pub get-stack : (b : Board) (rank : Rank) (id : Stamp) → map_of.get (stack b) (level rank id) ≡ at_rank rank (map_of.get b id)
 unfolding stack
 get-stack b rank id =
-    map_of.get-from_entries level_cmp-total (levels (map_of.entries b)) (rank, id)
+    map_of.get-from_entries level_cmp-total (levels (map_of.entries b)) (level rank id)
     ∙ find-levels (map_of.entries b) (map_of.entries_sorted b) rank id
     ∙ ap (at_rank rank) (sym (map_of.get-entries b id))
 
 -- the list has the objects of the board, by level
 pub record Stands (b : Board) (es : List (Level × Body)) : Type 0 where
   pub sorted : T (map_of.is_sorted level_cmp es)
-  pub found : (rank id : Stamp) → map_of.find level_cmp (rank, id) es ≡ at_rank rank (map_of.get b id)
+  pub found : (rank : Rank) (id : Stamp) → map_of.find level_cmp (level rank id) es ≡ at_rank rank (map_of.get b id)
 
 -- the drawing of a board is any such list, without ranks
 pub listed_is : (b : Board) (es : List (Level × Body)) → Stands b es → listed b ≡ without_ranks es
 listed_is b es stands =
     ap without_ranks (same_levels (map_of.entries (stack b)) es (map_of.entries_sorted (stack b)) stands.sorted
-    (λ l. sym (map_of.get-entries (stack b) l) ∙ get-stack b l.0 l.1 ∙ sym (stands.found l.0 l.1)))
+    (λ l. sym (map_of.get-entries (stack b) l) ∙ get-stack b l.rank l.id ∙ sym (stands.found l.rank l.id)))

@@ -1,13 +1,13 @@
 -- Events in stamp order: they are put in one by one, each behind those whose stamps aren't greater.
-use Rattle.std.specs.Prelude.{Bool, true, not, ◌&&◌, List, [], ◌∷◌, if◌then◌else◌, fold, Contains, ◌↔◌}
+use Rattle.std.specs.Prelude.{Bool, true, not, ◌&&◌, List, [], ◌∷◌, fold, Contains, ◌↔◌}
 use Rattle.std.specs.List.{list_all}
-use Rattle.gd_base.specs.Stamps.{is_before, is_same}
+use Rattle.gd_base.specs.Insertions.{inserted_by}
+use Rattle.gd_base.specs.Stamps.{is_same}
 use Rattle.gd_events.specs.Events.{Event}
 
 -- an event put behind those whose stamps aren't greater
-unfoldable pub inserted : List Event → Event → List Event
-inserted [] e = e ∷ []
-inserted (f ∷ fs) e = if is_before e.stamp f.stamp then e ∷ f ∷ fs else f ∷ inserted fs e
+abbrev pub inserted : List Event → Event → List Event
+inserted events e = inserted_by (λ f. f.stamp) events e
 
 -- the events by stamp
 abbrev pub ordered : List Event → List Event

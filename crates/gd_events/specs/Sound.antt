@@ -7,6 +7,7 @@ use Rattle.gd_base.specs.Labels.{IsLabel}
 use Rattle.gd_base.specs.Members.{AreStamped}
 use Rattle.gd_base.specs.Ranges.{place_limit, size_limit, is_within, is_style}
 use Rattle.gd_base.specs.declared.member.Member.{Member}
+use Rattle.gd_base.specs.declared.ranges.TheConstants.{EVENTS_OF_A_SITE, MOST_MEMBERS}
 use Rattle.gd_events.specs.declared.op.Op.{Op}
 use Rattle.gd_events.specs.declared.op.Op.TheVariants.{Create, Delete, Move, Resize, Restyle, Retext, Group, Ungroup, Raise}
 use Rattle.gd_events.specs.declared.event.EventFault.{EventFault}
@@ -95,12 +96,12 @@ IsWellTyped (Move id x y) = IsStamp id
 IsWellTyped (Resize id w h) = IsStamp id
 IsWellTyped (Restyle id style) = IsStamp id
 IsWellTyped (Retext id label) = IsStamp id × IsLabel label
-IsWellTyped (Group members) = (length members ≤ 32) × AreStamped members
+IsWellTyped (Group members) = (length members ≤ MOST_MEMBERS) × AreStamped members
 IsWellTyped (Ungroup id) = IsStamp id
 IsWellTyped (Raise id) = IsStamp id
 
 pub record IsSound (e : Event) : Type 0 where
   pub stamp : IsStamp e.stamp
-  pub number_fits : e.number ≤ 65535
+  pub number_fits : e.number ≤ EVENTS_OF_A_SITE
   pub op : IsWellTyped e.op
   pub rules : event_fault e ≡ None

@@ -2,24 +2,27 @@ ghost use Rattle.std.specs.Prelude.{◌≡◌, ◌≤◌, Some, None, MatchResul
 ghost use Rattle.std.specs.List.{list_all};
 ghost use Rattle.gd_base.specs.Ranges.{is_within};
 ghost use Rattle.gd_events.specs.Events.{first_event};
-ghost use Rattle.gd_events.specs.Sound.{event_fault, is_shift_in_range, is_in_range, has_members, is_member_before, names_before, is_above, rise_above, has_rising_members, IsSound};
+ghost use Rattle.gd_events.specs.Sound.{event_fault, IsSound};
+ghost use Rattle.gd_events.specs.Sound.{is_shift_in_range, is_in_range, has_members};
+ghost use Rattle.gd_events.specs.Sound.{is_member_before, names_before, is_above, rise_above, has_rising_members};
 
 use crate::op::Op;
 use gd_base::{Label, Member, PLACE_LIMIT, SIZE_LIMIT, Shape, Stamp};
 use std::marker::Model;
+use thiserror::Error;
 
 /// Why an event isn't sound.
-#[derive(Clone, Copy, Debug, PartialEq, Eq)]
+#[derive(Clone, Copy, Debug, PartialEq, Eq, Error)]
 pub enum EventFault {
-    /// The number is 0.
+    #[error("the number of the event is 0")]
     Seq,
-    /// A place, a shift, a size, a colour or a width is out of its range.
+    #[error("a place, a shift, a size, a colour or a width is out of its range")]
     Range,
-    /// A group has fewer than 2 members.
+    #[error("a group has fewer than 2 members")]
     MemberCount,
-    /// An id that the operation names isn't before the event's stamp.
+    #[error("an id is not before the event's stamp")]
     FutureId,
-    /// The ids of a group's members don't rise strictly.
+    #[error("the ids of a group's members do not rise strictly")]
     MemberOrder,
 }
 
@@ -69,6 +72,14 @@ impl Event {
             number: seq,
             op,
         })
+    }
+
+    /// The event of parts that are known to make a sound one. Nothing is judged again.
+    pub fn sound(stamp: Stamp, number: u16, op: Op) -> Self
+        requires { IsSound (record { stamp = stamp; number = number; op = op }) }
+        ensures { result ≡ record { stamp = stamp; number = number; op = op } }
+    {
+        Event { stamp, number, op }
     }
 
     pub fn stamp(&self) -> Stamp
@@ -125,10 +136,7 @@ impl Default for Event {
             h: 0,
             label: no_label(),
         };
-        match Event::new(Stamp::default(), 1, op) {
-            Ok(event) => event,
-            Err(_) => unreachable!(),
-        }
+        Event::sound(Stamp::default(), 1, op)
     }
 }
 

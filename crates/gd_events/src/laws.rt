@@ -5,7 +5,8 @@ ghost use Rattle.gd_events.specs.Ordered.{inserted, ordered, are_distinct, HoldS
 
 /// Lists of events with distinct stamps that hold the same events have the same order.
 pub fn same_events_have_one_order()
-    ensures { (es fs : List Event) → IsTrue (are_distinct es) → IsTrue (are_distinct fs) → HoldSame es fs → ordered es ≡ ordered fs }
+    ensures { (es fs : List Event) → IsTrue (are_distinct es) → IsTrue (are_distinct fs)
+        → HoldSame es fs → ordered es ≡ ordered fs }
 {}
 
 /// An event that arrives after the others is put behind those whose stamps aren't greater, and these keep their order.

@@ -1,12 +1,11 @@
 ghost use Rattle.std.specs.Prelude.{◌≡◌, [], ◌∷◌, ◌++◌, OnOk, OnErr, MatchOption};
-ghost use Rattle.gd_events.specs.Ordered.{ordered};
 
 use crate::event::Event;
 use std::alloc::{AllocError, Global};
 use std::marker::Model;
 use std::vec::IntoIter;
 
-/// An event of a list, which contracts see as the event. It lies in a box of its own, so that the list is grown and sorted
+/// An event of a list, which contracts see as the event. It lies in a box of its own, so that the list is grown
 /// by moving one word for each event.
 #[derive(Drop)]
 pub struct ListedEvent {
@@ -54,7 +53,7 @@ impl EventList {
         }
     }
 
-    /// Puts the event last.
+    /// Puts the event last. `AllocError` where memory ran out, and then the list stays as it was.
     pub fn push(&mut self, event: Event) -> Result<(), AllocError>
         ensures ok { OnOk result (self.new ≡ self.old ++ event ∷ []) }
         ensures err { OnErr result (self.new ≡ self.old) }
@@ -77,15 +76,6 @@ impl EventList {
         Events {
             items: self.items.into_iter(),
         }
-    }
-
-    /// Puts the events into the order of their stamps; those of one stamp stay in their order.
-    pub fn sort_by_stamp(&mut self) -> Result<(), AllocError>
-        ensures ok { OnOk result (self.new ≡ ordered self.old) }
-        ensures err { OnErr result (self.new ≡ self.old) }
-    {
-        self.items
-            .sort_by_cached_key(|listed| listed.event().stamp())
     }
 }
 
@@ -110,9 +100,7 @@ impl Events {
     pub fn next(&mut self) -> Option<Event>
         ensures { MatchOption result ((self.old ≡ []) × (self.new ≡ [])) (λ e. self.old ≡ e ∷ self.new) }
     {
-        match self.items.next() {
-            Some(listed) => Some(Box::into_inner(listed.event)),
-            None => None,
-        }
+        let listed = self.items.next()?;
+        Some(Box::into_inner(listed.event))
     }
 }

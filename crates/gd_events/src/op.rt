@@ -2,8 +2,8 @@ ghost use Rattle.std.specs.Prelude.{◌≡◌};
 
 use gd_base::{Label, Members, Shape, Stamp, Style};
 
-/// An operation on a drawing. Places and shifts are from `-PLACE_LIMIT` to `PLACE_LIMIT`, sizes from `-SIZE_LIMIT` to
-/// `SIZE_LIMIT`.
+/// An operation on a drawing. In a sound event places and shifts are from `-PLACE_LIMIT` to `PLACE_LIMIT`, and sizes from
+/// `-SIZE_LIMIT` to `SIZE_LIMIT`.
 #[derive(Drop)]
 pub enum Op {
     /// A new shape on top, with the event's stamp as its id.

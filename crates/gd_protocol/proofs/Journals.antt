@@ -5,8 +5,8 @@ use Rattle.std.proofs.lemmas.List.Sums.{length-filter}
 use Rattle.std.specs.List.{AllByRecursion as Every}
 use Rattle.gd_events.specs.Events.{Event}
 use Rattle.gd_events.specs.Sound.{IsSound}
-use Rattle.gd_log.proofs.WrittenLemmas.{log-logged}
-use Rattle.gd_log.specs.Written.{AreNext}
+use Rattle.gd_logs.proofs.WrittenLemmas.{log-logged}
+use Rattle.gd_logs.specs.Written.{AreNext}
 use Rattle.gd_grammar.specs.LogBytes.{count_of, last_clock, log, logged, turn_fault}
 use Rattle.gd_reference.specs.PerSite.{is_site}
 use Rattle.gd_reference.specs.SlowSite.{SlowSite, is_by, journal_header, made_by, resumed}

@@ -14,7 +14,7 @@ use Rattle.gd_grammar.specs.FrameBytes.{Frame, Misread, frame, frame_bytes}
 use Rattle.gd_grammar.specs.LogBytes.{Header, logged}
 use Rattle.gd_grammar.specs.Spelling.{spelling}
 use Rattle.gd_lines.specs.declared.command.Command.TheVariants as command
-use Rattle.gd_log.proofs.WriterLemmas.{logged-more}
+use Rattle.gd_logs.proofs.WriterLemmas.{logged-more}
 use Rattle.gd_model.specs.Arrivals.{cost_of, costs_from}
 use Rattle.gd_outside.specs.Seen.{Entry, Packet, Pause, Failure}
 use Rattle.gd_reference.specs.Judging.{edit, edited, with_own}

@@ -23,9 +23,10 @@ use Rattle.gd_events.specs.Events.{Event}
 use Rattle.gd_events.specs.Sound.{is_shift_in_range}
 use Rattle.gd_model.specs.declared.object.Kind.{Kind}
 use Rattle.gd_model.specs.declared.object.Kind.TheVariants.{Shape, Group}
-use Rattle.gd_model.specs.Objects.{Body}
+use Rattle.gd_model.specs.declared.object.Body.{Body}
 use Rattle.gd_model.specs.Drawing.{Drawing, picture}
-use Rattle.gd_model.specs.Shown.{Above, seen_as}
+use Rattle.gd_model.specs.declared.above.Above.{Above}
+use Rattle.gd_model.specs.Shown.{seen_as}
 use Rattle.gd_reference.specs.SlowSite.{SlowSite, own, clock}
 
 -- ---- one object

@@ -4,7 +4,7 @@ use Rattle.std.specs.Char.{encode_utf8}
 use Rattle.std.specs.Fmt.{digits}
 use Rattle.std.specs.Str.{chars, is_utf8}
 use Rattle.gd_base.specs.Stamps.{stamp_cmp}
-use Rattle.gd_events.specs.Ordered.{inserted}
+use Rattle.gd_base.specs.Insertions.{inserted_by}
 use Rattle.gd_grammar.specs.EventBytes as bytes
 use Rattle.gd_grammar.specs.FrameBytes.{event_count_at, events_bytes, focus_at, frame, frame_at, frame_events_at, frame_magic_at, frame_version_at, half_at, head_at, name_at, name_text_at, next_event_at, note_at, six_at}
 use Rattle.gd_grammar.specs.LogBytes.{events_at, header_at, log, magic_at, record_at, session_at, sites_at, step_at, turn_fault, version_at}
@@ -38,7 +38,7 @@ lines_compute = tt
 
 -- drawings, sites, worlds and runs
 unfoldable pub sites_compute : ⊤
-unfolding stamp_cmp inserted covers independent splice are_apart by_id edit judged placed targets answers of_received received who_behind all_arrived frame_for offered offers refusal take_frame least_of_others put events_replies of_events tries_behind slow_effects slow_end greatest_clock made_by resumed after_from after_line happens with_site
+unfolding stamp_cmp inserted_by covers independent splice are_apart by_id edit judged placed targets answers of_received received who_behind all_arrived frame_for offered offers refusal take_frame least_of_others put events_replies of_events tries_behind slow_effects slow_end greatest_clock made_by resumed after_from after_line happens with_site
 sites_compute = tt
 
 unfoldable pub computing : ⊤

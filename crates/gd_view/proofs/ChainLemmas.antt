@@ -7,7 +7,8 @@ use Rattle.gd_base.specs.Stamps.{stamp_cmp, is_before}
 use Rattle.gd_base.specs.Stamps.{Stamp}
 use Rattle.gd_model.specs.declared.object.Link.{Link}
 use Rattle.gd_model.specs.declared.object.Object.{Object}
-use Rattle.gd_model.specs.Objects.{Body, body}
+use Rattle.gd_model.specs.declared.object.Body.{Body}
+use Rattle.gd_model.specs.Objects.{body}
 use Rattle.gd_model.specs.Drawing.{Drawing}
 use Rattle.gd_model.specs.Board.{Board, listed}
 use Rattle.gd_model.specs.Shown as view

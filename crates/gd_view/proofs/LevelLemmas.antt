@@ -12,7 +12,8 @@ use Rattle.gd_base.specs.Stamps.{is_same}
 use Rattle.gd_base.proofs.StampLemmas.{is_same-true, is_same-refl}
 use Rattle.gd_base.specs.Stamps.{Stamp}
 use Rattle.gd_model.specs.declared.object.Object.{Object}
-use Rattle.gd_model.specs.Objects.{Body, body}
+use Rattle.gd_model.specs.declared.object.Body.{Body}
+use Rattle.gd_model.specs.Objects.{body}
 use Rattle.gd_model.specs.Board.{Board, level_cmp, stack}
 use Rattle.gd_model.specs.Board as board_words
 use Rattle.gd_drawing.proofs.Stacking.{level_cmp-total, level_cmp-IsAntisymmetric, level_test, at_rank, get-stack, t_first, t_second}

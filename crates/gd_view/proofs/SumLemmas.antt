@@ -17,7 +17,8 @@ use Rattle.gd_base.proofs.StampLemmas.{stamp_cmp-total, is_same-true, is_same-co
 use Rattle.gd_base.specs.Stamps.{Stamp}
 use Rattle.gd_model.specs.declared.object.Link.{Link}
 use Rattle.gd_model.specs.declared.object.Object.{Object}
-use Rattle.gd_model.specs.Objects.{Body, body}
+use Rattle.gd_model.specs.declared.object.Body.{Body}
+use Rattle.gd_model.specs.Objects.{body}
 use Rattle.gd_model.specs.Drawing.{Drawing}
 use Rattle.gd_model.specs.Board.{Board, listed}
 use Rattle.gd_model.specs.Shown.{above, above_by, through}

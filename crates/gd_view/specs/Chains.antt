@@ -4,7 +4,7 @@ use Rattle.std.specs.FinMap as map_of
 use Rattle.gd_base.specs.Stamps.{stamp_cmp, is_before}
 use Rattle.gd_base.specs.Stamps.{Stamp}
 use Rattle.gd_model.specs.declared.object.Link.{Link}
-use Rattle.gd_model.specs.Objects.{Body}
+use Rattle.gd_model.specs.declared.object.Body.{Body}
 use Rattle.gd_model.specs.Drawing.{Drawing}
 use Rattle.gd_model.specs.Shown as view
 use Rattle.gd_view.specs.declared.places.Above.{Above}

@@ -5,7 +5,8 @@ use Rattle.std.specs.BTreeSet.{insert_key}
 use Rattle.std.specs.declared.cmp.Ordering.{Ordering}
 use Rattle.gd_base.specs.Stamps.{Stamp}
 use Rattle.gd_model.specs.declared.object.Object.{Object}
-use Rattle.gd_model.specs.Objects.{Body, body}
+use Rattle.gd_model.specs.declared.object.Body.{Body}
+use Rattle.gd_model.specs.Objects.{body}
 use Rattle.gd_model.specs.Board.{Board, level_cmp, listed}
 use Rattle.gd_model.specs.Drawing.{Drawing}
 use Rattle.gd_model.specs.Shown.{shown}

@@ -3,7 +3,7 @@ use Rattle.std.specs.Prelude.{◌+ℤ◌, Bool, false, if◌then◌else◌, Opti
 use Rattle.std.specs.FinMap as map_of
 use Rattle.gd_base.specs.Stamps.{stamp_cmp}
 use Rattle.gd_base.specs.Stamps.{Stamp}
-use Rattle.gd_model.specs.Objects.{Body}
+use Rattle.gd_model.specs.declared.object.Body.{Body}
 use Rattle.gd_model.specs.Drawing.{Drawing}
 use Rattle.gd_model.specs.Shown.{above, is_gone}
 use Rattle.gd_model.specs.Shown as view

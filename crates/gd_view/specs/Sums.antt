@@ -7,7 +7,7 @@ use Rattle.std.specs.BTreeSet.{insert_key}
 use Rattle.indexmap.specs.IndexMap as index_map
 use Rattle.gd_base.specs.Stamps.{stamp_cmp, is_same}
 use Rattle.gd_base.specs.Stamps.{Stamp}
-use Rattle.gd_model.specs.Objects.{Body}
+use Rattle.gd_model.specs.declared.object.Body.{Body}
 use Rattle.gd_model.specs.Drawing.{Drawing}
 use Rattle.gd_model.specs.Shown.{above}
 use Rattle.gd_model.specs.Shown as view

@@ -1,0 +1,111 @@
+//! Operations by their four forms, as the definitions go by them. An operation is an arm here in each of two functions, and
+//! nothing elsewhere in this crate.
+ghost use Rattle.std.specs.Prelude.{◌≡◌};
+ghost use Rattle.gd_model.specs.Forms.{form, styled};
+ghost use Rattle.gd_model.specs.Objects.{part_of};
+ghost use Rattle.gd_canvas.specs.Aims.{aim_of, first_touch, members_of};
+
+use crate::new_objects;
+use gd_base::{Member, Stamp, Style};
+use gd_events::Op;
+use gd_model::{Content, Form, Part, Rank};
+
+/// A form without what it puts into the drawing: what kind of change it is, and of which object.
+#[derive(Drop)]
+pub enum Aim {
+    /// Sets that part of the object.
+    Sets(Stamp, Part),
+    Creates(Stamp),
+    Deletes(Stamp),
+    Groups(Stamp),
+}
+
+/// The form of an operation at that stamp. Labels and members are copied.
+pub fn form_of(stamp: Stamp, op: &Op) -> Form
+    ensures { result ≡ form stamp op.now }
+{
+    match op {
+        Op::Create {
+            kind,
+            x,
+            y,
+            w,
+            h,
+            label,
+        } => Form::Creates(new_objects::shape(*kind, *x, *y, *w, *h, label.copy())),
+        Op::Delete { id } => Form::Deletes(*id),
+        Op::Move { id, x, y } => Form::Sets(*id, Content::ToPlace { x: *x, y: *y }),
+        Op::Resize { id, w, h } => Form::Sets(*id, Content::ToSize { w: *w, h: *h }),
+        Op::Restyle { id, style } => Form::Sets(*id, styled(*style)),
+        Op::Retext { id, label } => Form::Sets(*id, Content::ToText(label.copy())),
+        Op::Group { members } => Form::Groups(members.copy()),
+        Op::Ungroup { id } => Form::Sets(*id, Content::ToFlag(true)),
+        Op::Raise { id } => Form::Sets(*id, Content::ToRank(Rank::top(stamp))),
+    }
+}
+
+/// The aim of an operation at that stamp.
+pub fn aim_of(stamp: Stamp, op: &Op) -> Aim
+    ensures { result ≡ aim_of stamp (form stamp op.now) }
+{
+    match op {
+        Op::Create { .. } => Aim::Creates(stamp),
+        Op::Delete { id } => Aim::Deletes(*id),
+        Op::Move { id, .. } => Aim::Sets(*id, Part::Place),
+        Op::Resize { id, .. } => Aim::Sets(*id, Part::Size),
+        Op::Restyle { id, style } => Aim::Sets(*id, style_part(*style)),
+        Op::Retext { id, .. } => Aim::Sets(*id, Part::Label),
+        Op::Group { .. } => Aim::Groups(stamp),
+        Op::Ungroup { id } => Aim::Sets(*id, Part::Flag),
+        Op::Raise { id } => Aim::Sets(*id, Part::Rank),
+    }
+}
+
+/// The members of a new group. No other operation has any.
+pub fn members_of(op: &Op) -> &[Member]
+    ensures { result.now ≡ members_of op.now }
+{
+    match op {
+        Op::Group { members } => members.as_slice(),
+        _ => &[],
+    }
+}
+
+pub fn object_of(aim: &Aim) -> Stamp
+    ensures { result ≡ (first_touch aim.now).0 }
+{
+    match aim {
+        Aim::Sets(id, _) | Aim::Creates(id) | Aim::Deletes(id) | Aim::Groups(id) => *id,
+    }
+}
+
+pub fn part_of(aim: &Aim) -> Part
+    ensures { result ≡ (first_touch aim.now).1 }
+{
+    match aim {
+        Aim::Sets(_, part) => *part,
+        Aim::Creates(_) | Aim::Deletes(_) | Aim::Groups(_) => Part::Whole,
+    }
+}
+
+/// What a restyle sets.
+fn styled(style: Style) -> Content
+    ensures { result ≡ styled style }
+{
+    match style {
+        Style::Stroke(colour) => Content::ToStroke(colour),
+        Style::Fill(colour) => Content::ToFill(colour),
+        Style::Width(width) => Content::ToWidth(width),
+    }
+}
+
+/// The part that a restyle sets.
+fn style_part(style: Style) -> Part
+    ensures { result ≡ part_of (styled style) }
+{
+    match style {
+        Style::Stroke(_) => Part::Stroke,
+        Style::Fill(_) => Part::Fill,
+        Style::Width(_) => Part::Width,
+    }
+}

@@ -1,0 +1,120 @@
+-- A record, and a step of a log, by what reading its event gives.
+use Rattle.std.proofs.Common.{◌≡◌, ℕ, ◌+◌, ◌-◌, ◌≤◌, List, [], ◌∷◌, length, drop, refl, sym, ap, ◌∙◌, arith, eq-eqb}
+use Rattle.std.proofs.lemmas.Bool.{ne_eqb}
+use Rattle.std.specs.Prelude.{Some, None, Ok, Err}
+use Rattle.std.proofs.lemmas.List.{length-drop}
+use Rattle.gd_base.specs.declared.fault.FieldFault.{FieldFault}
+use Rattle.gd_base.specs.declared.fault.LogWhy.{LogWhy}
+use Rattle.gd_base.specs.declared.fault.LogWhy.TheVariants.{NoSite, Turn}
+use Rattle.gd_events.specs.Events.{Event}
+use Rattle.gd_grammar.specs.EventBytes.{event_at}
+use Rattle.gd_grammar.specs.LogBytes.{Header, LogFault, log_why, in_log, turn_fault, left_of, gate, header_at, record_at, step_at}
+use Rattle.gd_wire.proofs.Steady.{IsEnd}
+use Rattle.gd_wire.proofs.SteadyFields.{Steady-event, Steady-header, event-long}
+use Rattle.gd_logs.specs.Turns.{turn_place}
+use Rattle.gd_logs.specs.Steps.{IsFault}
+
+-- ---- the record of an event
+
+-- an event that is next in turn
+pub record-taken : (n : ℕ) (seen : List Event) (bytes : List ℕ) (x : Event × List ℕ) → event_at bytes ≡ Ok x → turn_fault n seen x.0 ≡ None → record_at n seen bytes ≡ Ok x
+unfolding record_at
+record-taken n seen bytes x e t = rw (e, t) refl
+
+-- an event that isn't
+pub record-refused : (n : ℕ) (seen : List Event) (bytes : List ℕ) (x : Event × List ℕ) (why : LogWhy) → event_at bytes ≡ Ok x → turn_fault n seen x.0 ≡ Some why
+    → record_at n seen bytes ≡ Err (record { why = why; left = left_of why (length bytes) })
+unfolding record_at
+record-refused n seen bytes x why e t = rw (e, t) refl
+
+-- bytes that are no event
+pub record-faulty : (n : ℕ) (seen : List Event) (bytes : List ℕ) (f : FieldFault) → event_at bytes ≡ Err f → record_at n seen bytes ≡ Err (record { why = log_why f.why; left = f.left })
+unfolding record_at
+record-faulty n seen bytes f e = rw e refl
+
+-- the place of an event that isn't next in turn, in a record of at least nine bytes
+turn-left : (why : LogWhy) (n : ℕ) → 9 ≤ n → (left_of why n ≤ n) × (turn_place why ≡ n - left_of why n)
+turn-left NoSite n h = (omega arith, omega arith)
+turn-left Turn n h = (omega arith, omega arith)
+turn-left other n h = (omega arith, omega arith)
+
+turn-inside : (why : LogWhy) (n : ℕ) → 9 ≤ n → turn_place why ≤ n
+turn-inside NoSite n h = omega arith
+turn-inside Turn n h = omega arith
+turn-inside other n h = omega arith
+
+-- an event takes at least nine bytes
+pub nine_bytes : (bytes : List ℕ) (x : Event × List ℕ) → event_at bytes ≡ Ok x → 9 ≤ length bytes
+nine_bytes bytes x e = omega (arith, event-long bytes x e)
+
+pub turn-near : (bytes : List ℕ) (x : Event × List ℕ) (why : LogWhy) → event_at bytes ≡ Ok x → turn_place why ≤ length bytes
+turn-near bytes x why e = turn-inside why (length bytes) (nine_bytes bytes x e)
+
+pub refused-there : (n : ℕ) (seen : List Event) (bytes : List ℕ) (x : Event × List ℕ) (why : LogWhy) → event_at bytes ≡ Ok x → turn_fault n seen x.0 ≡ Some why → IsFault (record_at n seen bytes) bytes (turn_place why) why
+refused-there n seen bytes x why e t = let at = turn-left why (length bytes) (nine_bytes bytes x e) in record {
+  left = left_of why (length bytes);
+  is = record-refused n seen bytes x why e t;
+  inside = at.0;
+  there = at.1;
+}
+
+pub faulty-there : (n : ℕ) (seen : List Event) (bytes : List ℕ) (f : FieldFault) (at : ℕ) (why : LogWhy) → event_at bytes ≡ Err f → at + f.left ≡ length bytes → why ≡ log_why f.why → IsFault (record_at n seen bytes) bytes at why
+faulty-there n seen bytes f at why e sum same = rw same record {
+  left = f.left;
+  is = record-faulty n seen bytes f e;
+  inside = omega arith;
+  there = omega arith;
+}
+
+-- the end of some bytes, by how many bytes stand in front of it
+pub left-by-end : (bytes rest : List ℕ) → IsEnd bytes rest → (length rest ≤ length bytes) × (drop (length bytes - length rest) bytes ≡ rest)
+left-by-end bytes rest h =
+    let len : length rest ≡ length bytes - h.0 = ap length h.2 ∙ length-drop h.0 bytes in
+    let k : length bytes - length rest ≡ h.0 = omega (arith, h.1) in
+    (omega arith, rw k (sym h.2))
+
+-- what an event leaves, by how many bytes it took
+pub event-left : (bytes : List ℕ) (x : Event × List ℕ) → event_at bytes ≡ Ok x → (length x.1 ≤ length bytes) × (drop (length bytes - length x.1) bytes ≡ x.1)
+event-left bytes x e = left-by-end bytes x.1 (Steady-event.suffix bytes x e)
+
+-- ---- a step
+
+pub step-nothing : (n : ℕ) (seen : List Event) (bytes : List ℕ) → length bytes ≡ 0 → step_at n seen bytes ≡ Ok None
+unfolding step_at
+step-nothing n seen [] e = refl
+step-nothing n seen (b ∷ bytes) e = absurd (omega arith)
+
+pub step-closed : (n : ℕ) (seen : List Event) (b : ℕ) (bytes : List ℕ) → (b ≡ gate → ⊥) → step_at n seen (b ∷ bytes) ≡ Ok None
+unfolding step_at
+step-closed n seen b bytes ne = rw (ne_eqb b gate ne) refl
+
+pub step-taken : (n : ℕ) (seen : List Event) (b : ℕ) (bytes : List ℕ) (x : Event × List ℕ) → b ≡ gate → record_at n seen bytes ≡ Ok x → step_at n seen (b ∷ bytes) ≡ Ok (Some x)
+unfolding step_at
+step-taken n seen b bytes x g e = rw (eq-eqb b gate g, e) refl
+
+pub step-faulty : (n : ℕ) (seen : List Event) (b : ℕ) (bytes : List ℕ) (f : LogFault) → b ≡ gate → record_at n seen bytes ≡ Err f → step_at n seen (b ∷ bytes) ≡ Err f
+unfolding step_at
+step-faulty n seen b bytes f g e = rw (eq-eqb b gate g, e) refl
+
+-- a fault of a record stands one byte farther on, behind the gate
+pub step-there : (n : ℕ) (seen : List Event) (b : ℕ) (bytes : List ℕ) (at : ℕ) (why : LogWhy) → b ≡ gate → IsFault (record_at n seen bytes) bytes at why → IsFault (step_at n seen (b ∷ bytes)) (b ∷ bytes) (at + 1) why
+step-there n seen b bytes at why g h = record {
+  left = h.left;
+  is = step-faulty n seen b bytes (record { why = why; left = h.left }) g h.is;
+  inside = omega (arith, h.inside);
+  there = omega (arith, h.inside, h.there);
+}
+
+-- ---- the header
+
+-- what a header leaves, by how many bytes it took
+pub header-left : (bytes : List ℕ) (x : Header × List ℕ) → header_at bytes ≡ Ok x → (length x.1 ≤ length bytes) × (drop (length bytes - length x.1) bytes ≡ x.1)
+header-left bytes x e = left-by-end bytes x.1 (Steady-header.suffix bytes x e)
+
+pub header-faulty : (bytes : List ℕ) (f : FieldFault) (at : ℕ) (why : LogWhy) → header_at bytes ≡ Err f → at + f.left ≡ length bytes → why ≡ log_why f.why → IsFault (in_log (header_at bytes)) bytes at why
+header-faulty bytes f at why e sum same = rw same record {
+  left = f.left;
+  is = rw e refl;
+  inside = omega arith;
+  there = omega arith;
+}

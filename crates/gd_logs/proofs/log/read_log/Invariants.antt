@@ -1,0 +1,27 @@
+use Rattle.std.proofs.Common.{◌≡◌, ◌+◌, ◌-◌, ◌≤◌, length, sum, true}
+use Rattle.std.specs.Prelude.{IsSome, None}
+use Rattle.gd_events.specs.Ordered.{are_distinct}
+use Rattle.gd_grammar.specs.LogBytes.{log}
+use Rattle.gd_grammar.proofs.DistinctLemmas.{Reached}
+use Rattle.gd_outside.specs.Told.{told}
+use Rattle.gd_logs.specs.Stream.{stream}
+use Rattle.gd_logs.specs.Turns.{Follows, most_events}
+use Rattle.gd_logs.proofs.EventLemmas.{log_from}
+use Rattle.gd_logs.proofs.log.read_log.Given as goal
+
+abbrev pub invariant-records : goal.invariant-records
+invariant-records g l = record {
+  was : IsSome (g.S.Source.seen l.source).left → IsSome (g.S.Source.seen l.fn.source).left;
+  follows : Follows l.reader.turns l.events;
+  reached : Reached l.events l.events;
+  apart : are_distinct l.events ≡ true;
+  on : l.reader.stopped ≡ None;
+  exact : IsSome (g.S.Source.seen l.source).left → log (told (g.S.Source.seen l.fn.source).left) ≡ log_from l.reader.header l.events (stream l.reader.ahead (g.S.Source.seen l.source).left);
+  place : IsSome (g.S.Source.seen l.source).left → l.reader.place + length (stream l.reader.ahead (g.S.Source.seen l.source).left) ≡ length (told (g.S.Source.seen l.fn.source).left);
+  counted : length l.events ≤ sum l.reader.turns.counts;
+  few : length l.events ≤ most_events;
+  count : (g.S.Source.seen l.fn.source).faults ≤ (g.S.Source.seen l.source).faults;
+}
+
+abbrev pub decreases-records : goal.decreases-records
+decreases-records g l = 1048560 - sum l.reader.turns.counts

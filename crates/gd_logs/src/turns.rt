@@ -1,0 +1,65 @@
+ghost use Rattle.std.specs.Prelude.{◌≡◌, ◌≤◌, [], ◌∷◌, ◌++◌, List, sum, OnOk, OnErr};
+ghost use Rattle.gd_events.specs.Events.{Event};
+ghost use Rattle.gd_grammar.specs.LogBytes.{turn_fault};
+ghost use Rattle.gd_logs.specs.Turns.{Follows, Took, OneMore, TurnIs};
+
+use gd_base::LogWhy;
+use gd_events::Event;
+use std::marker::Model;
+
+/// For each site, how many events came, and the clock of the last.
+#[derive(Drop)]
+pub struct Turns {
+    counts: [u16; 16],
+    clocks: [u64; 16],
+}
+
+impl Model for Turns {
+    ghost use Rattle.std.specs.Prelude.{◌≡◌, ◌≤◌, length, All};
+    ghost use Rattle.gd_logs.specs.Turns.{Turns as TurnsValue};
+
+    ghost Value = { TurnsValue };
+
+    ghost view = { λ t. record { counts = t.counts; clocks = t.clocks } };
+
+    ghost invariant = { λ t. (length t.counts ≡ 16) × All (λ c. c ≤ 65535) t.counts };
+}
+
+impl Turns {
+    /// No events so far.
+    pub fn new() -> Self
+        ensures none { Follows result [] }
+        ensures zero { sum result.counts ≡ 0 }
+    {
+        Turns {
+            counts: [0; 16],
+            clocks: [0; 16],
+        }
+    }
+
+    /// Takes the event, if it is next in turn in a session of `n` sites. Else the reason is answered, and nothing changes.
+    #[tactic(auto, unfolding(gd_grammar::specs::LogBytes::turn_fault))]
+    pub fn take(&mut self, n: u8, event: &Event) -> Result<(), LogWhy>
+        requires { n ≤ 16 }
+        ensures exact { (seen : List Event) → Follows self.old seen → TurnIs result (turn_fault n seen event.now) }
+        ensures follows { OnOk result ((seen : List Event) → Follows self.old seen → Took seen event.now self.new) }
+        ensures one_more { OnOk result (OneMore self.old self.new) }
+        ensures err { OnErr result (self.new ≡ self.old) }
+    {
+        let site = event.stamp().site();
+        let clock = event.stamp().clock();
+        if site > n {
+            return Err(LogWhy::NoSite);
+        }
+        let i = (site - 1) as usize;
+        if u32::from(event.number()) != u32::from(self.counts[i]) + 1 {
+            return Err(LogWhy::Turn);
+        }
+        if clock <= self.clocks[i] {
+            return Err(LogWhy::Backdated);
+        }
+        self.counts[i] = event.number();
+        self.clocks[i] = clock;
+        Ok(())
+    }
+}

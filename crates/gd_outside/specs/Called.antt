@@ -1,0 +1,21 @@
+-- What comes together at each call on an object outside: what isn't told before it isn't told after it, the object's
+-- count of faults doesn't fall, and a failure has its cause.
+use Rattle.std.specs.Prelude.{◌≤◌, IsSome}
+use Rattle.gd_outside.specs.Causes.{Rose}
+use Rattle.gd_outside.specs.Seen.{SeenSource, SeenSink, SeenJournal}
+
+pub record SourceCalled (old new : SeenSource) (failed : Type 0) : Type 0 where
+  pub was : IsSome new.left → IsSome old.left
+  pub count : old.faults ≤ new.faults
+  pub cause : failed → Rose old.faults new.faults
+
+pub record SinkCalled (old new : SeenSink) (failed : Type 0) : Type 0 where
+  pub was : IsSome new.bytes → IsSome old.bytes
+  pub count : old.faults ≤ new.faults
+  pub cause : failed → Rose old.faults new.faults
+
+pub record JournalCalled (old new : SeenJournal) (failed : Type 0) : Type 0 where
+  pub was : IsSome new.contents → IsSome old.contents
+  pub name_was : IsSome new.name → IsSome old.name
+  pub count : old.faults ≤ new.faults
+  pub cause : failed → Rose old.faults new.faults
