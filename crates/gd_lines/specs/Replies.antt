@@ -14,7 +14,7 @@ use Rattle.gd_lines.specs.declared.reply.Reply.{Reply}
 use Rattle.gd_lines.specs.declared.reply.Reply.TheVariants.{Ready, Done, Refused, Item, End, Status, Noted, Who, Applied, Dropped, Reworked, Backdated, BadFrame, NotTaken, LongFrame, Polled, LinkFault, Mail, Delivered, BadLog, Usage, LineLimit, Arrivals, SiteLine, Churned, Same}
 use Rattle.gd_lines.specs.Text.{id_text, parent_text, item_line, end_line, bad_log_line}
 
--- why a line has no effect
+-- why a line is refused
 abbrev pub refusal_word : Refusal → List ℕ
 refusal_word why.LongLine = codes "LongLine"
 refusal_word why.UnknownCommand = codes "UnknownCommand"
@@ -66,7 +66,8 @@ unfoldable pub status_line : SiteStatus → List ℕ
 status_line status = status_text status ++ codes "\n"
 
 unfoldable pub site_line : ℕ → SiteStatus → List ℕ
-site_line site status = codes "site " ++ decimal site ++ codes " " ++ status_text status ++ codes "\n"
+site_line site status =
+    codes "site " ++ decimal site ++ codes " " ++ status_text status ++ codes "\n"
 
 unfoldable pub noted_line : ℕ → List ℕ
 noted_line number = codes "noted " ++ decimal number ++ codes "\n"
@@ -78,7 +79,8 @@ name_text (Some name) = name
 
 unfoldable pub who_line : ℕ → Note → List ℕ
 who_line site note =
-    codes "who " ++ decimal site ++ codes " " ++ name_text note.name ++ codes " focus " ++ parent_text note.focus ++ codes "\n"
+    codes "who " ++ decimal site ++ codes " " ++ name_text note.name
+    ++ codes " focus " ++ parent_text note.focus ++ codes "\n"
 
 unfoldable pub applied_line : Stamp → List ℕ
 applied_line id = codes "echo " ++ id_text id ++ codes " applied\n"
@@ -87,18 +89,23 @@ unfoldable pub dropped_line : Stamp → Stamp → List ℕ
 dropped_line id by = codes "echo " ++ id_text id ++ codes " dropped by " ++ id_text by ++ codes "\n"
 
 unfoldable pub reworked_line : Stamp → ℕ → List ℕ
-reworked_line id count = codes "echo " ++ id_text id ++ codes " reworked " ++ decimal count ++ codes "\n"
+reworked_line id count =
+    codes "echo " ++ id_text id ++ codes " reworked " ++ decimal count ++ codes "\n"
 
 -- the event's clock, and the sure clock
 unfoldable pub backdated_line : Stamp → ℕ → ℕ → List ℕ
-backdated_line id clock sure = codes "event " ++ id_text id ++ codes " refused: Backdated " ++ decimal clock ++ codes " " ++ decimal sure ++ codes "\n"
+backdated_line id clock sure =
+    codes "event " ++ id_text id ++ codes " refused: Backdated " ++ decimal clock
+    ++ codes " " ++ decimal sure ++ codes "\n"
 
 unfoldable pub bad_frame_line : WireFault → List ℕ
-bad_frame_line fault = codes "frame refused: " ++ wire_word fault.why ++ codes " at " ++ decimal fault.at ++ codes "\n"
+bad_frame_line fault =
+    codes "frame refused: " ++ wire_word fault.why ++ codes " at " ++ decimal fault.at ++ codes "\n"
 
--- so many events acknowledged, of so many
+-- `k` events acknowledged, where the site has made `own`
 unfoldable pub over_ack_line : ℕ → ℕ → List ℕ
-over_ack_line k own = codes "frame refused: OverAck " ++ decimal k ++ codes " " ++ decimal own ++ codes "\n"
+over_ack_line k own =
+    codes "frame refused: OverAck " ++ decimal k ++ codes " " ++ decimal own ++ codes "\n"
 
 abbrev pub not_taken_line : FrameFault → List ℕ
 not_taken_line frame.Session = codes "frame refused: Session\n"
@@ -135,7 +142,8 @@ arrivals_line applied dropped reworked undone =
 
 unfoldable pub churned_line : ℕ → ℕ → ℕ → ℕ → ℕ → List ℕ
 churned_line edits refused sent delivered idle =
-    codes "edits " ++ decimal edits ++ codes " refused " ++ decimal refused ++ codes " sent " ++ decimal sent
+    codes "edits " ++ decimal edits ++ codes " refused " ++ decimal refused
+    ++ codes " sent " ++ decimal sent
     ++ codes " delivered " ++ decimal delivered ++ codes " idle " ++ decimal idle ++ codes "\n"
 
 abbrev pub same_line : Bool → List ℕ
@@ -166,7 +174,9 @@ reply_text (Delivered number) = delivered_line number
 reply_text (BadLog at why) = bad_log_line at why
 reply_text Usage = usage_line
 reply_text LineLimit = line_limit_line
-reply_text (Arrivals applied dropped reworked undone) = arrivals_line applied dropped reworked undone
+reply_text (Arrivals applied dropped reworked undone) =
+    arrivals_line applied dropped reworked undone
 reply_text (SiteLine site status) = site_line site status
-reply_text (Churned edits refused sent delivered idle) = churned_line edits refused sent delivered idle
+reply_text (Churned edits refused sent delivered idle) =
+    churned_line edits refused sent delivered idle
 reply_text (Same same) = same_line same

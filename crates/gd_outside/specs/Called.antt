@@ -1,11 +1,14 @@
 -- What comes together at each call on an object outside: what isn't told before it isn't told after it, the object's
 -- count of faults doesn't fall, and a failure has its cause.
-use Rattle.std.specs.Prelude.{◌≤◌, IsSome}
+use Rattle.std.specs.Prelude.{ℕ, ◌≤◌, List, IsSome}
 use Rattle.gd_outside.specs.Causes.{Rose}
 use Rattle.gd_outside.specs.Seen.{SeenSource, SeenSink, SeenJournal}
+use Rattle.gd_outside.specs.Told.{HandsOut}
 
 pub record SourceCalled (old new : SeenSource) (failed : Type 0) : Type 0 where
-  pub was : IsSome new.left → IsSome old.left
+  -- the bytes that were taken
+  pub taken : List ℕ
+  pub handed : HandsOut old.left taken new.left
   pub count : old.faults ≤ new.faults
   pub cause : failed → Rose old.faults new.faults
 

@@ -3,6 +3,7 @@ use Rattle.std.specs.Prelude.{IsSome, None}
 use Rattle.gd_events.specs.Ordered.{are_distinct}
 use Rattle.gd_grammar.specs.LogBytes.{log}
 use Rattle.gd_grammar.proofs.DistinctLemmas.{Reached}
+use Rattle.gd_outside.specs.Called.{SourceCalled}
 use Rattle.gd_outside.specs.Told.{told}
 use Rattle.gd_logs.specs.Stream.{stream}
 use Rattle.gd_logs.specs.Turns.{Follows, most_events}
@@ -11,7 +12,7 @@ use Rattle.gd_logs.proofs.log.read_log.Given as goal
 
 abbrev pub invariant-records : goal.invariant-records
 invariant-records g l = record {
-  was : IsSome (g.S.Source.seen l.source).left → IsSome (g.S.Source.seen l.fn.source).left;
+  called : SourceCalled (g.S.Source.seen l.fn.source) (g.S.Source.seen l.source) ⊥;
   follows : Follows l.reader.turns l.events;
   reached : Reached l.events l.events;
   apart : are_distinct l.events ≡ true;
@@ -20,7 +21,6 @@ invariant-records g l = record {
   place : IsSome (g.S.Source.seen l.source).left → l.reader.place + length (stream l.reader.ahead (g.S.Source.seen l.source).left) ≡ length (told (g.S.Source.seen l.fn.source).left);
   counted : length l.events ≤ sum l.reader.turns.counts;
   few : length l.events ≤ most_events;
-  count : (g.S.Source.seen l.fn.source).faults ≤ (g.S.Source.seen l.source).faults;
 }
 
 abbrev pub decreases-records : goal.decreases-records

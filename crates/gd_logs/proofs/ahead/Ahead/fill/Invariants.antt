@@ -1,4 +1,5 @@
 use Rattle.std.proofs.Common.{◌≡◌, ◌-◌, ◌≤◌, length, take}
+use Rattle.gd_outside.specs.Called.{SourceCalled}
 use Rattle.gd_logs.specs.Stream.{ReadsAhead}
 use Rattle.gd_logs.proofs.ahead.Ahead.fill.Given as goal
 
@@ -8,7 +9,7 @@ invariant-loop-self g l = record {
   in_bytes : l.self-inside.end ≤ 65536;
   whole : length l.self-inside.bytes ≡ 65536;
   stream : ReadsAhead l.fn.self (g.S.Source.seen l.initial.source).left (take l.self-inside.end l.self-inside.bytes) (g.S.Source.seen l.source).left;
-  count : (g.S.Source.seen l.initial.source).faults ≤ (g.S.Source.seen l.source).faults;
+  called : SourceCalled (g.S.Source.seen l.initial.source) (g.S.Source.seen l.source) ⊥;
 }
 
 abbrev pub decreases-loop-self : goal.decreases-loop-self
