@@ -82,7 +82,8 @@ abbrev pub in_log : {A : Type 0} → Result A FieldFault → Result A LogFault
 in_log (Ok x) = Ok x
 in_log (Err fault) = Err (record { why = log_why fault.why; left = fault.left })
 
--- how many events of the site there are, and the clock of the last, or 0
+-- How many events of the site there are, and the clock of the last. Where there is none that is 0, which is below each clock
+-- that is read.
 abbrev pub count_of : ℕ → List Event → ℕ
 count_of site events = count_by (λ e. e.stamp.site == site) events
 

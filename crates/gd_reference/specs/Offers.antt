@@ -1,4 +1,4 @@
--- What a slow site does with the events and the frames of other sites.
+-- What a reference site does with the events and the frames of other sites.
 --
 -- An event that another site made is a repeat where its number is at most the count of that site's events that are held,
 -- and there is a gap before it where its number is above that count plus one. Else it is backdated where its clock is at
@@ -11,13 +11,15 @@
 -- sender's events that are held is the frame's count, the sender's sure clock becomes the frame's clock where that is
 -- greater; then its note is kept where its number is greater.
 use Rattle.std.specs.Prelude.{ℕ, ◌+◌, max, List, [], ◌∷◌, ◌++◌, length, take, drop, Option, Some, None, ◌==◌, nat_lt, nat_le, if◌then◌else◌}
+use Rattle.gd_base.specs.Notes.{newer}
 use Rattle.gd_base.specs.declared.offer.Offer.{Offer}
 use Rattle.gd_base.specs.declared.offer.Offer.TheVariants.{Next, Repeat, Gap, Backdated}
 use Rattle.gd_base.specs.declared.refusal.FrameFault.{FrameFault}
 use Rattle.gd_base.specs.declared.refusal.FrameFault.TheVariants.{Session, NotForMe, FromMe, NoSuchSite, OverAck}
 use Rattle.gd_events.specs.Events.{Event}
 use Rattle.gd_grammar.specs.FrameBytes.{Frame, Head, most_frame_events}
-use Rattle.gd_reference.specs.PerSite.{put, is_site}
+use Rattle.gd_base.specs.Sites.{is_site}
+use Rattle.gd_reference.specs.PerSite.{put}
 use Rattle.gd_reference.specs.SlowSite.{SlowSite, count, own, clock}
 
 -- ---- an event
@@ -83,10 +85,7 @@ with_beat slow f =
     else slow
 
 abbrev pub with_note : SlowSite → Frame → SlowSite
-with_note slow f =
-    if nat_lt (slow.notes f.head.from).number f.note.number
-    then record slow { notes = put slow.notes f.head.from f.note }
-    else slow
+with_note slow f = record slow { notes = put slow.notes f.head.from (newer (slow.notes f.head.from) f.note) }
 
 -- what is left of a frame once its events have arrived
 abbrev pub finished : SlowSite → Frame → SlowSite
