@@ -79,7 +79,8 @@ fn misses_links(id: Stamp, part: Part, f: &Op) -> bool
 
 /// Whether no link of a group's members is met by a touch of `f`.
 fn links_miss(e: &Op, t: Stamp, f: &Op) -> bool
-    ensures { result ≡ list_all (λ m. misses (touches t f.now) (link_touch m)) (members_of e.now) }
+    ensures { result
+        ≡ list_all (λ m. misses (touches t f.now) (link_touch m)) (members_of e.now) }
 {
     members_of(e)
         .iter()
@@ -95,7 +96,8 @@ fn meets(id: Stamp, part: Part, other: Stamp, other_part: Part) -> bool
 
 /// Whether both are one part, or one of them is the whole.
 fn parts_meet(part: Part, other: Part) -> bool
-    ensures { result ≡ (is_same_part part other || (is_same_part part Part.Whole || is_same_part other Part.Whole)) }
+    ensures { result
+        ≡ (is_same_part part other || (is_same_part part Part.Whole || is_same_part other Part.Whole)) }
 {
     is_same_part(part, other) || is_same_part(part, Part::Whole) || is_same_part(other, Part::Whole)
 }

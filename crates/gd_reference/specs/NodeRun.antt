@@ -26,7 +26,7 @@ use Rattle.gd_lines.specs.declared.reply.Reply.TheVariants as reply
 use Rattle.gd_reference.specs.Said.{says, all_said}
 use Rattle.gd_reference.specs.SiteEffects.{tries, edit_reply, note_reply, of_edit, of_read, after_read}
 use Rattle.gd_reference.specs.SlowSite.{SlowSite, new_site, journal_header, status}
-use Rattle.gd_grammar.specs.Spelling.{AreBytes}
+use Rattle.gd_grammar.specs.FieldBytes.{AreBytes}
 use Rattle.gd_reference.specs.DrawingText.{drawing_replies}
 use Rattle.gd_reference.specs.World.{after_line, Names, Focuses}
 

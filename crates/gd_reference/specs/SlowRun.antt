@@ -3,7 +3,7 @@ use Rattle.std.specs.Prelude.{ℕ, Bool, false, List, [], ◌∷◌, ◌++◌, m
 use Rattle.gd_events.specs.Events.{Event}
 use Rattle.gd_outside.specs.declared.status.Status.{Status}
 use Rattle.gd_outside.specs.declared.status.Status.TheVariants as status
-use Rattle.gd_grammar.specs.LogBytes.{Header, LogFault, log}
+use Rattle.gd_grammar.specs.LogBytes.{Header, LogMisread, log}
 use Rattle.gd_model.specs.Drawing.{picture}
 use Rattle.gd_grammar.specs.Reading.{place}
 use Rattle.gd_lines.specs.declared.reply.Reply.TheVariants as reply
@@ -17,14 +17,14 @@ abbrev pub replay_effects : List Event → List Effect
 replay_effects events = map Work (costs events) ++ all_said (drawing_replies (picture events))
 
 -- what `replay` does with bytes that were read so, a log or none
-abbrev pub replayed_as : List ℕ → Result (Header × List Event) LogFault → List Effect
+abbrev pub replayed_as : List ℕ → Result (Header × List Event) LogMisread → List Effect
 replayed_as bytes (Ok found) = replay_effects found.1
 replayed_as bytes (Err fault) = says (reply.BadLog (place bytes fault.left) fault.why) ∷ []
 
 abbrev pub replayed : List ℕ → List Effect
 replayed bytes = replayed_as bytes (log bytes)
 
-abbrev pub ended_as : Result (Header × List Event) LogFault → Status
+abbrev pub ended_as : Result (Header × List Event) LogMisread → Status
 ended_as (Ok found) = status.Done
 ended_as (Err fault) = status.BadLog
 

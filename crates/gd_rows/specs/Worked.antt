@@ -12,7 +12,7 @@ use Rattle.gd_base.specs.declared.fault.LogWhy.TheVariants.{Short, Magic, Versio
 use Rattle.gd_base.specs.declared.fault.WireWhy.{WireWhy}
 use Rattle.gd_base.specs.declared.fault.WireWhy.TheVariants as wire
 use Rattle.gd_grammar.specs.FrameBytes.{Frame, Misread}
-use Rattle.gd_grammar.specs.LogBytes.{Header, LogFault}
+use Rattle.gd_grammar.specs.LogBytes.{Header, LogMisread}
 use Rattle.gd_effects.specs.Effects.{Effect, Print, Work}
 
 abbrev pub at_stamp : ℕ → ℕ → Stamp
@@ -281,11 +281,11 @@ abbrev pub begun_log : List ℕ → List ℕ
 begun_log bytes = header_bytes ++ 195 ∷ 0 ∷ 0 ∷ 0 ∷ 0 ∷ 0 ∷ 3 ∷ 1 ∷ 0 ∷ 1 ∷ bytes
 
 -- why bytes are no log, and how many of them stand from the fault's place on
-abbrev pub fault_at : LogWhy → ℕ → LogFault
+abbrev pub fault_at : LogWhy → ℕ → LogMisread
 fault_at why left = record { why = why; left = left }
 
 -- The log of the tie has 70 bytes, and its records begin at the bytes 11 and 40.
-abbrev pub log_faults : List (List ℕ × LogFault)
+abbrev pub log_faults : List (List ℕ × LogMisread)
 log_faults =
     -- another format, another version, and a site 0
     (set header_bytes 3 108, fault_at Magic 11)

@@ -10,7 +10,8 @@ use Rattle.gd_base.specs.declared.site_status.SiteStatus.{SiteStatus}
 use Rattle.gd_events.specs.declared.op.Op.TheVariants as op
 use Rattle.gd_events.specs.Events.{Event}
 use Rattle.gd_effects.specs.Effects.{Effect, Print, Record, Work}
-use Rattle.gd_grammar.specs.FrameBytes.{Frame, Head}
+use Rattle.gd_grammar.specs.FrameBytes.{Frame}
+use Rattle.gd_grammar.specs.declared.frame.Head.{Head}
 use Rattle.gd_reference.specs.Offers.{take_frame}
 use Rattle.gd_base.specs.Notes.{no_note}
 use Rattle.gd_reference.specs.SlowSite.{SlowSite, new_site}

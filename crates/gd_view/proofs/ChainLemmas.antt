@@ -3,6 +3,7 @@ use Rattle.std.proofs.Common.{◌≡◌, ℕ, zero, suc, ◌≤◌, Bool, true, 
 use Rattle.std.proofs.lemmas.Int.{ints}
 use Rattle.std.specs.Prelude.{option_map, is_some}
 use Rattle.std.specs.FinMap as map_of
+use Rattle.gd_base.specs.declared.ranges.TheConstants.{SESSION_EVENTS}
 use Rattle.gd_base.specs.Stamps.{stamp_cmp, is_before}
 use Rattle.gd_base.specs.Stamps.{Stamp}
 use Rattle.gd_model.specs.declared.object.Link.{Link}
@@ -11,12 +12,22 @@ use Rattle.gd_model.specs.declared.object.Body.{Body}
 use Rattle.gd_model.specs.Objects.{body}
 use Rattle.gd_model.specs.Drawing.{Drawing}
 use Rattle.gd_model.specs.Board.{Board, listed}
-use Rattle.gd_model.specs.Shown as view
-use Rattle.gd_model.specs.Shown.{above_in, above, above_by, through, nothing_above}
+use Rattle.gd_model.specs.Shown.{above_in, above_by, through, nothing_above}
 use Rattle.gd_drawing.proofs.Listed.{find-listed}
-use Rattle.gd_view.specs.declared.places.Above.{Above}
-use Rattle.gd_view.specs.Seen.{told}
-use Rattle.gd_view.specs.Chains.{first_parent, joined, after_link, group_in, Within}
+use Rattle.gd_model.specs.declared.above.Above.{Above}
+use Rattle.gd_view.specs.Chains.{first_parent, parent_by, with_link, group_in, Within}
+
+-- what stands above, with the sum of the part of the chain before it
+abbrev joined_by : Above → Above → Above
+joined_by s a = record { parent = first_parent s.parent a.parent; dx = s.dx +ℤ a.dx; dy = s.dy +ℤ a.dy }
+
+-- the same, where the rest is known
+abbrev joined : Above → Option Above → Option Above
+joined s x = option_map (joined_by s) x
+
+-- the sum with one link more, at the far end of the chain
+abbrev pub after_link : Above → Link → Body → Above
+after_link s l g = with_link s (first_parent s.parent (parent_by l g)) l g
 
 -- the group of a link to a greater id
 pub group_found : (b : Board) (below : Stamp) (l : Link) (x : Option Object) → is_before below l.parent ≡ true → x ≡ map_of.get b l.parent → option_map body x ≡ group_in (listed b) below l
@@ -31,7 +42,7 @@ pub record Followed (n : ℕ) (d : Drawing) (id : Stamp) (start : Option Link) (
   pub whole : joined sum (above_in left d below next) ≡ above_in n d id start
 
 -- an empty sum adds nothing
-started : (x : Option view.Above) → joined (record { parent = None; dx = pos 0; dy = pos 0 }) x ≡ x
+started : (x : Option Above) → joined (record { parent = None; dx = pos 0; dy = pos 0 }) x ≡ x
 started None = refl
 started (Some a) =
     let xs : pos 0 +ℤ a.dx ≡ a.dx = omega (arith, ints) in
@@ -49,7 +60,7 @@ parents None false l q = refl
 parents (Some r) b l q = refl
 
 -- a link in front of the rest is one behind the sum
-one_more : (s : Above) (l : Link) (g : Body) (x : Option view.Above) → joined s (option_map (above_by l g) x) ≡ joined (after_link s l g) x
+one_more : (s : Above) (l : Link) (g : Body) (x : Option Above) → joined s (option_map (above_by l g) x) ≡ joined (after_link s l g) x
 one_more s l g None = refl
 one_more s l g (Some a) =
     let xs : s.dx +ℤ ((l.dx +ℤ g.x) +ℤ a.dx) ≡ (s.dx +ℤ (l.dx +ℤ g.x)) +ℤ a.dx = omega (arith, ints) in
@@ -88,13 +99,24 @@ lost {d = d} {sum = sum} {below = below} next f l m e g h =
     ∙ (λ i. joined sum (above_in (sym h i) d below (sym e i)))
     ∙ f.whole
 
+-- one link in front of the rest of a chain
+pub in_front : (l : Link) (g : Body) (a : Above) → with_link a (first_parent (parent_by l g) a.parent) l g ≡ above_by l g a
+in_front l g a =
+    let xs : a.dx +ℤ (l.dx +ℤ g.x) ≡ (l.dx +ℤ g.x) +ℤ a.dx = omega (arith, ints) in
+    let ys : a.dy +ℤ (l.dy +ℤ g.y) ≡ (l.dy +ℤ g.y) +ℤ a.dy = omega (arith, ints) in
+    λ i. record { parent = by g.dissolved i; dx = xs i; dy = ys i }
+  where
+    by : (t : Bool) → first_parent (cond t None (Some l.parent)) a.parent ≡ cond t a.parent (Some l.parent)
+    by true = refl
+    by false = refl
+
 -- no parent behind the first one
 first_none : (p : Option Stamp) → p ≡ first_parent p None
 first_none None = refl
 first_none (Some r) = refl
 
 -- nothing stands above the end of a chain
-ended : (s : Above) → Some (told s) ≡ joined s (Some nothing_above)
+ended : (s : Above) → Some s ≡ joined s (Some nothing_above)
 ended s =
     let xs : s.dx ≡ s.dx +ℤ pos 0 = omega (arith, ints) in
     let ys : s.dy ≡ s.dy +ℤ pos 0 = omega (arith, ints) in
@@ -102,7 +124,7 @@ ended s =
 
 -- the chain ends
 pub finish : {n : ℕ} {d : Drawing} {id : Stamp} {start : Option Link} {left : ℕ} {sum : Above} {below : Stamp} (next : Option Link) → Followed n d id start left sum below next
-    → next ≡ None → Some (told sum) ≡ above_in n d id start
+    → next ≡ None → Some sum ≡ above_in n d id start
 finish {d = d} {left = left} {sum = sum} {below = below} next f e = ended sum ∙ ap (λ x. joined sum (above_in left d below x)) (sym e) ∙ f.whole
 
 -- no link is followed beyond the bound
@@ -116,7 +138,7 @@ cut None f e h = cc
 cut {d = d} {sum = sum} {below = below} (Some l) f e h = at_bound sum d below l ∙ ap (λ m. joined sum (above_in m d below (Some l))) (sym h) ∙ f.whole
 
 -- a sum of few links is one of at most all
-pub wider : (n : ℕ) (s : Above) → n ≤ 1048560 → Within n s → Within 1048560 s
+pub wider : (n : ℕ) (s : Above) → n ≤ SESSION_EVENTS → Within n s → Within SESSION_EVENTS s
 wider n s h w =
     let left = w.left in
     let right = w.right in

@@ -1,16 +1,14 @@
 -- What stands above all objects, by what is known of greater ids.
-use Rattle.std.proofs.Common.{◌≡◌, ℕ, zero, suc, ◌+◌, ◌<◌, ◌≤◌, Bool, true, false, cond, ◌||◌, List, [], ◌∷◌, ◌++◌, map, length, drop, Option, None, Some, refl, sym, ap, ◌∙◌, subst, T, arith, Ordering, ◌+ℤ◌}
+use Rattle.std.proofs.Common.{◌≡◌, ℕ, zero, suc, ◌+◌, ◌<◌, ◌≤◌, Bool, true, false, cond, ◌||◌, List, [], ◌∷◌, ◌++◌, map, length, drop, Option, None, Some, refl, sym, ap, ◌∙◌, subst, T, arith}
 use Rattle.std.specs.Prelude.{option_map, is_some, IfSome}
 use Rattle.std.specs.Option.{option_flatten}
-use Rattle.std.specs.Ordering.{match_ordering}
-use Rattle.std.specs.declared.cmp.Ordering.TheVariants.{Less, Equal, Greater}
-use Rattle.std.specs.List.{IsDistinct, AllByRecursion}
+use Rattle.std.specs.List.{IsDistinct, AllByRecursion, list_any}
 use Rattle.std.specs.FinMap as map_of
-use Rattle.std.specs.FinMap.Entries.{put, by_order, below_all}
-use Rattle.std.specs.BTreeSet.{insert_key}
+use Rattle.std.specs.FinMap.Entries.{put, below_all}
 use Rattle.std.proofs.lemmas.Int.{ints}
 use Rattle.std.proofs.Math.Seq.{drop-length}
 use Rattle.indexmap.specs.IndexMap as index_map
+use Rattle.gd_base.specs.declared.ranges.TheConstants.{SESSION_EVENTS}
 use Rattle.gd_base.specs.Stamps.{stamp_cmp, is_same, is_before}
 use Rattle.gd_base.specs.contracts.stamp.StampPartialEq.TheImpl.{eq-value}
 use Rattle.gd_base.proofs.StampLemmas.{stamp_cmp-total, is_same-true, is_same-comm, is_before-apart, is_before-trans}
@@ -26,15 +24,14 @@ use Rattle.gd_drawing.proofs.Chains.{above-link}
 use Rattle.gd_drawing.proofs.Stacking.{t_first, t_second, of_t}
 use Rattle.gd_drawing.proofs.Lookups.{same_board}
 use Rattle.gd_canvas.specs.Slots.{Slots, board_of, ids, object_of, object_at}
-use Rattle.gd_view.specs.declared.places.Above.{Above}
+use Rattle.gd_model.specs.declared.above.Above.{Above}
 use Rattle.gd_view.specs.declared.known.Known.{Known}
-use Rattle.gd_view.specs.Seen.{told}
 use Rattle.gd_view.specs.Chains.{group_in, Within}
-use Rattle.gd_view.specs.Sums.{known, above_of, above_at, is_member, with_id, Sums, AreKnown}
+use Rattle.gd_view.specs.Sums.{known, above_of, above_at, with_id, AreKnown}
 use Rattle.gd_drawing.proofs.Listed.{find-listed}
 use Rattle.std.proofs.lemmas.List.{append-nil, append_assoc, length-append}
 use Rattle.gd_view.proofs.ChainLemmas.{wider}
-use Rattle.gd_view.proofs.LevelLemmas.{apart_none}
+use Rattle.gd_view.proofs.LevelLemmas.{apart_none, put_key}
 use Rattle.gd_view.proofs.WalkLemmas.{same_test, no_length}
 
 -- ---- one object
@@ -53,11 +50,11 @@ pub sum_none : (d : Drawing) (id : Stamp) (l : Link) → None ≡ group_in d id 
 sum_none d id l e = ap (λ x. through l x (λ g. above d l.parent g.link)) e ∙ sym (above_group d id l)
 
 -- a link to a group whose sum is known
-pub sum_some : (d : Drawing) (id : Stamp) (l : Link) (g : Body) (x : Option Above) → Some g ≡ group_in d id l → (is_before id l.parent ≡ true → option_map told x ≡ above_at d l.parent)
-    → option_map (above_by l g) (option_map told x) ≡ above d id (Some l)
+pub sum_some : (d : Drawing) (id : Stamp) (l : Link) (g : Body) (x : Option Above) → Some g ≡ group_in d id l → (is_before id l.parent ≡ true → x ≡ above_at d l.parent)
+    → option_map (above_by l g) x ≡ above d id (Some l)
 sum_some d id l g x e h = ap (option_map (above_by l g)) (there (is_before id l.parent) refl e) ∙ ap (λ y. through l y (λ g. above d l.parent g.link)) e ∙ sym (above_group d id l)
   where
-    there : (t : Bool) → is_before id l.parent ≡ t → Some g ≡ cond t (map_of.find stamp_cmp l.parent d) None → option_map told x ≡ above d l.parent g.link
+    there : (t : Bool) → is_before id l.parent ≡ t → Some g ≡ cond t (map_of.find stamp_cmp l.parent d) None → x ≡ above d l.parent g.link
     there true is f = h is ∙ ap (above_of d l.parent) (sym f)
     there false is f = cc
 
@@ -78,17 +75,6 @@ put_sum j k id x h q =
 
 -- ---- the ids of the slots
 
--- an id that is put in among the ids is put in among the keys
-put_ids : (id : Stamp) (o : Object) (ks : List Stamp) (es : List (Stamp × Object)) → ks ≡ map (λ e. e.0) es → insert_key stamp_cmp ks id ≡ map (λ e. e.0) (put stamp_cmp id o es)
-put_ids id o ks [] h = ap (λ l. insert_key stamp_cmp l id) h
-put_ids id o ks (e ∷ es) h = ap (λ l. insert_key stamp_cmp l id) h ∙ by (stamp_cmp id e.0) (put_ids id o (map (λ e. e.0) es) es refl)
-  where
-    by : (r : Ordering) → insert_key stamp_cmp (map (λ e. e.0) es) id ≡ map (λ e. e.0) (put stamp_cmp id o es)
-        → match_ordering r (id ∷ e.0 ∷ map (λ e. e.0) es) (e.0 ∷ map (λ e. e.0) es) (e.0 ∷ insert_key stamp_cmp (map (λ e. e.0) es) id) ≡ map (λ e. e.0) (by_order r ((id, o) ∷ e ∷ es) ((e.0, o) ∷ es) (e ∷ put stamp_cmp id o es))
-    by Less m = refl
-    by Equal m = refl
-    by Greater m = ap (λ l. e.0 ∷ l) m
-
 -- taking out an object that isn't there changes nothing
 removed_none : (b : Board) (id : Stamp) → map_of.get b id ≡ None → map_of.remove b id ≡ b
 removed_none b id h = same_board _ _ (λ q. map_of.get-remove stamp_cmp-total b id q ∙ by q (is_same q id) refl)
@@ -102,7 +88,7 @@ ids_step : (e : Stamp × Option Object) (es : Slots) (ks : List Stamp) → AllBy
     → with_id (option_map (λ p. p.0) (object_of (Some e))) ks ≡ map_of.keys (board_of (e ∷ es))
 unfolding board_of
 ids_step (id, None) es ks d h = h ∙ ap map_of.keys (sym (removed_none (board_of es) id (apart_none id es d)))
-ids_step (id, Some o) es ks d h = put_ids id o ks (map_of.entries (board_of es)) h ∙ ap (map (λ e. e.0)) (sym (map_of.entries-insert stamp_cmp-total (board_of es) id o))
+ids_step (id, Some o) es ks d h = put_key stamp_cmp id o ks (map_of.entries (board_of es)) h ∙ ap (map (λ e. e.0)) (sym (map_of.entries-insert stamp_cmp-total (board_of es) id o))
 
 -- the slot at the place k, put to those behind it
 pub ids_gathered : (es : Slots) (k : ℕ) (ks more : List Stamp) → IsDistinct is_same (ids es) → k < length es → ks ≡ map_of.keys (board_of (drop (suc k) es)) → more ≡ with_id (option_map (λ p. p.0) (object_at es k)) ks
@@ -123,12 +109,14 @@ ids_none es n ks e is = is ∙ sym no_ids ∙ sym (ap (λ l. map_of.keys (board_
 
 -- ---- the loop
 
--- one link of the sum
-pub told_through : (l : Link) (g : Body) (a r : Above) → r.parent ≡ cond g.dissolved a.parent (Some l.parent) → r.dx ≡ a.dx +ℤ (l.dx +ℤ g.x) → r.dy ≡ a.dy +ℤ (l.dy +ℤ g.y) → told r ≡ above_by l g (told a)
-told_through l g a r p x y =
-    let xs : r.dx ≡ (l.dx +ℤ g.x) +ℤ a.dx = omega (arith, ints, x) in
-    let ys : r.dy ≡ (l.dy +ℤ g.y) +ℤ a.dy = omega (arith, ints, y) in
-    λ i. record { parent = p i; dx = xs i; dy = ys i }
+-- the id is among these
+abbrev pub is_member : Stamp → List Stamp → Bool
+is_member q ks = list_any (is_same q) ks
+
+-- the sums of the objects with these ids are kept, and no others
+pub record Sums (d : Drawing) (done : List Stamp) (k : Known) : Type 0 where
+  pub are : (q : Stamp) → known k q ≡ cond (is_member q done) (above_at d q) None
+  pub within : (q : Stamp) → IfSome (known k q) (λ a. Within (length done) a)
 
 -- x is before all of them
 abbrev Below : Stamp → List Stamp → Type 0
@@ -187,7 +175,7 @@ by_key b q false h = no_key b q h
 
 -- the sums of greater ids are known
 pub known_above : {b : Board} {ks : List Stamp} {k : Known} {turn : ℕ} → Summed b ks k turn → (rest : List Stamp) (id : Stamp) → ks ≡ rest ++ id ∷ []
-    → (p : Stamp) → is_before id p ≡ true → option_map told (known k p) ≡ above_at (listed b) p
+    → (p : Stamp) → is_before id p ≡ true → known k p ≡ above_at (listed b) p
 known_above {b = b} {k = k} s rest id e p l =
     let all : map_of.keys b ≡ rest ++ id ∷ s.done = s.all ∙ ap (λ ks. ks ++ s.done) e ∙ append_assoc rest (id ∷ []) s.done in
     let rising : Rising (rest ++ id ∷ s.done) = subst Rising all (rising_keys (map_of.entries b) (map_of.entries_sorted b)) in
@@ -203,7 +191,7 @@ same_length [] = refl
 same_length (e ∷ es) = ap suc (same_length es)
 
 -- there are no more turns than objects
-pub few_turns : {b : Board} {ks : List Stamp} {k : Known} {turn : ℕ} → Summed b ks k turn → (rest : List Stamp) (id : Stamp) → ks ≡ rest ++ id ∷ [] → map_of.len b ≤ 1048560 → turn < 1048560
+pub few_turns : {b : Board} {ks : List Stamp} {k : Known} {turn : ℕ} → Summed b ks k turn → (rest : List Stamp) (id : Stamp) → ks ≡ rest ++ id ∷ [] → map_of.len b ≤ SESSION_EVENTS → turn < SESSION_EVENTS
 few_turns {b = b} {ks = ks} s rest id e h =
     let keys : length (map_of.entries b) ≡ length (map_of.keys b) = same_length (map_of.entries b) in
     let size : map_of.len b ≡ length (map_of.entries b) = map_of.len-entries b in
@@ -232,7 +220,7 @@ some_wider n None h = tt
 some_wider n (Some a) h = one_wider n a h
 
 -- the same up to all links
-all_wider : (n : ℕ) (x : Option Above) → n ≤ 1048560 → IfSome x (λ a. Within n a) → IfSome x (λ a. Within 1048560 a)
+all_wider : (n : ℕ) (x : Option Above) → n ≤ SESSION_EVENTS → IfSome x (λ a. Within n a) → IfSome x (λ a. Within SESSION_EVENTS a)
 all_wider n None l h = tt
 all_wider n (Some a) l h = wider n a l h
 
@@ -243,13 +231,13 @@ summed_none b ks k e h =
       done = [];
       all = sym e ∙ sym (append-nil ks);
       count = refl;
-      sums = record { are = λ q. ap (option_map told) (h q); within = λ q. subst (λ x. IfSome x (λ a. Within 0 a)) (sym (h q)) tt };
+      sums = record { are = h; within = λ q. subst (λ x. IfSome x (λ a. Within 0 a)) (sym (h q)) tt };
     }
 
 -- one turn
 pub summed_next : {b : Board} {ks : List Stamp} {k : Known} {turn : ℕ} → Summed b ks k turn → (rest : List Stamp) (id : Stamp) (x : Option Above) (next : Known) (more : ℕ)
     → ks ≡ rest ++ id ∷ []
-    → option_map told x ≡ above_at (listed b) id
+    → x ≡ above_at (listed b) id
     → IfSome x (λ a. Within (1 + turn) a)
     → ((q : Stamp) → known next q ≡ cond (is_same q id) x (known k q))
     → more ≡ turn + 1
@@ -263,12 +251,12 @@ summed_next {b = b} {k = k} {turn = turn} s rest id x next more e is within put 
       count = omega (arith, up, count);
       sums =
           record {
-            are = λ q. ap (option_map told) (put q) ∙ here q (is_same q id) refl;
+            are = λ q. put q ∙ here q (is_same q id) refl;
             within = λ q. subst (λ y. IfSome y (λ a. Within (suc (length s.done)) a)) (sym (put q)) (bound q (is_same q id) (subst (λ m. IfSome x (λ a. Within m a)) n within));
           };
     }
   where
-    here : (q : Stamp) (t : Bool) → is_same q id ≡ t → option_map told (cond t x (known k q)) ≡ cond (t || is_member q s.done) (above_at (listed b) q) None
+    here : (q : Stamp) (t : Bool) → is_same q id ≡ t → cond t x (known k q) ≡ cond (t || is_member q s.done) (above_at (listed b) q) None
     here q true h = is ∙ ap (above_at (listed b)) (sym (is_same-true q id h))
     here q false h = s.sums.are q
 
@@ -277,7 +265,7 @@ summed_next {b = b} {k = k} {turn = turn} s rest id x next more e is within put 
     bound q false w = some_wider (length s.done) (known k q) (s.sums.within q)
 
 -- after the last turn
-pub summed_all : {b : Board} {ks : List Stamp} {k : Known} {turn : ℕ} → Summed b ks k turn → ks ≡ [] → map_of.len b ≤ 1048560 → AreKnown (listed b) k
+pub summed_all : {b : Board} {ks : List Stamp} {k : Known} {turn : ℕ} → Summed b ks k turn → ks ≡ [] → map_of.len b ≤ SESSION_EVENTS → AreKnown (listed b) k
 summed_all {b = b} {k = k} s e few =
     let all : map_of.keys b ≡ s.done = s.all ∙ ap (λ ks. ks ++ s.done) e in
     let keys : length (map_of.entries b) ≡ length (map_of.keys b) = same_length (map_of.entries b) in

@@ -1,4 +1,4 @@
--- An object as it is shown, and what stands above it, as the code answers them.
+-- An object as it is shown.
 use Rattle.std.specs.Prelude.{◌+ℤ◌, Bool, false, if◌then◌else◌, Option, None, Some, option_map, is_none}
 use Rattle.std.specs.FinMap as map_of
 use Rattle.gd_base.specs.Stamps.{stamp_cmp}
@@ -6,16 +6,11 @@ use Rattle.gd_base.specs.Stamps.{Stamp}
 use Rattle.gd_model.specs.declared.object.Body.{Body}
 use Rattle.gd_model.specs.Drawing.{Drawing}
 use Rattle.gd_model.specs.Shown.{above, is_gone}
-use Rattle.gd_model.specs.Shown as view
-use Rattle.gd_view.specs.declared.places.Above.{Above}
+use Rattle.gd_model.specs.declared.above.Above.{Above}
 use Rattle.gd_view.specs.declared.places.Shown.{Shown}
 
--- what stands above an object
-abbrev pub told : Above → view.Above
-told a = record { parent = a.parent; dx = a.dx; dy = a.dy }
-
 -- an object with what stands above it
-abbrev pub shown_at : Body → view.Above → Shown
+abbrev pub shown_at : Body → Above → Shown
 shown_at b a =
     record {
       parent = a.parent;
@@ -37,7 +32,7 @@ seen_of d id (Some b) = seen_as d id b
 abbrev pub seen : Drawing → Stamp → Option Shown
 seen d id = seen_of d id (map_of.find stamp_cmp id d)
 
--- it is shown, and in no group
+-- it is shown, and in no group: of an object that isn't shown this is false
 abbrev pub has_no_parent : Option Shown → Bool
 has_no_parent None = false
 has_no_parent (Some s) = is_none s.parent

@@ -1,19 +1,17 @@
 -- What stands above all objects, gathered from the greatest id to the least.
-use Rattle.std.specs.Prelude.{◌≡◌, Bool, if◌then◌else◌, List, length, Option, None, Some, IfSome, option_map}
+use Rattle.std.specs.Prelude.{◌≡◌, List, Option, None, Some, IfSome}
 use Rattle.std.specs.Option.{option_flatten}
-use Rattle.std.specs.List.{list_any}
 use Rattle.std.specs.FinMap as map_of
 use Rattle.std.specs.BTreeSet.{insert_key}
 use Rattle.indexmap.specs.IndexMap as index_map
+use Rattle.gd_base.specs.declared.ranges.TheConstants.{SESSION_EVENTS}
 use Rattle.gd_base.specs.Stamps.{stamp_cmp, is_same}
 use Rattle.gd_base.specs.Stamps.{Stamp}
 use Rattle.gd_model.specs.declared.object.Body.{Body}
 use Rattle.gd_model.specs.Drawing.{Drawing}
 use Rattle.gd_model.specs.Shown.{above}
-use Rattle.gd_model.specs.Shown as view
-use Rattle.gd_view.specs.declared.places.Above.{Above}
+use Rattle.gd_model.specs.declared.above.Above.{Above}
 use Rattle.gd_view.specs.declared.known.Known.{Known}
-use Rattle.gd_view.specs.Seen.{told}
 use Rattle.gd_view.specs.Chains.{Within}
 
 -- the sum that is kept for an id
@@ -21,29 +19,20 @@ abbrev pub known : Known → Stamp → Option Above
 known k q = option_flatten (index_map.get is_same k.sums q)
 
 -- what stands above an object of that id, where it is there and not hidden
-abbrev pub above_of : Drawing → Stamp → Option Body → Option view.Above
+abbrev pub above_of : Drawing → Stamp → Option Body → Option Above
 above_of d q None = None
 above_of d q (Some g) = above d q g.link
 
 -- what stands above the object of that id in the drawing, where it is there and not hidden
-abbrev pub above_at : Drawing → Stamp → Option view.Above
+abbrev pub above_at : Drawing → Stamp → Option Above
 above_at d q = above_of d q (map_of.find stamp_cmp q d)
-
--- the id is among these
-abbrev pub is_member : Stamp → List Stamp → Bool
-is_member q ks = list_any (is_same q) ks
 
 -- one id more in its order, where there is one
 abbrev pub with_id : Option Stamp → List Stamp → List Stamp
 with_id None ks = ks
 with_id (Some id) ks = insert_key stamp_cmp ks id
 
--- the sums of the objects with these ids are kept, and no others
-pub record Sums (d : Drawing) (done : List Stamp) (k : Known) : Type 0 where
-  pub are : (q : Stamp) → option_map told (known k q) ≡ (if is_member q done then above_at d q else None)
-  pub within : (q : Stamp) → IfSome (known k q) (λ a. Within (length done) a)
-
 -- the sums of all objects are kept
 pub record AreKnown (d : Drawing) (k : Known) : Type 0 where
-  pub are : (q : Stamp) → option_map told (known k q) ≡ above_at d q
-  pub within : (q : Stamp) → IfSome (known k q) (λ a. Within 1048560 a)
+  pub are : (q : Stamp) → known k q ≡ above_at d q
+  pub within : (q : Stamp) → IfSome (known k q) (λ a. Within SESSION_EVENTS a)

@@ -41,7 +41,8 @@ impl Firsts {
         place: usize,
     ) -> Result<Option<usize>, AllocError>
         ensures old { IfOk result (λ old. old ≡ first_in self.old parent) }
-        ensures new { OnOk result ((q : Option stamps.Stamp) → first_in self.new q ≡ (if same_parent q parent then Some place else first_in self.old q)) }
+        ensures new { OnOk result ((q : Option stamps.Stamp) → first_in self.new q
+            ≡ (if same_parent q parent then Some place else first_in self.old q)) }
     {
         match parent {
             None => {

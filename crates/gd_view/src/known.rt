@@ -5,8 +5,8 @@ ghost use Rattle.gd_base.specs.Stamps as stamps;
 ghost use Rattle.gd_base.specs.Stamps.{is_same};
 ghost use Rattle.gd_view.specs.Sums.{known};
 
-use crate::places::Above;
 use gd_base::Stamp;
+use gd_model::Above;
 use indexmap::IndexMap;
 use std::alloc::{AllocError, Global};
 
@@ -36,7 +36,8 @@ impl Known {
     }
 
     pub(crate) fn put(&mut self, id: Stamp, sum: Option<Above>) -> Result<(), AllocError>
-        ensures { OnOk result ((q : stamps.Stamp) → known self.new q ≡ (if is_same q id then sum else known self.old q)) }
+        ensures { OnOk result ((q : stamps.Stamp) → known self.new q
+            ≡ (if is_same q id then sum else known self.old q)) }
     {
         self.sums.insert(id, sum)?;
         Ok(())

@@ -4,22 +4,15 @@ ghost use Rattle.std.specs.Prelude.{◌≡◌, IfOk, OnOk};
 ghost use Rattle.std.specs.FinMap as map_of;
 ghost use Rattle.gd_model.specs.Board.{stack};
 ghost use Rattle.gd_canvas.specs.Slots.{board_of, object_at};
-ghost use Rattle.gd_view.specs.Levels.{pairs, level_of, with_level};
+ghost use Rattle.gd_view.specs.Levels.{level_of, with_level};
 
-use gd_base::Stamp;
 use gd_canvas::Canvas;
+use gd_model::Level;
 use std::alloc::{AllocError, Global};
 use std::collections::BTreeSet;
 
-/// A place in the stack. Levels are ordered by rank, then by id.
-#[derive(Clone, Copy, PartialEq, Eq, PartialOrd, Ord)]
-pub(crate) struct Level {
-    pub rank: Stamp,
-    pub id: Stamp,
-}
-
 pub(crate) fn levels(alloc: Global, canvas: &Canvas) -> Result<BTreeSet<Level>, AllocError>
-    ensures { IfOk result (λ levels. pairs levels.keys ≡ map_of.keys (stack (board_of canvas.now))) }
+    ensures { IfOk result (λ levels. levels.keys ≡ map_of.keys (stack (board_of canvas.now))) }
 {
     let mut levels = BTreeSet::new(alloc);
     for place in (0..canvas.slots()).rev() {
@@ -41,7 +34,7 @@ fn level_at(canvas: &Canvas, place: usize) -> Option<Level>
     }
 }
 
-#[tactic(auto, unfolding(gd_base::specs::Stamps::stamp_cmp, gd_model::specs::Board::level_cmp))]
+#[tactic(auto, unfolding(gd_base::specs::Stamps::stamp_cmp, gd_model::specs::Ranks::rank_cmp, gd_model::specs::Ranks::level_cmp))]
 fn add(levels: &mut BTreeSet<Level>, level: Option<Level>) -> Result<(), AllocError>
     ensures { OnOk result (levels.new.keys ≡ with_level level levels.old.keys) }
 {

@@ -15,10 +15,11 @@ mod walk;
 mod write;
 
 pub use gd_base::Place;
+use gd_base::SESSION_EVENTS;
 pub use picture::Picture;
 pub use places::Shown;
 pub use seen::{is_top, shown};
 pub use write::write_text;
 
 /// How many objects a drawing may have.
-pub const OBJECTS: u32 = 1_048_560;
+pub const OBJECTS: u32 = SESSION_EVENTS;

@@ -2,28 +2,27 @@
 
 ghost use Rattle.std.specs.Prelude.{◌≡◌, ◌≤◌, ◌++◌, IfOk, OnOk, IfSome, option_map, option_to_list};
 ghost use Rattle.std.specs.FinMap as map_of;
+ghost use Rattle.gd_base.specs.declared.ranges.TheConstants.{SESSION_EVENTS};
 ghost use Rattle.gd_model.specs.Objects.{body};
 ghost use Rattle.gd_model.specs.Board.{listed};
 ghost use Rattle.gd_model.specs.Shown.{above, shape_of, item_at, shown, shown_items};
 ghost use Rattle.gd_canvas.specs.Slots.{board_of};
-ghost use Rattle.gd_view.specs.Seen.{told};
 ghost use Rattle.gd_view.specs.Chains.{Within};
 ghost use Rattle.gd_view.specs.Sums.{known, AreKnown};
 ghost use Rattle.gd_view.specs.Levels.{item_of};
 
 use crate::known::Known;
 use crate::levels::levels;
-use crate::places::Above;
 use crate::seen::{is_gone, place_at};
 use crate::sums::sums;
 use gd_base::{Item, ShapeItem, Stamp};
 use gd_canvas::Canvas;
-use gd_model::{Kind, Object};
+use gd_model::{Above, Kind, Object};
 use std::alloc::{AllocError, Global};
 
 /// The items of all objects that are shown, in list order.
 pub(crate) fn shown_items(alloc: Global, canvas: &Canvas) -> Result<Vec<Item>, AllocError>
-    requires { map_of.len (board_of canvas.now) ≤ 1048560 }
+    requires { map_of.len (board_of canvas.now) ≤ SESSION_EVENTS }
     ensures { IfOk result (λ items. items.items ≡ shown_items (listed (board_of canvas.now))) }
 {
     let table = sums(alloc, canvas)?;
@@ -48,7 +47,8 @@ fn put_last(items: &mut Vec<Item>, item: Option<Item>) -> Result<(), AllocError>
 /// The item of that id, where it is shown.
 fn item_of(canvas: &Canvas, table: &Known, id: Stamp) -> Option<Item>
     requires { AreKnown (listed (board_of canvas.now)) table.now }
-    ensures { result ≡ item_of (listed (board_of canvas.now)) id (option_map body (map_of.get (board_of canvas.now) id)) }
+    ensures { result
+        ≡ item_of (listed (board_of canvas.now)) id (option_map body (map_of.get (board_of canvas.now) id)) }
 {
     match canvas.get(id) {
         Some(object) => item(canvas, table, id, object),
@@ -58,23 +58,21 @@ fn item_of(canvas: &Canvas, table: &Known, id: Stamp) -> Option<Item>
 
 /// The item of an object, where it is shown.
 fn item(canvas: &Canvas, table: &Known, id: Stamp, object: &Object) -> Option<Item>
-    requires sum { option_map told (known table.now id) ≡ above (listed (board_of canvas.now)) id object.now.link }
-    requires within { IfSome (known table.now id) (λ a. Within 1048560 a) }
+    requires sum { known table.now id ≡ above (listed (board_of canvas.now)) id object.now.link }
+    requires within { IfSome (known table.now id) (λ a. Within SESSION_EVENTS a) }
     ensures { result ≡ shown (listed (board_of canvas.now)) (id, body object.now) }
 {
     if is_gone(object) {
         return None;
     }
-    match table.get(id) {
-        Some(sum) => Some(item_by(id, object, &sum)),
-        None => None,
-    }
+    let sum = table.get(id)?;
+    Some(item_by(id, object, &sum))
 }
 
 /// The item of an object, by what stands above it.
 fn item_by(id: Stamp, object: &Object, above: &Above) -> Item
-    requires { Within 1048560 above.now }
-    ensures { result ≡ item_at id (body object.now) (told above.now) }
+    requires { Within SESSION_EVENTS above.now }
+    ensures { result ≡ item_at id (body object.now) above.now }
 {
     let at = place_at(object, above);
     let shape = shape_of(object);

@@ -19,6 +19,7 @@ pub struct Picture {
 
 impl Model for Picture {
     ghost use Rattle.std.specs.Prelude.{List};
+    ghost use Rattle.gd_base.specs.declared.ranges.TheConstants.{SESSION_EVENTS};
     ghost use Rattle.gd_base.specs.declared.item.Item.{Item};
 
     ghost Value = { List Item };
@@ -29,7 +30,7 @@ impl Model for Picture {
 impl Picture {
     /// The picture of a drawing, which stays as it is.
     pub fn of(alloc: Global, canvas: &Canvas) -> Result<Picture, AllocError>
-        requires { map_of.len (board_of canvas.now) ≤ 1048560 }
+        requires { map_of.len (board_of canvas.now) ≤ SESSION_EVENTS }
         ensures { IfOk result (λ p. p ≡ items (listed (board_of canvas.now))) }
     {
         let shown = shown_items(alloc, canvas)?;

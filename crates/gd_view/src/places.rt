@@ -1,4 +1,4 @@
-//! Where an object is shown, and what stands above it.
+//! Where an object is shown.
 
 use gd_base::{Place, Stamp};
 use gd_model::Kind;
@@ -13,12 +13,4 @@ pub struct Shown {
     /// By how much it is moved.
     pub above: Place,
     pub kind: Kind,
-}
-
-/// What stands above an object: its effective parent, and the sum of the shifts and places along its chain.
-#[derive(Clone, Copy)]
-pub(crate) struct Above {
-    pub parent: Option<Stamp>,
-    pub dx: i64,
-    pub dy: i64,
 }

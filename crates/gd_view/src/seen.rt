@@ -2,22 +2,23 @@
 
 ghost use Rattle.std.specs.Prelude.{◌≡◌, ◌≤◌, ◌+ℤ◌, ◌≤ℤ◌, pos, neg_ℤ, length};
 ghost use Rattle.std.specs.FinMap as map_of;
+ghost use Rattle.gd_base.specs.declared.ranges.TheConstants.{SESSION_EVENTS};
 ghost use Rattle.gd_model.specs.Objects.{body};
 ghost use Rattle.gd_model.specs.Board.{listed};
 ghost use Rattle.gd_model.specs.Shown.{is_gone};
 ghost use Rattle.gd_canvas.specs.Slots.{board_of};
-ghost use Rattle.gd_view.specs.Seen.{told, shown_at, seen_as, seen, has_no_parent};
-ghost use Rattle.gd_view.specs.Chains.{Within};
+ghost use Rattle.gd_view.specs.Seen.{shown_at, seen_as, seen, has_no_parent};
+ghost use Rattle.gd_view.specs.Chains.{sum_limit, Within};
 
 use crate::chains::above;
-use crate::places::{Above, Shown};
+use crate::places::Shown;
 use gd_base::{Place, Stamp};
 use gd_canvas::Canvas;
-use gd_model::{Kind, Object};
+use gd_model::{Above, Kind, Object};
 
 /// The object of that id as it is shown. None where it isn't shown: it isn't there, is hidden, or is a dissolved group.
 pub fn shown(canvas: &Canvas, id: Stamp) -> Option<Shown>
-    requires { map_of.len (board_of canvas.now) ≤ 1048560 }
+    requires { map_of.len (board_of canvas.now) ≤ SESSION_EVENTS }
     ensures { result ≡ seen (listed (board_of canvas.now)) id }
 {
     match canvas.get(id) {
@@ -28,7 +29,7 @@ pub fn shown(canvas: &Canvas, id: Stamp) -> Option<Shown>
 
 /// Whether an object is shown, and stands in no group.
 pub fn is_top(canvas: &Canvas, id: Stamp) -> bool
-    requires { map_of.len (board_of canvas.now) ≤ 1048560 }
+    requires { map_of.len (board_of canvas.now) ≤ SESSION_EVENTS }
     ensures { result ≡ has_no_parent (seen (listed (board_of canvas.now)) id) }
 {
     match shown(canvas, id) {
@@ -38,22 +39,20 @@ pub fn is_top(canvas: &Canvas, id: Stamp) -> bool
 }
 
 fn shown_as(canvas: &Canvas, id: Stamp, object: &Object) -> Option<Shown>
-    requires { length (listed (board_of canvas.now)) ≤ 1048560 }
+    requires { length (listed (board_of canvas.now)) ≤ SESSION_EVENTS }
     ensures { result ≡ seen_as (listed (board_of canvas.now)) id (body object.now) }
 {
     if is_gone(object) {
         return None;
     }
-    match above(canvas, id, object.link) {
-        Some(above) => Some(shown_at(object, &above)),
-        None => None,
-    }
+    let above = above(canvas, id, object.link)?;
+    Some(shown_at(object, &above))
 }
 
 /// The object with what stands above it.
 fn shown_at(object: &Object, above: &Above) -> Shown
-    requires { Within 1048560 above.now }
-    ensures { result ≡ shown_at (body object.now) (told above.now) }
+    requires { Within SESSION_EVENTS above.now }
+    ensures { result ≡ shown_at (body object.now) above.now }
 {
     let at = place_at(object, above);
     let sum = place(above.dx, above.dy);
@@ -67,15 +66,16 @@ fn shown_at(object: &Object, above: &Above) -> Shown
 
 /// Where an object is shown.
 pub(crate) fn place_at(object: &Object, above: &Above) -> Place
-    requires { Within 1048560 above.now }
-    ensures { result ≡ record { x = object.now.x +ℤ above.now.dx; y = object.now.y +ℤ above.now.dy } }
+    requires { Within SESSION_EVENTS above.now }
+    ensures { result
+        ≡ record { x = object.now.x +ℤ above.now.dx; y = object.now.y +ℤ above.now.dy } }
 {
     place(moved(object.x, above.dx), moved(object.y, above.dy))
 }
 
 fn moved(own: i32, above: i64) -> i64
-    requires low { neg_ℤ (pos 9007199254740992) ≤ℤ above }
-    requires high { above ≤ℤ pos 9007199254740992 }
+    requires low { neg_ℤ (pos sum_limit) ≤ℤ above }
+    requires high { above ≤ℤ pos sum_limit }
     ensures { result ≡ own +ℤ above }
 {
     i64::from(own) + above

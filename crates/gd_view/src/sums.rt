@@ -3,28 +3,27 @@
 
 ghost use Rattle.std.specs.Prelude.{◌≡◌, ◌≤◌, ◌+◌, Some, IsTrue, IfOk, IfSome, option_map, if◌then◌else◌};
 ghost use Rattle.std.specs.FinMap as map_of;
+ghost use Rattle.gd_base.specs.declared.ranges.TheConstants.{SESSION_EVENTS};
 ghost use Rattle.gd_base.specs.Stamps as stamps;
 ghost use Rattle.gd_base.specs.Stamps.{is_before};
 ghost use Rattle.gd_model.specs.Objects.{body};
 ghost use Rattle.gd_model.specs.Board.{listed};
 ghost use Rattle.gd_model.specs.Shown.{above, above_by};
 ghost use Rattle.gd_canvas.specs.Slots.{board_of};
-ghost use Rattle.gd_view.specs.Seen.{told};
 ghost use Rattle.gd_view.specs.Chains.{Within};
 ghost use Rattle.gd_view.specs.Sums.{known, above_at, AreKnown};
 
-use crate::chains::{add, group_at};
+use crate::chains::{first_parent, group_at, parent_by, with_link};
 use crate::ids::ids;
 use crate::known::Known;
-use crate::places::Above;
 use gd_base::Stamp;
 use gd_canvas::Canvas;
-use gd_model::{Link, Object};
+use gd_model::{Above, Link, Object};
 use std::alloc::{AllocError, Global};
 
 /// What stands above each object.
 pub(crate) fn sums(alloc: Global, canvas: &Canvas) -> Result<Known, AllocError>
-    requires few { map_of.len (board_of canvas.now) ≤ 1048560 }
+    requires few { map_of.len (board_of canvas.now) ≤ SESSION_EVENTS }
     ensures { IfOk result (λ table. AreKnown (listed (board_of canvas.now)) table) }
 {
     let mut ids = ids(alloc, canvas)?;
@@ -40,10 +39,11 @@ pub(crate) fn sums(alloc: Global, canvas: &Canvas) -> Result<Known, AllocError>
 
 /// What stands above the object of that id, by the sums that are known.
 fn sum_at(canvas: &Canvas, table: &Known, id: Stamp, turn: u32) -> Option<Above>
-    requires few { turn ≤ 1048560 }
-    requires greater { (p : stamps.Stamp) → IsTrue (is_before id p) → option_map told (known table.now p) ≡ above_at (listed (board_of canvas.now)) p }
+    requires few { turn ≤ SESSION_EVENTS }
+    requires greater { (p : stamps.Stamp) → IsTrue (is_before id p)
+        → known table.now p ≡ above_at (listed (board_of canvas.now)) p }
     requires within { (p : stamps.Stamp) → IfSome (known table.now p) (λ a. Within turn a) }
-    ensures above { option_map told result ≡ above_at (listed (board_of canvas.now)) id }
+    ensures above { result ≡ above_at (listed (board_of canvas.now)) id }
     ensures within { IfSome result (λ a. Within (1 + turn) a) }
 {
     let Some(object) = canvas.get(id) else {
@@ -61,10 +61,11 @@ fn sum_at(canvas: &Canvas, table: &Known, id: Stamp, turn: u32) -> Option<Above>
 
 /// What stands above an object with a link, by the sum that is known at the link's end.
 fn sum_by(canvas: &Canvas, table: &Known, id: Stamp, link: &Link, turn: u32) -> Option<Above>
-    requires few { turn ≤ 1048560 }
-    requires greater { IsTrue (is_before id link.now.parent) → option_map told (known table.now link.now.parent) ≡ above_at (listed (board_of canvas.now)) link.now.parent }
+    requires few { turn ≤ SESSION_EVENTS }
+    requires greater { IsTrue (is_before id link.now.parent)
+        → known table.now link.now.parent ≡ above_at (listed (board_of canvas.now)) link.now.parent }
     requires within { IfSome (known table.now link.now.parent) (λ a. Within turn a) }
-    ensures above { option_map told result ≡ above (listed (board_of canvas.now)) id (Some link.now) }
+    ensures above { result ≡ above (listed (board_of canvas.now)) id (Some link.now) }
     ensures within { IfSome result (λ a. Within (1 + turn) a) }
 {
     let Some(group) = group_at(canvas, id, link) else {
@@ -78,24 +79,11 @@ fn sum_by(canvas: &Canvas, table: &Known, id: Stamp, link: &Link, turn: u32) -> 
 
 /// What stands above a group's member, by what stands above the group.
 fn through(sum: &Above, link: &Link, group: &Object, turn: u32) -> Above
-    requires few { turn ≤ 1048560 }
+    requires few { turn ≤ SESSION_EVENTS }
     requires within { Within turn sum.now }
-    ensures sum { told result ≡ above_by link.now (body group.now) (told sum.now) }
+    ensures sum { result ≡ above_by link.now (body group.now) sum.now }
     ensures within { Within (1 + turn) result }
 {
-    let parent = parent_through(sum.parent, link, group);
-    let dx = add(sum.dx, link.dx, group.x);
-    let dy = add(sum.dy, link.dy, group.y);
-    Above { parent, dx, dy }
-}
-
-/// The effective parent, through one group more.
-fn parent_through(parent: Option<Stamp>, link: &Link, group: &Object) -> Option<Stamp>
-    ensures { result ≡ (if group.now.dissolved then parent else Some link.now.parent) }
-{
-    if group.dissolved {
-        parent
-    } else {
-        Some(link.parent)
-    }
+    let parent = first_parent(parent_by(link, group), sum.parent);
+    with_link(sum, parent, link, group, turn)
 }

@@ -18,7 +18,8 @@ struct Links {
 
 /// From the last item to the first: the one that was the first of its group until then is its next.
 fn link_up(alloc: Global, items: &[Item]) -> Result<Links, AllocError>
-    ensures first { IfOk result (λ l. (q : Option stamps.Stamp) → first_in l.firsts q ≡ first_from 0 q items.now) }
+    ensures first { IfOk result (λ l. (q : Option stamps.Stamp)
+        → first_in l.firsts q ≡ first_from 0 q items.now) }
     ensures next { IfOk result (λ l. l.next.items ≡ nexts_from 0 items.now) }
 {
     let mut firsts = Firsts::new(alloc);

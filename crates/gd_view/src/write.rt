@@ -1,9 +1,7 @@
-ghost use Rattle.std.specs.Prelude.{◌≡◌, ℕ, map, Err};
-ghost use Rattle.gd_outside.specs.Seen.{SeenSource, SeenJournal, SeenLink};
+ghost use Rattle.std.specs.Prelude.{◌≡◌, map, Err};
 ghost use Rattle.gd_lines.specs.Text.{lines};
 ghost use Rattle.gd_effects.specs.Effects.{Print};
-ghost use Rattle.gd_effects.specs.Outside.{outside};
-ghost use Rattle.gd_effects.specs.Done.{Does};
+ghost use Rattle.gd_effects.specs.Prints.{Prints};
 
 use crate::picture::Picture;
 use gd_effects::print;
@@ -12,10 +10,9 @@ use gd_words::ReplyText;
 
 /// Writes the text of the picture, one line a piece. It takes no memory.
 ///
-/// `WriteFault` where a write failed, with some lines written and a front of the next one; no other end comes.
+/// `WriteFault` where a write failed, with some lines written and a prefix of the next one; no other end comes.
 pub fn write_text<K: Sink>(picture: &Picture, output: &mut K) -> Result<(), End>
-    ensures does { (input : SeenSource) (journal : SeenJournal) (link : SeenLink) (steps : ℕ)
-        → Does result (outside input (K.seen output.old) journal link steps) (map Print (lines picture.now)) (outside input (K.seen output.new) journal link steps) }
+    ensures does { Prints (K.seen output.old) (map Print (lines picture.now)) result (K.seen output.new) }
     ensures end { (e : End) → result ≡ Err e → e ≡ End.WriteFault }
 {
     let items = picture.as_slice();

@@ -6,7 +6,6 @@ use Rattle.std.specs.List.{fold, list_all, position_or_len}
 use Rattle.std.specs.Option.{option_map, option_and_then}
 use Rattle.std.proofs.lemmas.Bool.{and_parts, and_from, ltb-true}
 use Rattle.std.proofs.lemmas.Bool.Decides.{nat_tests}
-use Rattle.std.proofs.lemmas.Option.{IfSome_then}
 use Rattle.std.proofs.lemmas.List.{length_push}
 use Rattle.std.proofs.lemmas.List.Elements.{All-nil, All-push, recursion_from_All}
 use Rattle.gd_base.specs.Stamps.{Stamp, IsStamp}
@@ -18,7 +17,7 @@ use Rattle.gd_base.specs.Ranges.{place_limit, size_limit, is_within, is_colour, 
 use Rattle.gd_base.specs.declared.style.Style.TheVariants as style
 use Rattle.gd_base.specs.declared.edit.Edit.{Edit}
 use Rattle.gd_base.specs.declared.refusal.LineFault.{LineFault}
-use Rattle.gd_base.specs.declared.refusal.LineFault.TheVariants.{LongLine, WrongCount}
+use Rattle.gd_base.specs.declared.refusal.LineFault.TheVariants.{LongLine, WrongCount, BadNumber}
 use Rattle.gd_lines.specs.declared.verb.Verb.{Verb}
 use Rattle.gd_lines.specs.declared.verb.Verb.TheVariants as verb_of
 use Rattle.gd_lines.specs.declared.command.TheConstants.{LONGEST_LINE}
@@ -27,7 +26,7 @@ use Rattle.gd_lines.specs.declared.command.Command.TheVariants as command
 use Rattle.gd_base.specs.Results.{◌>>=◌}
 use Rattle.gd_lines.specs.LineWords.{word, behind, count_words, without_cr}
 use Rattle.gd_lines.specs.WordKinds.{digit, is_digit, push_digit, value, numeral, number, is_between, number_in, natural_in, in_ranges, is_dot, id, colour, fill, focus, label, name}
-use Rattle.gd_lines.specs.Lines.{ReadsWords, or_fault, kind_at, place_at, size_at, natural_at, width_at, id_at, colour_at, fill_at, focus_at, name_at, label_at, ids_at, verb, fits, create_at, delete_at, move_at, resize_at, stroke_at, refill_at, rewidth_at, text_at, group_at, ungroup_at, raise_at, an_edit, command_at, counted_at, first_of, line_of, read}
+use Rattle.gd_lines.specs.Lines.{ReadsWords, or_fault, next, kind_at, place_at, size_at, natural_at, width_at, id_at, colour_at, fill_at, focus_at, name_at, label_at, ids_at, verb, fits, create_at, delete_at, move_at, resize_at, stroke_at, refill_at, rewidth_at, text_at, group_at, ungroup_at, raise_at, an_edit, command_at, counted_at, first_of, line_of, read}
 use Rattle.gd_lines.specs.declared.verb.ScriptVerb.{ScriptVerb}
 use Rattle.gd_lines.specs.declared.verb.ScriptVerb.TheVariants as script
 use Rattle.gd_lines.specs.declared.command.ScriptLine.{ScriptLine}
@@ -58,6 +57,10 @@ both : {A : Type 0} (P Q : A → Type 0) (r : ReadsWords A) → Yields P r → Y
 both P Q (Ok x) p q = (p, q)
 both P Q (Err fault) p q = tt
 
+weaker : {A : Type 0} (P Q : A → Type 0) (r : ReadsWords A) → ((x : A) → P x → Q x) → Yields P r → Yields Q r
+weaker P Q (Ok x) f h = f x.0 h
+weaker P Q (Err fault) f h = tt
+
 by_spelling : {A : Type 0} (P : A → Type 0) (fault : LineFault) (rest : List ℕ) (o : Option A)
     → IfSome o P → Yields P (or_fault fault rest o)
 by_spelling P fault rest None h = tt
@@ -78,19 +81,18 @@ bounded_in : (low high : ℤ) (o : Option ℤ) → IfSome (bounded low high o) (
 bounded_in low high None = tt
 bounded_in low high (Some z) = then_holds (InBounds low high) (is_between low high z) z (λ e. e)
 
-place_in : (line : List ℕ) → Yields (λ z. is_within place_limit z ≡ true) (place_at line)
-unfolding place_at number_in
-place_in line =
-    let low = neg_ℤ (pos place_limit) in
-    let high = pos place_limit in
+number_at_in : (low high : ℤ) (line : List ℕ) → Yields (InBounds low high) (next BadNumber (number_in low high) line)
+unfolding number_in
+number_at_in low high line =
     by_spelling _ _ _ (bounded low high (number (word line))) (bounded_in low high (number (word line)))
 
+place_in : (line : List ℕ) → Yields (λ z. is_within place_limit z ≡ true) (place_at line)
+unfolding place_at
+place_in line = number_at_in (neg_ℤ (pos place_limit)) (pos place_limit) line
+
 size_in : (line : List ℕ) → Yields (λ z. is_within size_limit z ≡ true) (size_at line)
-unfolding size_at number_in
-size_in line =
-    let low = neg_ℤ (pos size_limit) in
-    let high = pos size_limit in
-    by_spelling _ _ _ (bounded low high (number (word line))) (bounded_in low high (number (word line)))
+unfolding size_at
+size_in line = number_at_in (neg_ℤ (pos size_limit)) (pos size_limit) line
 
 abbrev InRange : ℕ → ℕ → ℕ → Type 0
 InRange low high n = (nat_le low n && nat_le n high) ≡ true
@@ -99,31 +101,25 @@ natural_of : (low high : ℕ) (z : ℤ) → InBounds (pos low) (pos high) z → 
 natural_of low high (pos n) e = e
 natural_of low high (negsuc n) e = absurd cc
 
-natural_by : (low high : ℕ) (o : Option ℤ) → IfSome o (InBounds (pos low) (pos high)) → IfSome (option_map nat_abs o) (InRange low high)
+natural_by : (low high : ℕ) (o : Option ℤ) → IfSome o (InBounds (pos low) (pos high))
+    → IfSome (option_map nat_abs o) (InRange low high)
 natural_by low high None h = tt
 natural_by low high (Some z) h = natural_of low high z h
 
+natural_in_range : (low high : ℕ) (line : List ℕ) → Yields (InRange low high) (natural_at low high line)
+unfolding natural_at natural_in number_in
+natural_in_range low high line =
+    let o = bounded (pos low) (pos high) (number (word line)) in
+    by_spelling _ _ _ (option_map nat_abs o)
+    (natural_by low high o (bounded_in (pos low) (pos high) (number (word line))))
+
 width_in : (line : List ℕ) → Yields (λ n. is_width n ≡ true) (width_at line)
-unfolding width_at natural_at natural_in number_in
-width_in line =
-    let high = pos WIDTH_LIMIT in
-    let o = bounded (pos 1) high (number (word line)) in
-    by_spelling _ _ _ (option_map nat_abs o) (natural_by 1 WIDTH_LIMIT o (bounded_in (pos 1) high (number (word line))))
+unfolding width_at
+width_in line = natural_in_range 1 WIDTH_LIMIT line
 
 stamp_of : (c s : ℕ) → ((nat_le 1 c && nat_lt c CLOCK_LIMIT) && is_site SITES s) ≡ true
     → IsStamp (record { clock = c; site = s })
-stamp_of c s e =
-    let p = and_parts _ _ e in
-    let q = and_parts _ _ p.0 in
-    let above : nat_le 1 c ≡ true = q.0 in
-    let below : nat_lt c CLOCK_LIMIT ≡ true = q.1 in
-    let site = is_site-bounds SITES s p.1 in
-    record {
-      clock_above = grind (arith, nat_tests, above);
-      clock_below = grind (arith, nat_tests, below);
-      site_above = site.0;
-      site_below = site.1;
-    }
+stamp_of c s e = grind arith
 
 stamp_in : (c s : Option ℕ) → IfSome (in_ranges c s) IsStamp
 stamp_in None s = tt
@@ -148,7 +144,7 @@ small (b ∷ bs) n i all h =
     subst (λ k. fold (push_digit 16) (push_digit 16 n b) bs < 16 ^ k) same (small bs (push_digit 16 n b) (i + 1) p.1 (push_small n 16 (digit b) i h (omega arith) (ltb-true _ _ p.0)))
 
 six : (n : ℕ) → (nat_le 6 n && nat_le n 6) ≡ true → n ≡ 6
-six n e = let p = and_parts _ _ e in let a : nat_le 6 n ≡ true = p.0 in let b : nat_le n 6 ≡ true = p.1 in grind (arith, nat_tests, a, b)
+six n e = grind arith
 
 colour_small : (text : List ℕ) → ((nat_le 6 (length text) && nat_le (length text) 6) && list_all (is_digit 16) text) ≡ true → is_colour (value 16 text) ≡ true
 colour_small text e =
@@ -200,10 +196,7 @@ name_in line =
     (then_holds (λ n. is_name n ≡ true) _ (word line) (λ e. e))
 
 label_of : (text : List ℕ) → (nat_le (length text) most_label && is_plain text) ≡ true → IsLabel text
-label_of text e =
-    let p = and_parts _ _ e in
-    let short : nat_le (length text) most_label ≡ true = p.0 in
-    record { fits = grind (arith, nat_tests, short); plain = p.1 }
+label_of text e = grind arith
 
 label_in : (line : List ℕ) → Yields IsLabel (label_at line)
 unfolding label_at label
@@ -277,11 +270,8 @@ text_in line =
 group_in : (n : ℕ) (line : List ℕ) → (nat_le 2 n && nat_le n MOST_MEMBERS) ≡ true → Yields IsEdit (group_at n line)
 unfolding group_at
 group_in n line fit =
-    let p = and_parts _ _ fit in
-    let a : nat_le 2 n ≡ true = p.0 in
-    let b : nat_le n MOST_MEMBERS ≡ true = p.1 in
-    let least : 2 ≤ n = grind (arith, nat_tests, a) in
-    let most : n ≤ MOST_MEMBERS = grind (arith, nat_tests, b) in
+    let least : 2 ≤ n = grind arith in
+    let most : n ≤ MOST_MEMBERS = grind arith in
     first (AreIds n) IsEdit (ids_at n [] line) _ (ids_in n n [] line (omega arith) (All-nil IsStamp)) (λ ids are.
     (omega (arith, are.0, least), omega (arith, are.0, most), recursion_from_All IsStamp ids.0 are.1))
 
@@ -357,12 +347,8 @@ line_in bytes c e =
 -- ---- a line of a rehearsal
 
 site_in : (line : List ℕ) → Yields IsSite (site_at line)
-unfolding site_at natural_at natural_in number_in
-site_in line =
-    let high = pos SITES in
-    let o : Option ℤ = bounded (pos 1) high (number (word line)) in
-    let in_range = natural_by 1 SITES o (bounded_in (pos 1) high (number (word line))) in
-    by_spelling IsSite _ _ (option_map nat_abs o) (IfSome_then (option_map nat_abs o) in_range (is_site-bounds SITES))
+unfolding site_at
+site_in line = weaker (InRange 1 SITES) IsSite (site_at line) (is_site-bounds SITES) (natural_in_range 1 SITES line)
 
 asked_edit : (r : ReadsWords Edit) → Yields IsAsked (an_edit r)
 asked_edit (Ok e) = tt

@@ -1,6 +1,6 @@
 use Rattle.std.proofs.Common.{◌≡◌, ◌-◌, suc, drop, ap, ◌∙◌, arith}
-use Rattle.gd_view.specs.Levels.{with_level, slot_levels}
-use Rattle.gd_view.proofs.LevelLemmas.{level_keys, gathered, gathered_none, gathered_all}
+use Rattle.gd_view.specs.Levels.{with_level}
+use Rattle.gd_view.proofs.LevelLemmas.{slot_levels, level_keys, gathered, gathered_none, gathered_all}
 use Rattle.gd_view.proofs.levels.levels.Goals as goal
 
 pub loop-place-init : goal.loop-place-init

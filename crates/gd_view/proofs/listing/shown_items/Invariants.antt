@@ -3,12 +3,12 @@ use Rattle.std.specs.List.{filter_map}
 use Rattle.gd_model.specs.Board.{listed}
 use Rattle.gd_model.specs.Shown.{shown_items}
 use Rattle.gd_canvas.specs.Slots.{board_of}
-use Rattle.gd_view.specs.Levels.{pairs, item_at_level}
+use Rattle.gd_view.proofs.LevelLemmas.{item_at_level}
 use Rattle.gd_view.proofs.listing.shown_items.Given as goal
 
 abbrev pub invariant-loop-level : goal.invariant-loop-level
 invariant-loop-level l =
-    l.items.items ++ filter_map (item_at_level (board_of l.canvas)) (pairs l.levels.keys) ≡ shown_items (listed (board_of l.canvas))
+    l.items.items ++ filter_map (item_at_level (board_of l.canvas)) l.levels.keys ≡ shown_items (listed (board_of l.canvas))
 
 abbrev pub decreases-loop-level : goal.decreases-loop-level
 decreases-loop-level l = length l.levels.keys
