@@ -6,9 +6,9 @@ use Rattle.gd_events.specs.Events.{Event}
 use Rattle.gd_base.specs.Results.{◌>>=◌}
 use Rattle.gd_grammar.specs.Reading.{Reads}
 use Rattle.gd_grammar.specs.EventBytes.{event_at}
-use Rattle.gd_grammar.specs.LogBytes.{Header, LogFault, in_log, header_at, turn_fault, gate, record_at, step_at, events_at, log}
+use Rattle.gd_grammar.specs.LogBytes.{Header, LogMisread, in_log, header_at, turn_fault, gate, record_at, step_at, events_at, log}
 use Rattle.gd_logs.specs.declared.log.ReadError.TheVariants.{Log}
-use Rattle.gd_logs.specs.declared.stopped.LogFault as reader
+use Rattle.gd_logs.specs.declared.stopped.LogFault.{LogFault}
 use Rattle.gd_logs.specs.declared.stopped.LogFault.TheVariants.{Read, Bad}
 use Rattle.gd_logs.specs.Steps.{Step, NextIs}
 use Rattle.gd_logs.specs.Reader.{StartIs}
@@ -35,7 +35,7 @@ step_of o = Ok o
 
 behind-shorter : (t : Bool) (n : ℕ) (seen : List Event) (bytes : List ℕ) (x : Event × List ℕ) → cond t (record_at n seen bytes >>= λ e. step_of (Some e)) (step_of None) ≡ step_of (Some x) → length x.1 ≤ length bytes
 behind-shorter true n seen bytes x e = by (record_at n seen bytes) refl e where
-  by : (r : Result (Event × List ℕ) LogFault) → record_at n seen bytes ≡ r → (r >>= λ y. step_of (Some y)) ≡ step_of (Some x) → length x.1 ≤ length bytes
+  by : (r : Result (Event × List ℕ) LogMisread) → record_at n seen bytes ≡ r → (r >>= λ y. step_of (Some y)) ≡ step_of (Some x) → length x.1 ≤ length bytes
   by (Ok y) q k =
       let same : y ≡ x = cc in
       omega (arith, record-shorter n seen bytes y q, ap (λ (z : Event × List ℕ). length z.1) same)
@@ -47,7 +47,7 @@ unfolding step_at
 step-shorter n seen [] x e = absurd cc
 step-shorter n seen (b ∷ bytes) x e = omega (arith, behind-shorter (eqb b gate) n seen bytes x e)
 
--- ---- at most so many steps
+-- ---- at most k steps
 
 events-nil : (k n : ℕ) (seen : List Event) → events_at k n seen [] ≡ Ok seen
 unfolding events_at step_at
@@ -71,7 +71,7 @@ events-enough (suc k) (suc j) n seen (b ∷ bytes) h i = same-step k j n seen (b
     events-enough k j n (seen ++ x.0 ∷ []) x.1 (omega arith) (omega arith))
 
 -- all steps that the bytes allow
-abbrev pub all_events : ℕ → List Event → List ℕ → Result (List Event) LogFault
+abbrev pub all_events : ℕ → List Event → List ℕ → Result (List Event) LogMisread
 all_events n seen bytes = events_at (suc (length bytes)) n seen bytes
 
 all-start : (n : ℕ) (bytes : List ℕ) → events_at (length bytes) n [] bytes ≡ all_events n [] bytes
@@ -85,7 +85,7 @@ all-some n seen bytes x e =
 -- ---- the log
 
 -- the header, and the events behind these events in these bytes
-unfoldable pub log_from : Header → List Event → List ℕ → Result (Header × List Event) LogFault
+unfoldable pub log_from : Header → List Event → List ℕ → Result (Header × List Event) LogMisread
 log_from h seen bytes = all_events h.n seen bytes >>= λ events. Ok (h, events)
 
 pub log-start : (all rest : List ℕ) (h : Header) → in_log (header_at all) ≡ Ok (h, rest) → log all ≡ log_from h [] rest
@@ -100,21 +100,21 @@ pub from-none : (h : Header) (seen : List Event) (bytes : List ℕ) → step_at 
 unfolding log_from
 from-none h seen bytes e = rw (events-none (length bytes) h.n seen bytes e) refl
 
-pub from-err : (h : Header) (seen : List Event) (bytes : List ℕ) (f : LogFault) → step_at h.n seen bytes ≡ Err f → log_from h seen bytes ≡ Err f
+pub from-err : (h : Header) (seen : List Event) (bytes : List ℕ) (f : LogMisread) → step_at h.n seen bytes ≡ Err f → log_from h seen bytes ≡ Err f
 unfolding log_from
 from-err h seen bytes f e = rw (events-err (length bytes) h.n seen bytes f e) refl
 
-header-err : (all : List ℕ) (f : LogFault) → in_log (header_at all) ≡ Err f → log all ≡ Err f
+header-err : (all : List ℕ) (f : LogMisread) → in_log (header_at all) ≡ Err f → log all ≡ Err f
 unfolding log
 header-err all f e = rw e refl
 
 -- a fault of the header is the log's
-pub log-refused : (fault : reader.LogFault) (all left : List ℕ) → StartIs (Err fault) all left → LogIs (Err (Log fault)) all
+pub log-refused : (fault : LogFault) (all left : List ℕ) → StartIs (Err fault) all left → LogIs (Err (Log fault)) all
 log-refused Read all left h = tt
 log-refused (Bad at why) all left h = record { left = h.left; is = header-err all (record { why = why; left = h.left }) h.is; inside = h.inside; there = h.there }
 
 -- a fault of a step is the log's, at its place in the log
-pub log-stopped : (fault : reader.LogFault) (h : Header) (seen : List Event) (all bytes rest : List ℕ) (at at' : ℕ) → log all ≡ log_from h seen bytes → at + length bytes ≡ length all
+pub log-stopped : (fault : LogFault) (h : Header) (seen : List Event) (all bytes rest : List ℕ) (at at' : ℕ) → log all ≡ log_from h seen bytes → at + length bytes ≡ length all
     → NextIs (Err fault) (step_at h.n seen bytes) at bytes at' rest → LogIs (Err (Log fault)) all
 log-stopped Read h seen all bytes rest at at' same sum next = tt
 log-stopped (Bad there why) h seen all bytes rest at at' same sum next = let fault = next.1 in record {

@@ -9,7 +9,7 @@ use Rattle.gd_base.specs.declared.fault.LogWhy.TheVariants.{NoSite, Turn}
 use Rattle.gd_events.specs.Events.{Event}
 use Rattle.gd_grammar.specs.Reading.{place}
 use Rattle.gd_grammar.specs.EventBytes.{event_at}
-use Rattle.gd_grammar.specs.LogBytes.{Header, LogFault, log_why, in_log, turn_fault, left_of, gate, header_at, record_at, step_at}
+use Rattle.gd_grammar.specs.LogBytes.{Header, LogMisread, log_why, in_log, turn_fault, left_of, gate, header_at, record_at, step_at}
 use Rattle.gd_grammar.proofs.Steady.{IsEnd}
 use Rattle.gd_grammar.proofs.SteadyFields.{Steady-event, Steady-header, event-long}
 use Rattle.gd_logs.specs.declared.stopped.LogFault.TheVariants.{Bad}
@@ -86,7 +86,7 @@ pub step-taken : (n : ℕ) (seen : List Event) (b : ℕ) (bytes : List ℕ) (x :
 unfolding step_at
 step-taken n seen b bytes x g e = rw (eq-eqb b gate g, e) refl
 
-pub step-faulty : (n : ℕ) (seen : List Event) (b : ℕ) (bytes : List ℕ) (f : LogFault) → b ≡ gate → record_at n seen bytes ≡ Err f → step_at n seen (b ∷ bytes) ≡ Err f
+pub step-faulty : (n : ℕ) (seen : List Event) (b : ℕ) (bytes : List ℕ) (f : LogMisread) → b ≡ gate → record_at n seen bytes ≡ Err f → step_at n seen (b ∷ bytes) ≡ Err f
 unfolding step_at
 step-faulty n seen b bytes f g e = rw (eq-eqb b gate g, e) refl
 
@@ -105,7 +105,7 @@ step-there n seen b bytes at why g h = record {
 pub ended-next : (step : Step) (at : ℕ) (bytes : List ℕ) → step ≡ Ok None → NextIs (Ok None) step at bytes at (drop (at - at) bytes)
 ended-next step at bytes h = let stays : at - at ≡ 0 = omega arith in rw stays (h, refl, refl)
 
--- and at a fault, which stands so many bytes farther on
+-- and at a fault, which stands `within` bytes farther on
 fault-next : (step : Step) (at there within : ℕ) (bytes : List ℕ) (why : LogWhy) → there ≡ at + within → IsFault step bytes within why → NextIs (Err (Bad there why)) step at bytes at (drop (at - at) bytes)
 fault-next step at there within bytes why h fault = let stays : at - at ≡ 0 = omega arith in rw stays (within, fault, h, refl, refl)
 

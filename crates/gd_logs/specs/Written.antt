@@ -3,7 +3,7 @@ use Rattle.std.specs.Prelude.{◌≡◌, ℕ, ◌+◌, ◌-◌, ◌<◌, ◌^◌
 use Rattle.gd_base.specs.declared.fault.LogWhy.{LogWhy}
 use Rattle.gd_events.specs.Events.{Event}
 use Rattle.gd_events.specs.Sound.{IsSound}
-use Rattle.gd_grammar.specs.LogBytes.{Header, IsHeader, LogFault, gate, left_of, log, turn_fault, logged}
+use Rattle.gd_grammar.specs.LogBytes.{Header, IsHeader, LogMisread, gate, left_of, log, turn_fault, logged}
 
 -- each event is sound and the next one behind these and those before it, in a session of n sites
 unfoldable pub AreNext : ℕ → List Event → List Event → Type 0
@@ -21,8 +21,8 @@ pub record BreaksRule (h : Header) (events : List Event) (e : Event) (why : LogW
   pub sound : IsSound e
   pub broken : turn_fault h.n events e ≡ Some why
 
--- the fault of an event that isn't the next one, where so many bytes stand from its first byte on
-abbrev pub refusal : LogWhy → ℕ → LogFault
+-- the fault of an event that isn't the next one, with `left` bytes from its first byte on
+abbrev pub refusal : LogWhy → ℕ → LogMisread
 refusal why left = record { why = why; left = left_of why left }
 
 -- these are the bytes of a log of that header and those events, which obey the log's rules

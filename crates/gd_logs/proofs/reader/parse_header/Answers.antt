@@ -1,11 +1,11 @@
 use Rattle.std.proofs.Common.{ℕ, List, Ok, ap, sym, arith}
 use Rattle.std.specs.Prelude.{Result}
-use Rattle.gd_grammar.specs.LogBytes.{Header, LogFault}
+use Rattle.gd_grammar.specs.LogBytes.{Header, LogMisread}
 use Rattle.gd_grammar.proofs.SteadyFields.{Steady-header}
 use Rattle.gd_logs.proofs.RecordLemmas.{header-left, header-faulty}
 use Rattle.gd_logs.proofs.reader.parse_header.Goals as goal
 
-abbrev header_of : Header → List ℕ → Result (Header × List ℕ) LogFault
+abbrev header_of : Header → List ℕ → Result (Header × List ℕ) LogMisread
 header_of h rest = Ok (h, rest)
 
 pub overflow_sub-result : goal.overflow_sub-result
