@@ -50,10 +50,8 @@ fn item_of(canvas: &Canvas, table: &Known, id: Stamp) -> Option<Item>
     ensures { result
         ≡ item_of (listed (board_of canvas.now)) id (option_map body (map_of.get (board_of canvas.now) id)) }
 {
-    match canvas.get(id) {
-        Some(object) => item(canvas, table, id, object),
-        None => None,
-    }
+    let object = canvas.get(id)?;
+    item(canvas, table, id, object)
 }
 
 /// The item of an object, where it is shown.
