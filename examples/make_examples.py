@@ -1,5 +1,6 @@
 #!/usr/bin/env python3
-"""Writes the logs of this folder. Run again, it writes the same bytes.
+"""Writes the logs of this folder, and the input of the stored run of crates/groupdesign. Run again, it writes the same
+bytes.
 
 A log is a header, then each event behind an open gate, then a closed gate. Numbers are big-endian.
 
@@ -159,6 +160,23 @@ REGROUPED = log(7, 1, 2, [
     (5, 2, group((1, 1, 5, 7), (2, 1, 5, 7))),
 ])
 
+def stored_run():
+    """A log that takes more than one read of 64 KiB, and ends with the last byte of its last event and no closed gate.
+
+    Site 3 keeps it, and hears all of site 2 before all of site 1, which makes the shapes."""
+    shapes = [(clock, 1) for clock in range(1, 5)]
+    events = [(clock, 2, retext(*shapes[(clock - 1) % 4], f"{clock} ".ljust(64, "."))) for clock in range(5, 805)]
+    events += [
+        (1, 1, create(RECT, 0, 0, 100, 40)),
+        (2, 1, create(ELLIPSE, 0, 0, 60, 30)),
+        (3, 1, create(LINE, 0, 0, 80, 0)),
+        (4, 1, create(TEXT, 0, 0, 200, 20)),
+    ]
+    events += [(clock, 1, move(*shapes[(clock - 1) % 4], clock, -clock)) for clock in range(5, 45)]
+    events += [(45, 1, raise_up(1, 1)), (46, 1, restyle(3, 1, WIDTH, 64))]
+    return log(7, 3, 3, events)[:-len(CLOSED)]
+
+
 EXAMPLES = {
     "two-shapes": TWO_SHAPES,
     "effects-before-causes": EFFECTS_BEFORE_CAUSES,
@@ -175,3 +193,4 @@ EXAMPLES = {
 if __name__ == "__main__":
     for name, content in EXAMPLES.items():
         Path(__file__).with_name(name + ".log").write_bytes(content)
+    (Path(__file__).resolve().parent.parent / "crates/groupdesign/stdin").write_bytes(stored_run())

@@ -5,7 +5,10 @@ use Rattle.std.proofs.lemmas.Bool.Decides.{nat_tests, eqb_tells}
 use Rattle.std.proofs.lemmas.List.{length-set, get_or-replicate, get_or-set_same, get_or-set_other, append_assoc, append-nil}
 use Rattle.std.proofs.lemmas.List.Elements.{All-nil, All-cons, All-append, All-push, All-weaker, All-head, All-tail, All-same}
 use Rattle.gd_base.specs.declared.note.Note.{Note}
-use Rattle.gd_aware.specs.Notes.{Put, IsSite, no_note, no_notes, note_of, newer, noted, kept, IsNewest}
+use Rattle.gd_base.specs.Notes.{no_note, newer}
+use Rattle.gd_base.specs.Sites.{IsSite}
+use Rattle.gd_base.specs.declared.ranges.TheConstants.{SITES}
+use Rattle.gd_aware.specs.Notes.{Put, no_notes, note_of, noted, notes_after, IsNewest}
 
 -- of the notes that were put for a site
 abbrev Of : ℕ → (ℕ → Type 0) → Put → Type 0
@@ -70,7 +73,7 @@ newer_by puts site old note true above h = take_over puts site old note (grind (
 newer_by puts site old note false low h = pass puts (record { site = site; note = note }) site old (λ e. grind (arith, nat_tests, low)) h
 
 -- the note of a site once one was put for it, and once one was put for another
-same_site : (notes : List Note) (site : ℕ) (note : Note) → length notes ≡ 16 → IsSite site → note_of (noted notes site note) site ≡ newer (note_of notes site) note
+same_site : (notes : List Note) (site : ℕ) (note : Note) → length notes ≡ SITES → IsSite site → note_of (noted notes site note) site ≡ newer (note_of notes site) note
 same_site notes site note len is = get_or-set_same notes (site - 1) _ no_note (omega (arith, len, is.0, is.1))
 
 other_site : (notes : List Note) (put site : ℕ) (note : Note) → IsSite put → IsSite site → put ≢ site → note_of (noted notes put note) site ≡ note_of notes site
@@ -79,24 +82,24 @@ other_site notes put site note is_put is differ = get_or-set_other notes (put - 
 abbrev Holds : List Put → Put → List Note → ℕ → Type 0
 Holds puts p notes site = IsNewest (puts ++ p ∷ []) site (note_of (noted notes p.site p.note) site)
 
-here : (puts : List Put) (p : Put) (notes : List Note) (site : ℕ) → length notes ≡ 16 → IsSite site → p.site ≡ site → IsNewest puts site (note_of notes site) → Holds puts p notes site
+here : (puts : List Put) (p : Put) (notes : List Note) (site : ℕ) → length notes ≡ SITES → IsSite site → p.site ≡ site → IsNewest puts site (note_of notes site) → Holds puts p notes site
 here puts p notes site len is e h =
     subst (λ s. IsSite s → IsNewest puts s (note_of notes s) → Holds puts p notes s) e
     (λ is_put at. subst (IsNewest (puts ++ p ∷ []) p.site) (sym (same_site notes p.site p.note len is_put)) (newer_by puts p.site (note_of notes p.site) p.note _ refl at)) is h
 
-one_more_by : (puts : List Put) (p : Put) (notes : List Note) (site : ℕ) → length notes ≡ 16 → IsSite p.site → IsSite site
+one_more_by : (puts : List Put) (p : Put) (notes : List Note) (site : ℕ) → length notes ≡ SITES → IsSite p.site → IsSite site
     → (((p.site == site) ≡ true) × (p.site ≡ site)) ⊎ (((p.site == site) ≡ false) × (p.site ≢ site)) → IsNewest puts site (note_of notes site) → Holds puts p notes site
 one_more_by puts p notes site len is_put is (inl (t, e)) h = here puts p notes site len is e h
 one_more_by puts p notes site len is_put is (inr (t, differ)) h =
     subst (IsNewest (puts ++ p ∷ []) site) (sym (other_site notes p.site site p.note is_put is differ)) (pass puts p site (note_of notes site) (λ e. absurd (differ e)) h)
 
-one_more : (puts : List Put) (p : Put) (notes : List Note) (site : ℕ) → length notes ≡ 16 → IsSite p.site → IsSite site → IsNewest puts site (note_of notes site) → Holds puts p notes site
+one_more : (puts : List Put) (p : Put) (notes : List Note) (site : ℕ) → length notes ≡ SITES → IsSite p.site → IsSite site → IsNewest puts site (note_of notes site) → Holds puts p notes site
 one_more puts p notes site len is_put is h = one_more_by puts p notes site len is_put is (eqb_tells p.site site) h
 
 abbrev Step : List Note → Put → List Note
 Step notes p = noted notes p.site p.note
 
-pub walk : (puts before : List Put) (notes : List Note) → All (λ p. IsSite p.site) puts → length notes ≡ 16 → ((site : ℕ) → IsSite site → IsNewest before site (note_of notes site))
+pub walk : (puts before : List Put) (notes : List Note) → All (λ p. IsSite p.site) puts → length notes ≡ SITES → ((site : ℕ) → IsSite site → IsNewest before site (note_of notes site))
     → (site : ℕ) → IsSite site → IsNewest (before ++ puts) site (note_of (fold Step notes puts) site)
 walk [] before notes sites len h site is = rw (append-nil before) (h site is)
 walk (p ∷ ps) before notes sites len h site is =
@@ -105,7 +108,7 @@ walk (p ∷ ps) before notes sites len h site is =
     (λ s is_s. one_more before p notes s len (All-head (λ p. IsSite p.site) p ps sites) is_s (h s is_s)) site is)
 
 none_of : (site : ℕ) → IsSite site → note_of no_notes site ≡ no_note
-none_of site is = get_or-replicate 16 (site - 1) no_note no_note (omega (arith, is.0, is.1))
+none_of site is = get_or-replicate SITES (site - 1) no_note no_note (omega (arith, is.0, is.1))
 
-pub newest : (puts : List Put) (site : ℕ) → All (λ p. IsSite p.site) puts → IsSite site → IsNewest puts site (note_of (kept puts) site)
+pub newest : (puts : List Put) (site : ℕ) → All (λ p. IsSite p.site) puts → IsSite site → IsNewest puts site (note_of (notes_after puts) site)
 newest puts site sites is = walk puts [] no_notes sites refl (λ s is_s. inl (none_of s is_s, All-nil (λ p. p.site ≡ s → p.note.number ≡ 0))) site is

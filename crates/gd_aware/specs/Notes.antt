@@ -1,23 +1,17 @@
--- The newest note of each site from 1 to 16, as a list of 16 notes in the order of the sites. Of the notes put for a site, the
--- one of the greatest number is kept, the first of equals.
-use Rattle.std.specs.Prelude.{◌≡◌, ◌⊎◌, ℕ, ◌-◌, ◌<◌, ◌≤◌, List, ◌∷◌, ◌++◌, All, None, replicate, set, get_or, nat_lt, if◌then◌else◌}
+-- The newest note of each site, as a list of notes in the order of the sites. Of the notes put for a site, the one of the
+-- greatest number is kept, the first of equals.
+use Rattle.std.specs.Prelude.{◌≡◌, ◌⊎◌, ℕ, ◌-◌, ◌<◌, ◌≤◌, List, ◌∷◌, ◌++◌, All, replicate, set, get_or}
 use Rattle.std.specs.List.{fold}
+use Rattle.gd_base.specs.Notes.{no_note, newer}
 use Rattle.gd_base.specs.declared.note.Note.{Note}
-
--- number 0, with neither name nor focus
-abbrev pub no_note : Note
-no_note = record { number = 0; name = None; focus = None }
+use Rattle.gd_base.specs.declared.ranges.TheConstants.{SITES}
 
 abbrev pub no_notes : List Note
-no_notes = replicate 16 no_note
+no_notes = replicate SITES no_note
 
 -- the note of a site; sites count from 1
 abbrev pub note_of : List Note → ℕ → Note
 note_of notes site = get_or notes (site - 1) no_note
-
--- a note of a greater number takes the place of the old one
-abbrev pub newer : Note → Note → Note
-newer old note = if nat_lt old.number note.number then note else old
 
 -- the notes once a note was put for a site; no other site's changes
 abbrev pub noted : List Note → ℕ → Note → List Note
@@ -28,18 +22,15 @@ pub record Put : Type 0 where
   pub site : ℕ
   pub note : Note
 
-abbrev pub IsSite : ℕ → Type 0
-IsSite site = (1 ≤ site) × (site ≤ 16)
-
 -- the notes after these puts, one after the other
-abbrev pub kept : List Put → List Note
-kept puts = fold (λ notes p. noted notes p.site p.note) no_notes puts
+abbrev pub notes_after : List Put → List Note
+notes_after puts = fold (λ notes p. noted notes p.site p.note) no_notes puts
 
 -- no note above number 0 was put for the site
 abbrev pub HasNone : List Put → ℕ → Type 0
 HasNone puts site = All (λ p. p.site ≡ site → p.note.number ≡ 0) puts
 
--- the note was put for the site, those put for it before have lower numbers, and those put for it later no greater ones
+-- the note was put for the site; those put for it before have lower numbers, and those put for it later no greater ones
 pub record IsFirstGreatest (puts : List Put) (site : ℕ) (note : Note) : Type 0 where
   pub before : List Put
   pub after : List Put

@@ -1,10 +1,14 @@
-ghost use Rattle.std.specs.Prelude.{◌≡◌, ◌≤◌, length};
-ghost use Rattle.gd_aware.specs.Notes.{no_note, no_notes, note_of, noted};
+ghost use Rattle.std.specs.Prelude.{◌≡◌, length};
+ghost use Rattle.gd_base.specs.Notes.{no_note};
+ghost use Rattle.gd_base.specs.Sites.{IsSite};
+ghost use Rattle.gd_base.specs.declared.ranges.TheConstants.{SITES};
+ghost use Rattle.gd_aware.specs.Notes.{no_notes, note_of, noted};
 
 use gd_base::Note;
+use std::array;
 use std::marker::Model;
 
-/// The newest note of each site from 1 to 16, which contracts see as a list of 16 notes in the order of the sites.
+/// The newest note of each site, which contracts see as a list of notes in the order of the sites.
 #[derive(Drop)]
 pub struct Notes {
     notes: [Note; 16],
@@ -25,33 +29,15 @@ impl Notes {
         ensures { result ≡ no_notes }
     {
         Notes {
-            notes: [
-                none(),
-                none(),
-                none(),
-                none(),
-                none(),
-                none(),
-                none(),
-                none(),
-                none(),
-                none(),
-                none(),
-                none(),
-                none(),
-                none(),
-                none(),
-                none(),
-            ],
+            notes: array::from_fn(|_| none()),
         }
     }
 
     /// Keeps the note where its number is greater than that of the site's kept one. The notes of other sites stay.
     pub fn put(&mut self, site: u8, note: Note)
-        requires above { 1 ≤ site }
-        requires below { site ≤ 16 }
+        requires { IsSite site }
         ensures notes { self.new ≡ noted self.old site note }
-        ensures sites { length self.new ≡ 16 }
+        ensures sites { length self.new ≡ SITES }
     {
         let kept = &mut self.notes[usize::from(site) - 1];
         if kept.number < note.number {
@@ -61,10 +47,9 @@ impl Notes {
 
     /// The kept note of the site, which is number 0 with neither name nor focus where there is none.
     pub fn get(&self, site: u8) -> Note
-        requires above { 1 ≤ site }
-        requires below { site ≤ 16 }
+        requires { IsSite site }
         ensures note { result ≡ note_of self.now site }
-        ensures sites { length self.now ≡ 16 }
+        ensures sites { length self.now ≡ SITES }
     {
         self.notes[usize::from(site) - 1].copy()
     }

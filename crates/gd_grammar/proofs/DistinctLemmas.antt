@@ -12,7 +12,7 @@ use Rattle.gd_events.specs.Events.{Event}
 use Rattle.gd_events.specs.Ordered.{is_new, are_distinct}
 use Rattle.gd_base.specs.Results.{◌>>=◌}
 use Rattle.gd_grammar.specs.EventBytes.{event_at}
-use Rattle.gd_grammar.specs.LogBytes.{Header, LogFault, in_log, last_clock, turn_fault, settled, gate, header_at, record_at, step_at, events_at, log}
+use Rattle.gd_grammar.specs.LogBytes.{Header, LogMisread, in_log, last_clock, turn_fault, settled, gate, header_at, record_at, step_at, events_at, log}
 use Rattle.gd_grammar.proofs.EventsLemmas.{events-some, events-none, events-err}
 
 -- ---- the last clock of a site
@@ -91,7 +91,7 @@ settled-ok (Some why) left x y e = absurd cc
 record-above : (n : ℕ) (seen : List Event) (bytes : List ℕ) (x : Event × List ℕ) → record_at n seen bytes ≡ Ok x → last_clock x.0.stamp.site seen < x.0.stamp.clock
 unfolding record_at
 record-above n seen bytes x e = by (in_log (event_at bytes)) e where
-  by : (r : Result (Event × List ℕ) LogFault) → (r >>= λ y. settled (turn_fault n seen y.0) (length bytes) y) ≡ Ok x → last_clock x.0.stamp.site seen < x.0.stamp.clock
+  by : (r : Result (Event × List ℕ) LogMisread) → (r >>= λ y. settled (turn_fault n seen y.0) (length bytes) y) ≡ Ok x → last_clock x.0.stamp.site seen < x.0.stamp.clock
   by (Ok y) q =
       let parts = settled-ok (turn_fault n seen y.0) (length bytes) y x q in
       turn-above n seen x.0 (ap (λ (z : Event × List ℕ). turn_fault n seen z.0) (sym parts.1) ∙ parts.0)
@@ -99,7 +99,7 @@ record-above n seen bytes x e = by (in_log (event_at bytes)) e where
 
 -- what a step answers
 abbrev Step : Type 0
-Step = Result (Option (Event × List ℕ)) LogFault
+Step = Result (Option (Event × List ℕ)) LogMisread
 
 abbrev step_of : Option (Event × List ℕ) → Step
 step_of o = Ok o
@@ -107,7 +107,7 @@ step_of o = Ok o
 -- the event behind a gate has a clock above the last one of its site, by whether the gate is open
 behind-above : (t : Bool) (n : ℕ) (seen : List Event) (bytes : List ℕ) (x : Event × List ℕ) → cond t (record_at n seen bytes >>= λ e. step_of (Some e)) (step_of None) ≡ step_of (Some x) → last_clock x.0.stamp.site seen < x.0.stamp.clock
 behind-above true n seen bytes x e = by (record_at n seen bytes) refl e where
-  by : (r : Result (Event × List ℕ) LogFault) → record_at n seen bytes ≡ r → (r >>= λ y. step_of (Some y)) ≡ step_of (Some x) → last_clock x.0.stamp.site seen < x.0.stamp.clock
+  by : (r : Result (Event × List ℕ) LogMisread) → record_at n seen bytes ≡ r → (r >>= λ y. step_of (Some y)) ≡ step_of (Some x) → last_clock x.0.stamp.site seen < x.0.stamp.clock
   by (Ok y) q k = record-above n seen bytes x (let same : y ≡ x = cc in rw (← same) q)
   by (Err f) q k = absurd cc
 behind-above false n seen bytes x e = absurd cc
@@ -121,7 +121,7 @@ step-above n seen (b ∷ bytes) x e = behind-above (eqb b gate) n seen bytes x e
 -- ---- the steps of the log
 
 -- the events that are the answer are these
-distinct-end : (seen events : List Event) (r : Result (List Event) LogFault) → r ≡ Ok seen → r ≡ Ok events → are_distinct seen ≡ true → are_distinct events ≡ true
+distinct-end : (seen events : List Event) (r : Result (List Event) LogMisread) → r ≡ Ok seen → r ≡ Ok events → are_distinct seen ≡ true → are_distinct events ≡ true
 distinct-end seen events r q e apart =
     let all : Ok seen ≡ r = sym q in
     let same : seen ≡ events = cc in
@@ -148,20 +148,20 @@ abbrev pair_of : Header → List Event → Header × List Event
 pair_of h es = (h, es)
 
 -- a log of them
-abbrev log_of : Header → List Event → Result (Header × List Event) LogFault
+abbrev log_of : Header → List Event → Result (Header × List Event) LogMisread
 log_of h es = Ok (pair_of h es)
 
 -- the events of a log have distinct stamps
 pub distinct-log : (bytes : List ℕ) (header : Header) (events : List Event) → log bytes ≡ Ok (header, events) → IsTrue (are_distinct events)
 unfolding log
 distinct-log bytes header events e = by (in_log (header_at bytes)) e where
-  by_events : (h : Header) (r : Result (List Event) LogFault) → (r >>= λ es. log_of h es) ≡ log_of header events → r ≡ Ok events
+  by_events : (h : Header) (r : Result (List Event) LogMisread) → (r >>= λ es. log_of h es) ≡ log_of header events → r ≡ Ok events
   by_events h (Ok es) q =
       let same : log_of h es ≡ log_of header events = q in
       let pair : pair_of h es ≡ pair_of header events = cc in
       ap (λ (p : Header × List Event). Ok p.1) pair
   by_events h (Err f) q = absurd cc
 
-  by : (r : Result (Header × List ℕ) LogFault) → (r >>= λ h. events_at (length h.1) h.0.n [] h.1 >>= λ es. log_of h.0 es) ≡ log_of header events → IsTrue (are_distinct events)
+  by : (r : Result (Header × List ℕ) LogMisread) → (r >>= λ h. events_at (length h.1) h.0.n [] h.1 >>= λ es. log_of h.0 es) ≡ log_of header events → IsTrue (are_distinct events)
   by (Ok h) q = distinct-events (length h.1) h.0.n [] events h.1 tt refl (by_events h.0 (events_at (length h.1) h.0.n [] h.1) q)
   by (Err f) q = absurd cc

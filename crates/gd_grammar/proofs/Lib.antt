@@ -1,2 +1,13 @@
-pub mod EventsLemmas
-pub mod DistinctLemmas
+mod EventsLemmas
+mod DistinctLemmas
+pub mod Steady
+pub mod SteadyFields
+pub mod Exact
+pub mod Many
+pub mod SoundFields
+pub mod ExactFields
+pub mod ExactEvent
+pub mod ExactHeader
+pub mod ExactFrame
+pub mod FrameWhole
+mod ByteLemmas

@@ -1,14 +1,14 @@
--- The bytes of an event: its stamp, its number, a tag and the body by the tag. Numbers are big-endian, and a signed field
--- is two's complement. A field that isn't whole is Short, and one out of its range is Field at its first byte. An id in a
--- body that isn't before the event's stamp is FutureId at its first byte, and else a member's id that isn't above that of
--- the member before it is MemberOrder there; both are judged before the fields behind the id.
-use Rattle.std.specs.Prelude.{ℕ, zero, suc, ℤ, Option, Some, None, List, [], ◌∷◌, Ok, Err, ◌&&◌, nat_lt, nat_le, ◌==◌, if◌then◌else◌}
-use Rattle.std.specs.Int.{w16, w32, w64, from_be_bytes, cast_signed}
-use Rattle.gd_base.specs.Stamps.{Stamp, is_before}
-use Rattle.gd_base.specs.Labels.{most_label, is_plain}
-use Rattle.gd_base.specs.Ranges.{place_limit, size_limit, is_within, is_colour, is_width}
-use Rattle.gd_base.specs.declared.fault.FieldWhy.TheVariants.{Field, FutureId, MemberOrder}
+-- The bytes of an event of a drawing: its stamp, its number, a tag and the body by the tag. A member's id that isn't above
+-- that of the member before it is MemberOrder at its first byte. That, and whether an id is before the event's stamp, is
+-- judged before the fields behind the id.
+use Rattle.std.specs.Prelude.{ℕ, Option, Some, None, List, Ok, Err, ◌&&◌, nat_le, ◌==◌, if◌then◌else◌}
+use Rattle.gd_base.specs.Stamps.{Stamp}
+use Rattle.gd_base.specs.Labels.{most_label}
+use Rattle.gd_base.specs.Ranges.{place_limit, size_limit, is_colour, is_width}
+use Rattle.gd_base.specs.Results.{◌>>=◌}
+use Rattle.gd_base.specs.declared.fault.FieldWhy.TheVariants.{Field, MemberOrder}
 use Rattle.gd_base.specs.declared.member.Member.{Member}
+use Rattle.gd_base.specs.declared.ranges.TheConstants.{MOST_MEMBERS}
 use Rattle.gd_base.specs.declared.shape.Shape.{Shape}
 use Rattle.gd_base.specs.declared.shape.Shape.TheVariants.{Rect, Ellipse, Line, Text}
 use Rattle.gd_base.specs.declared.style.Style.{Style}
@@ -17,48 +17,8 @@ use Rattle.gd_events.specs.declared.op.Op.{Op}
 use Rattle.gd_events.specs.declared.op.Op.TheVariants.{Create, Delete, Move, Resize, Restyle, Retext, Group, Ungroup, Raise}
 use Rattle.gd_events.specs.Events.{Event}
 use Rattle.gd_events.specs.Sound.{is_above}
-use Rattle.gd_base.specs.Results.{◌>>=◌}
-use Rattle.gd_grammar.specs.Reading.{Reads, fault_at, short, bytes_at, ranged}
-
-unfoldable pub byte_at : List ℕ → Reads ℕ
-byte_at [] = Err short
-byte_at (b ∷ rest) = Ok (b, rest)
-
--- 1 to 2^48 - 1
-unfoldable pub clock_at : List ℕ → Reads ℕ
-clock_at bytes = do
-  six ← bytes_at 6 bytes
-  ranged (nat_lt 0 (from_be_bytes w64 (0 ∷ 0 ∷ six.0))) (from_be_bytes w64 (0 ∷ 0 ∷ six.0)) bytes six.1
-
--- 1 to 16
-unfoldable pub site_at : List ℕ → Reads ℕ
-site_at bytes = do
-  site ← byte_at bytes
-  ranged (nat_le 1 site.0 && nat_le site.0 16) site.0 bytes site.1
-
-unfoldable pub stamp_at : List ℕ → Reads Stamp
-stamp_at bytes = do
-  clock ← clock_at bytes
-  site ← site_at clock.1
-  Ok (record { clock = clock.0; site = site.0 }, site.1)
-
--- an id in the body of the event with this stamp
-unfoldable pub id_at : Stamp → List ℕ → Reads Stamp
-id_at stamp bytes = do
-  id ← stamp_at bytes
-  if is_before id.0 stamp then Ok id else Err (fault_at FutureId bytes)
-
--- 1 to 65,535
-unfoldable pub number_at : List ℕ → Reads ℕ
-number_at bytes = do
-  two ← bytes_at 2 bytes
-  ranged (nat_lt 0 (from_be_bytes w16 two.0)) (from_be_bytes w16 two.0) bytes two.1
-
--- from -limit to limit
-unfoldable pub signed_at : ℕ → List ℕ → Reads ℤ
-signed_at limit bytes = do
-  four ← bytes_at 4 bytes
-  ranged (is_within limit (cast_signed w32 (from_be_bytes w32 four.0))) (cast_signed w32 (from_be_bytes w32 four.0)) bytes four.1
+use Rattle.gd_grammar.specs.Reading.{Reads, fault_at, ranged, many_at}
+use Rattle.gd_grammar.specs.Fields.{byte_at, stamp_at, id_at, number_at, signed_at, label_within, word_at}
 
 unfoldable pub shape_at : List ℕ → Reads Shape
 shape_at bytes = do
@@ -69,19 +29,8 @@ shape_at bytes = do
       else if kind.0 == 4 then Ok (Text, kind.1)
       else Err (fault_at Field bytes)
 
--- a length, and that many bytes of a text without control characters
-unfoldable pub label_at : List ℕ → Reads (List ℕ)
-label_at bytes = do
-  len ← byte_at bytes
-  if nat_lt most_label len.0 then Err (fault_at Field bytes) else (do
-    text ← bytes_at len.0 len.1
-    ranged (is_plain text.0) text.0 len.1 text.1)
-
--- a number of four bytes
-unfoldable pub word_at : List ℕ → Reads ℕ
-word_at bytes = do
-  four ← bytes_at 4 bytes
-  Ok (from_be_bytes w32 four.0, four.1)
+abbrev pub label_at : List ℕ → Reads (List ℕ)
+label_at bytes = label_within most_label bytes
 
 unfoldable pub colour_at : List ℕ → Reads ℕ
 colour_at bytes = do
@@ -168,7 +117,7 @@ retext_at stamp bytes = do
 unfoldable pub member_count_at : List ℕ → Reads ℕ
 member_count_at bytes = do
   count ← byte_at bytes
-  ranged (nat_le 2 count.0 && nat_le count.0 32) count.0 bytes count.1
+  ranged (nat_le 2 count.0 && nat_le count.0 MOST_MEMBERS) count.0 bytes count.1
 
 -- the id of a member behind a last one, if there is one
 unfoldable pub member_id_at : Stamp → Option Stamp → List ℕ → Reads Stamp
@@ -184,12 +133,8 @@ member_at stamp last bytes = do
   Ok (record { id = id.0; dx = dx.0; dy = dy.0 }, dy.1)
 
 -- so many members behind a last one, if there is one
-unfoldable pub members_at : ℕ → Stamp → Option Stamp → List ℕ → Reads (List Member)
-members_at zero stamp last bytes = Ok ([], bytes)
-members_at (suc count) stamp last bytes = do
-  member ← member_at stamp last bytes
-  members ← members_at count stamp (Some member.0.id) member.1
-  Ok (member.0 ∷ members.0, members.1)
+abbrev pub members_at : ℕ → Stamp → Option Stamp → List ℕ → Reads (List Member)
+members_at count stamp last bytes = many_at (member_at stamp) (λ m. Some m.id) count last bytes
 
 unfoldable pub group_at : Stamp → List ℕ → Reads Op
 group_at stamp bytes = do

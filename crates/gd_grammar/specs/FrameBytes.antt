@@ -2,32 +2,28 @@
 -- stamp, or seven bytes 0 for none, and a name of length 0 is none. Each event has to be next in the frame, which is judged
 -- once it was read (else Disorder, at its first byte): its site is the sender's, its number is one above that of the event
 -- before it, its clock is above that of the event before it, and both are at most the head's.
-use Rattle.std.specs.Prelude.{◌≡◌, ℕ, zero, suc, ◌+◌, ◌<◌, ◌^◌, Bool, true, ◌&&◌, ◌==◌, nat_le, nat_lt, if◌then◌else◌, List, [], ◌∷◌, ◌++◌, length, Option, None, Some, Result, Ok, Err}
+use Rattle.std.specs.Prelude.{◌≡◌, ℕ, ◌+◌, ◌<◌, ◌^◌, Bool, true, ◌&&◌, ◌==◌, nat_le, nat_lt, if◌then◌else◌, List, [], ◌∷◌, ◌++◌, length, Option, None, Some, Result, Ok, Err}
 use Rattle.std.specs.Int.{w16, w64, from_be_bytes, bytes_high_first}
-use Rattle.gd_base.specs.Stamps.{Stamp, IsStamp}
 use Rattle.gd_base.specs.Labels.{most_name, is_name}
+use Rattle.gd_base.specs.Results.{◌>>=◌}
+use Rattle.gd_base.specs.Sites.{is_site, IsSite}
+use Rattle.gd_base.specs.Stamps.{Stamp, IsStamp}
 use Rattle.gd_base.specs.declared.fault.FieldFault.{FieldFault}
 use Rattle.gd_base.specs.declared.fault.FieldWhy.{FieldWhy}
 use Rattle.gd_base.specs.declared.fault.FieldWhy.TheVariants as field
 use Rattle.gd_base.specs.declared.fault.WireWhy.{WireWhy}
 use Rattle.gd_base.specs.declared.fault.WireWhy.TheVariants.{Short, Magic, Version, Field, FutureId, MemberOrder, Disorder, Trailing}
 use Rattle.gd_base.specs.declared.note.Note.{Note}
+use Rattle.gd_base.specs.declared.ranges.TheConstants.{CLOCK_LIMIT, SITES}
 use Rattle.gd_events.specs.Events.{Event}
 use Rattle.gd_events.specs.Sound.{IsSound}
-use Rattle.gd_base.specs.Results.{◌>>=◌}
-use Rattle.gd_grammar.specs.Reading.{Reads, fault_at, bytes_at, ranged}
-use Rattle.gd_grammar.specs.EventBytes.{byte_at, site_at, word_at, event_at}
-use Rattle.gd_grammar.specs.Spelling.{stamp_bytes, word_bytes, spelling}
-
--- the session, the sender and the receiver, how many of the receiver's events the sender holds, and how many events of its
--- own the sender has, and its clock
-pub record Head : Type 0 where
-  pub session : ℕ
-  pub from : ℕ
-  pub to : ℕ
-  pub ack : ℕ
-  pub count : ℕ
-  pub clock : ℕ
+use Rattle.gd_grammar.specs.declared.frame.Head.{Head}
+use Rattle.gd_grammar.specs.declared.frame.Last.{Last}
+use Rattle.gd_grammar.specs.Reading.{Reads, fault_at, bytes_at, ranged, many_at, AllFollow}
+use Rattle.gd_grammar.specs.Fields.{byte_at, site_at, word_at}
+use Rattle.gd_grammar.specs.FieldBytes.{stamp_bytes, word_bytes, each_bytes}
+use Rattle.gd_grammar.specs.EventBytes.{event_at}
+use Rattle.gd_grammar.specs.Spelling.{spelling}
 
 pub record Frame : Type 0 where
   pub head : Head
@@ -78,7 +74,7 @@ head_at bytes = do
 abbrev pub focus_by : ℕ → ℕ → List ℕ → List ℕ → List ℕ → Reads (Option Stamp)
 focus_by clock site at_clock at_site rest =
     if clock == 0 then (if site == 0 then Ok (None, rest) else Err (fault_at field.Field at_clock))
-    else ranged (nat_le 1 site && nat_le site 16) (Some (record { clock = clock; site = site })) at_site rest
+    else ranged (is_site SITES site) (Some (record { clock = clock; site = site })) at_site rest
 
 unfoldable pub focus_at : List ℕ → Reads (Option Stamp)
 focus_at bytes = do
@@ -133,25 +129,28 @@ abbrev pub in_frame : {A : Type 0} → Result A FieldFault → Result A Misread
 in_frame (Ok x) = Ok x
 in_frame (Err fault) = Err (record { why = frame_why fault.why; left = fault.left })
 
+-- what the next event is compared with
+abbrev pub last_of : Event → Last
+last_of e = record { number = e.number; clock = e.stamp.clock }
+
 -- the event follows the last one, if there is one
-abbrev pub follows : Option Event → Event → Bool
+abbrev pub follows : Option Last → Event → Bool
 follows None e = true
-follows (Some last) e = e.number == last.number + 1 && nat_lt last.stamp.clock e.stamp.clock
+follows (Some last) e = e.number == last.number + 1 && nat_lt last.clock e.stamp.clock
 
 -- the event is next in a frame with that head, behind the last one
-abbrev pub is_next_in : Head → Option Event → Event → Bool
+abbrev pub is_next_in : Head → Option Last → Event → Bool
 is_next_in head last e =
     e.stamp.site == head.from && (follows last e && (nat_le e.number head.count && nat_le e.stamp.clock head.clock))
 
-unfoldable pub next_event_at : Head → Option Event → List ℕ → Result (Event × List ℕ) Misread
+unfoldable pub next_event_at : Head → Option Last → List ℕ → Result (Event × List ℕ) Misread
 next_event_at head last bytes =
-    in_frame (event_at bytes) >>= λ e. if is_next_in head last e.0 then Ok e else Err (record { why = Disorder; left = length bytes })
+    in_frame (event_at bytes)
+    >>= λ e. if is_next_in head last e.0 then Ok e else Err (record { why = Disorder; left = length bytes })
 
 -- so many events behind the last one
-unfoldable pub frame_events_at : ℕ → Head → Option Event → List ℕ → Result (List Event × List ℕ) Misread
-frame_events_at zero head last bytes = Ok ([], bytes)
-frame_events_at (suc count) head last bytes =
-    next_event_at head last bytes >>= λ e. frame_events_at count head (Some e.0) e.1 >>= λ es. Ok (e.0 ∷ es.0, es.1)
+abbrev pub frame_events_at : ℕ → Head → Option Last → List ℕ → Result (List Event × List ℕ) Misread
+frame_events_at count head last bytes = many_at (next_event_at head) (λ e. Some (last_of e)) count last bytes
 
 -- nothing follows
 abbrev pub whole : {A : Type 0} → A × List ℕ → Result A Misread
@@ -173,16 +172,13 @@ frame bytes = frame_at bytes >>= whole
 
 -- ---- sound frames
 
-abbrev pub IsSite : ℕ → Type 0
-IsSite site = nat_le 1 site && nat_le site 16 ≡ true
-
 pub record IsHead (head : Head) : Type 0 where
   pub session : head.session < 2 ^ 32
   pub from : IsSite head.from
   pub to : IsSite head.to
   pub ack : head.ack < 2 ^ 16
   pub count : head.count < 2 ^ 16
-  pub clock : head.clock < 2 ^ 48
+  pub clock : head.clock < CLOCK_LIMIT
 
 abbrev pub IsFocus : Option Stamp → Type 0
 IsFocus None = Unit {0}
@@ -197,10 +193,14 @@ pub record IsNote (note : Note) : Type 0 where
   pub focus : IsFocus note.focus
   pub name : IsNameOrNone note.name
 
--- the events obey the order rules of a frame with that head, behind the last one
-unfoldable pub AreInTurn : Head → Option Event → List Event → Type 0
-AreInTurn head last [] = Unit {0}
-AreInTurn head last (e ∷ es) = IsSound e × (is_next_in head last e ≡ true) × AreInTurn head (Some e) es
+-- the event may stand in a frame with that head, behind the last one
+pub record IsNext (head : Head) (last : Option Last) (e : Event) : Type 0 where
+  pub sound : IsSound e
+  pub next : is_next_in head last e ≡ true
+
+-- each of the events may stand there, behind the one before it
+abbrev pub AreInTurn : Head → Option Last → List Event → Type 0
+AreInTurn head last events = AllFollow (IsNext head) (λ e. Some (last_of e)) last events
 
 pub record IsFrame (f : Frame) : Type 0 where
   pub head : IsHead f.head
@@ -227,9 +227,8 @@ abbrev pub note_bytes : Note → List ℕ
 note_bytes note = bytes_high_first 2 note.number ++ focus_bytes note.focus ++ name_bytes note.name
 
 -- one event behind the other
-unfoldable pub events_bytes : List Event → List ℕ
-events_bytes [] = []
-events_bytes (e ∷ es) = spelling e ++ events_bytes es
+abbrev pub events_bytes : List Event → List ℕ
+events_bytes events = each_bytes spelling events
 
 -- the bytes of a frame
 abbrev pub frame_bytes : Frame → List ℕ

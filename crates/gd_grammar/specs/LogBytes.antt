@@ -9,11 +9,14 @@ use Rattle.gd_base.specs.declared.fault.FieldWhy.{FieldWhy}
 use Rattle.gd_base.specs.declared.fault.FieldWhy.TheVariants as field
 use Rattle.gd_base.specs.declared.fault.LogWhy.{LogWhy}
 use Rattle.gd_base.specs.declared.fault.LogWhy.TheVariants.{Short, Magic, Version, Field, FutureId, MemberOrder, NoSite, Turn, Backdated}
+use Rattle.gd_base.specs.declared.ranges.TheConstants.{SITES}
 use Rattle.gd_events.specs.Events.{Event}
 use Rattle.gd_base.specs.Results.{◌>>=◌}
 use Rattle.gd_grammar.specs.Reading.{Reads, fault_at, bytes_at, ranged}
-use Rattle.gd_grammar.specs.EventBytes.{byte_at, site_at, event_at}
-use Rattle.gd_grammar.specs.Spelling.{word_bytes, spelling}
+use Rattle.gd_grammar.specs.Fields.{byte_at, site_at}
+use Rattle.gd_grammar.specs.FieldBytes.{word_bytes}
+use Rattle.gd_grammar.specs.EventBytes.{event_at}
+use Rattle.gd_grammar.specs.Spelling.{spelling}
 
 -- the session, the site that keeps the log, and how many sites there are
 pub record Header : Type 0 where
@@ -25,7 +28,7 @@ pub record Header : Type 0 where
 pub record IsHeader (h : Header) : Type 0 where
   pub site_above : 1 ≤ h.site
   pub site_below : h.site ≤ h.n
-  pub few : h.n ≤ 16
+  pub few : h.n ≤ SITES
 
 -- GDOL
 abbrev pub magic : ℕ
@@ -53,7 +56,7 @@ session_at bytes = do
 unfoldable pub sites_at : ℕ → List ℕ → Reads ℕ
 sites_at site bytes = do
   n ← byte_at bytes
-  ranged (nat_le site n.0 && nat_le n.0 16) n.0 bytes n.1
+  ranged (nat_le site n.0 && nat_le n.0 SITES) n.0 bytes n.1
 
 unfoldable pub header_at : List ℕ → Reads Header
 header_at bytes = do
@@ -65,7 +68,7 @@ header_at bytes = do
   Ok (record { session = session.0; site = site.0; n = n.0 }, n.1)
 
 -- why bytes are no log, and how many of them stand from the fault's place on
-pub record LogFault : Type 0 where
+pub record LogMisread : Type 0 where
   pub why : LogWhy
   pub left : ℕ
 
@@ -78,11 +81,12 @@ log_why field.Field = Field
 log_why field.FutureId = FutureId
 log_why field.MemberOrder = MemberOrder
 
-abbrev pub in_log : {A : Type 0} → Result A FieldFault → Result A LogFault
+abbrev pub in_log : {A : Type 0} → Result A FieldFault → Result A LogMisread
 in_log (Ok x) = Ok x
 in_log (Err fault) = Err (record { why = log_why fault.why; left = fault.left })
 
--- how many events of the site there are, and the clock of the last, or 0
+-- how many events of the site there are, and the clock of the last, or 0 where there are none. So an event of clock 0 would
+-- be Backdated also as the first of its site; no event that is read has that clock.
 abbrev pub count_of : ℕ → List Event → ℕ
 count_of site events = count_by (λ e. e.stamp.site == site) events
 
@@ -102,21 +106,21 @@ left_of NoSite left = left - 6
 left_of Turn left = left - 7
 left_of other left = left
 
-abbrev pub settled : {A : Type 0} → Option LogWhy → ℕ → A → Result A LogFault
+abbrev pub settled : {A : Type 0} → Option LogWhy → ℕ → A → Result A LogMisread
 settled None left x = Ok x
 settled (Some why) left x = Err (record { why = why; left = left_of why left })
 
 -- an event behind these events
-unfoldable pub record_at : ℕ → List Event → List ℕ → Result (Event × List ℕ) LogFault
+unfoldable pub record_at : ℕ → List Event → List ℕ → Result (Event × List ℕ) LogMisread
 record_at n seen bytes = in_log (event_at bytes) >>= λ e. settled (turn_fault n seen e.0) (length bytes) e
 
 -- an event behind its gate, or the end of the log
-unfoldable pub step_at : ℕ → List Event → List ℕ → Result (Option (Event × List ℕ)) LogFault
+unfoldable pub step_at : ℕ → List Event → List ℕ → Result (Option (Event × List ℕ)) LogMisread
 step_at n seen [] = Ok None
 step_at n seen (b ∷ bytes) = if b == gate then (record_at n seen bytes >>= λ e. Ok (Some e)) else Ok None
 
 -- the events behind these, in at most k steps
-unfoldable pub events_at : ℕ → ℕ → List Event → List ℕ → Result (List Event) LogFault
+unfoldable pub events_at : ℕ → ℕ → List Event → List ℕ → Result (List Event) LogMisread
 events_at zero n seen bytes = Ok seen
 events_at (suc k) n seen bytes = step_at n seen bytes >>= elim [
   | None ↦ Ok seen
@@ -125,7 +129,7 @@ events_at (suc k) n seen bytes = step_at n seen bytes >>= elim [
 
 -- the header and the events of a log, or its first fault. A step takes a byte and more, so as many steps as there are
 -- bytes are enough
-unfoldable pub log : List ℕ → Result (Header × List Event) LogFault
+unfoldable pub log : List ℕ → Result (Header × List Event) LogMisread
 log bytes = in_log (header_at bytes) >>= λ h. events_at (length h.1) h.0.n [] h.1 >>= λ events. Ok (h.0, events)
 
 -- ---- the bytes as a function of the header and the events

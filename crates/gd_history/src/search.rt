@@ -11,7 +11,8 @@ use gd_base::Stamp;
 use gd_repair::Document;
 use std::alloc::{AllocError, Global};
 
-/// How many entries are not later than the stamp. It walks from the end, since most events come late in the order.
+/// How many entries are not later than the stamp. It walks from the end, since
+/// most events have a greater stamp than nearly all entries.
 pub(crate) fn place_of<D: Document>(entries: &[Entry<D>], stamp: Stamp) -> usize
     ensures { IsPlaceOf stamp (events_of entries.now) result }
 {

@@ -1,8 +1,10 @@
--- What is read is in its ranges: an edit's numbers, its ids, its label and how many members its group has; a focus, a name,
--- and the sites of a rehearsal.
+-- The ranges of what is read: of an edit its numbers, its ids, its label and how many members its group has; of other
+-- commands the focus and the name; and in a rehearsal the sites, and what a site is asked for.
 use Rattle.std.specs.Prelude.{◌≡◌, ℕ, ◌≤◌, ◌&&◌, true, Some, length}
 use Rattle.std.specs.List.{AllByRecursion}
 use Rattle.gd_base.specs.Stamps.{IsStamp}
+use Rattle.gd_base.specs.Sites.{IsSite}
+use Rattle.gd_base.specs.declared.ranges.TheConstants.{MOST_MEMBERS}
 use Rattle.gd_base.specs.Labels.{IsLabel, is_name}
 use Rattle.gd_base.specs.Ranges.{place_limit, size_limit, is_within, is_style}
 use Rattle.gd_base.specs.declared.edit.Edit.{Edit}
@@ -15,13 +17,15 @@ use Rattle.gd_lines.specs.declared.command.ScriptLine.TheVariants as script
 -- the numbers of the edit are in their ranges, its ids are stamps, its label is one, and its group has 2 to 32 members
 abbrev pub IsEdit : Edit → Type 0
 IsEdit (wish.Create kind x y w h label) =
-    (is_within place_limit x && (is_within place_limit y && (is_within size_limit w && is_within size_limit h)) ≡ true) × IsLabel label
+    (is_within place_limit x && (is_within place_limit y
+    && (is_within size_limit w && is_within size_limit h)) ≡ true)
+    × IsLabel label
 IsEdit (wish.Delete id) = IsStamp id
 IsEdit (wish.Move id x y) = IsStamp id × (is_within place_limit x && is_within place_limit y ≡ true)
 IsEdit (wish.Resize id w h) = IsStamp id × (is_within size_limit w && is_within size_limit h ≡ true)
 IsEdit (wish.Restyle id style) = IsStamp id × (is_style style ≡ true)
 IsEdit (wish.Retext id label) = IsStamp id × IsLabel label
-IsEdit (wish.Group ids) = (2 ≤ length ids) × (length ids ≤ 32) × AllByRecursion IsStamp ids
+IsEdit (wish.Group ids) = (2 ≤ length ids) × (length ids ≤ MOST_MEMBERS) × AllByRecursion IsStamp ids
 IsEdit (wish.Ungroup id) = IsStamp id
 IsEdit (wish.Raise id) = IsStamp id
 
@@ -31,10 +35,14 @@ IsCommand (command.Focus (Some id)) = IsStamp id
 IsCommand (command.Name name) = is_name name ≡ true
 IsCommand other = Unit {0}
 
-abbrev pub IsSite : ℕ → Type 0
-IsSite site = (1 ≤ site) × (site ≤ 16)
+-- what a site of a rehearsal may be asked for: there is no link that it could poll, and the run's end is its own line
+abbrev pub IsAsked : Command → Type 0
+IsAsked command.Blank = ⊥
+IsAsked command.Poll = ⊥
+IsAsked command.Quit = ⊥
+IsAsked other = Unit {0}
 
 abbrev pub IsScriptLine : ScriptLine → Type 0
-IsScriptLine (script.At site command) = IsSite site × IsCommand command
+IsScriptLine (script.At site command) = IsSite site × IsCommand command × IsAsked command
 IsScriptLine (script.Send from to) = IsSite from × IsSite to
 IsScriptLine other = Unit {0}

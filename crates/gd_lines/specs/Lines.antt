@@ -7,6 +7,7 @@ use Rattle.std.specs.Prelude.{ℕ, zero, suc, ◌-◌, ℤ, pos, neg_ℤ, List, 
 use Rattle.std.specs.Str.{bytes_eq}
 use Rattle.gd_base.specs.Stamps.{Stamp}
 use Rattle.gd_base.specs.Ranges.{place_limit, size_limit}
+use Rattle.gd_base.specs.declared.ranges.TheConstants.{MOST_MEMBERS, WIDTH_LIMIT}
 use Rattle.gd_base.specs.declared.shape.Shape.{Shape}
 use Rattle.gd_base.specs.declared.style.Style.TheVariants as style
 use Rattle.gd_base.specs.declared.refusal.LineFault.{LineFault}
@@ -15,6 +16,7 @@ use Rattle.gd_base.specs.declared.edit.Edit.{Edit}
 use Rattle.gd_base.specs.declared.edit.Edit.TheVariants as edit
 use Rattle.gd_lines.specs.declared.verb.Verb.{Verb}
 use Rattle.gd_lines.specs.declared.verb.Verb.TheVariants.{Create, Delete, Move, Resize, Stroke, Fill, Width, Text, Group, Ungroup, Raise, Show, Poll, Status, Focus, Name, Who, Quit}
+use Rattle.gd_lines.specs.declared.command.TheConstants.{LONGEST_LINE}
 use Rattle.gd_lines.specs.declared.command.Command.{Command}
 use Rattle.gd_lines.specs.declared.command.Command.TheVariants as command
 use Rattle.gd_base.specs.Results.{◌>>=◌}
@@ -46,7 +48,7 @@ unfoldable pub natural_at : ℕ → ℕ → List ℕ → ReadsWords ℕ
 natural_at low high line = next BadNumber (natural_in low high) line
 
 unfoldable pub width_at : List ℕ → ReadsWords ℕ
-width_at line = natural_at 1 64 line
+width_at line = natural_at 1 WIDTH_LIMIT line
 
 unfoldable pub id_at : List ℕ → ReadsWords Stamp
 id_at line = next BadId id line
@@ -67,7 +69,7 @@ name_at line = next BadLabel name line
 unfoldable pub label_at : List ℕ → ReadsWords (List ℕ)
 label_at line = or_fault BadLabel [] (label (drop 1 line))
 
--- so many ids, behind those that were read
+-- `count` ids, behind those that were read
 unfoldable pub ids_at : ℕ → List Stamp → List ℕ → ReadsWords (List Stamp)
 ids_at zero ids line = Ok (ids, line)
 ids_at (suc count) ids line = id_at line >>= λ i. ids_at count (ids ++ i.0 ∷ []) i.1
@@ -99,7 +101,7 @@ verb text =
 abbrev pub fits : Verb → ℕ → Bool
 fits Create n = nat_le 5 n
 fits Text n = nat_le 1 n
-fits Group n = nat_le 2 n && nat_le n 32
+fits Group n = nat_le 2 n && nat_le n MOST_MEMBERS
 fits Move n = n == 3
 fits Resize n = n == 3
 fits Stroke n = n == 2
@@ -189,7 +191,7 @@ abbrev pub an_edit : ReadsWords Edit → ReadsWords Command
 an_edit (Ok e) = Ok (command.Edit e.0, e.1)
 an_edit (Err fault) = Err fault
 
--- a command's words behind its name, of which there are so many
+-- the `n` words behind a command's name
 abbrev pub command_at : Verb → ℕ → List ℕ → ReadsWords Command
 command_at Create n line = an_edit (create_at line)
 command_at Delete n line = an_edit (delete_at line)
@@ -215,17 +217,13 @@ abbrev pub counted_at : Option Verb → ℕ → List ℕ → ReadsWords Command
 counted_at None n line = Err UnknownCommand
 counted_at (Some verb) n line = if fits verb n then command_at verb n line else Err WrongCount
 
--- the most bytes of a line
-abbrev pub longest_line : ℕ
-longest_line = 1024
-
 abbrev pub first_of : {A : Type 0} → ReadsWords A → Result A LineFault
 first_of (Ok x) = Ok x.0
 first_of (Err fault) = Err fault
 
 abbrev pub line_of : List ℕ → Result Command LineFault
 line_of line =
-    if nat_lt longest_line (length line) then Err LongLine
+    if nat_lt LONGEST_LINE (length line) then Err LongLine
     else if count_words line == 0 then Ok command.Blank
     else first_of (counted_at (verb (word line)) (count_words line - 1) (behind line))
 

@@ -1,4 +1,4 @@
--- The printed lines beside those of a drawing and of a bad log. Each ends with LF. Numbers are decimal without leading zeros.
+-- The printed lines: `reply_text`, at the end, has a row for each. Each line ends with LF. Numbers are decimal without leading zeros.
 use Rattle.std.specs.Prelude.{ℕ, List, ◌++◌, Option, Some, None, Bool, true, false, codes, decimal}
 use Rattle.gd_base.specs.Stamps.{Stamp}
 use Rattle.gd_base.specs.declared.refusal.Refusal.{Refusal}
@@ -10,9 +10,11 @@ use Rattle.gd_base.specs.declared.fault.WireWhy.TheVariants as wire
 use Rattle.gd_base.specs.declared.fault.WireFault.{WireFault}
 use Rattle.gd_base.specs.declared.note.Note.{Note}
 use Rattle.gd_base.specs.declared.site_status.SiteStatus.{SiteStatus}
-use Rattle.gd_lines.specs.Text.{id_text, parent_text}
+use Rattle.gd_lines.specs.declared.reply.Reply.{Reply}
+use Rattle.gd_lines.specs.declared.reply.Reply.TheVariants.{Ready, Done, Refused, Item, End, Status, Noted, Who, Applied, Dropped, Reworked, Backdated, BadFrame, NotTaken, LongFrame, Polled, LinkFault, Mail, Delivered, BadLog, Usage, LineLimit, Arrivals, SiteLine, Churned, Same}
+use Rattle.gd_lines.specs.Text.{id_text, parent_text, item_line, end_line, bad_log_line}
 
--- why a line has no effect
+-- why a line is refused
 abbrev pub refusal_word : Refusal → List ℕ
 refusal_word why.LongLine = codes "LongLine"
 refusal_word why.UnknownCommand = codes "UnknownCommand"
@@ -64,7 +66,8 @@ unfoldable pub status_line : SiteStatus → List ℕ
 status_line status = status_text status ++ codes "\n"
 
 unfoldable pub site_line : ℕ → SiteStatus → List ℕ
-site_line site status = codes "site " ++ decimal site ++ codes " " ++ status_text status ++ codes "\n"
+site_line site status =
+    codes "site " ++ decimal site ++ codes " " ++ status_text status ++ codes "\n"
 
 unfoldable pub noted_line : ℕ → List ℕ
 noted_line number = codes "noted " ++ decimal number ++ codes "\n"
@@ -76,7 +79,8 @@ name_text (Some name) = name
 
 unfoldable pub who_line : ℕ → Note → List ℕ
 who_line site note =
-    codes "who " ++ decimal site ++ codes " " ++ name_text note.name ++ codes " focus " ++ parent_text note.focus ++ codes "\n"
+    codes "who " ++ decimal site ++ codes " " ++ name_text note.name
+    ++ codes " focus " ++ parent_text note.focus ++ codes "\n"
 
 unfoldable pub applied_line : Stamp → List ℕ
 applied_line id = codes "echo " ++ id_text id ++ codes " applied\n"
@@ -85,18 +89,23 @@ unfoldable pub dropped_line : Stamp → Stamp → List ℕ
 dropped_line id by = codes "echo " ++ id_text id ++ codes " dropped by " ++ id_text by ++ codes "\n"
 
 unfoldable pub reworked_line : Stamp → ℕ → List ℕ
-reworked_line id count = codes "echo " ++ id_text id ++ codes " reworked " ++ decimal count ++ codes "\n"
+reworked_line id count =
+    codes "echo " ++ id_text id ++ codes " reworked " ++ decimal count ++ codes "\n"
 
 -- the event's clock, and the sure clock
 unfoldable pub backdated_line : Stamp → ℕ → ℕ → List ℕ
-backdated_line id clock sure = codes "event " ++ id_text id ++ codes " refused: Backdated " ++ decimal clock ++ codes " " ++ decimal sure ++ codes "\n"
+backdated_line id clock sure =
+    codes "event " ++ id_text id ++ codes " refused: Backdated " ++ decimal clock
+    ++ codes " " ++ decimal sure ++ codes "\n"
 
 unfoldable pub bad_frame_line : WireFault → List ℕ
-bad_frame_line fault = codes "frame refused: " ++ wire_word fault.why ++ codes " at " ++ decimal fault.at ++ codes "\n"
+bad_frame_line fault =
+    codes "frame refused: " ++ wire_word fault.why ++ codes " at " ++ decimal fault.at ++ codes "\n"
 
--- so many events acknowledged, of so many
+-- `k` events acknowledged, where the site has made `own`
 unfoldable pub over_ack_line : ℕ → ℕ → List ℕ
-over_ack_line k own = codes "frame refused: OverAck " ++ decimal k ++ codes " " ++ decimal own ++ codes "\n"
+over_ack_line k own =
+    codes "frame refused: OverAck " ++ decimal k ++ codes " " ++ decimal own ++ codes "\n"
 
 abbrev pub not_taken_line : FrameFault → List ℕ
 not_taken_line frame.Session = codes "frame refused: Session\n"
@@ -133,9 +142,41 @@ arrivals_line applied dropped reworked undone =
 
 unfoldable pub churned_line : ℕ → ℕ → ℕ → ℕ → ℕ → List ℕ
 churned_line edits refused sent delivered idle =
-    codes "edits " ++ decimal edits ++ codes " refused " ++ decimal refused ++ codes " sent " ++ decimal sent
+    codes "edits " ++ decimal edits ++ codes " refused " ++ decimal refused
+    ++ codes " sent " ++ decimal sent
     ++ codes " delivered " ++ decimal delivered ++ codes " idle " ++ decimal idle ++ codes "\n"
 
 abbrev pub same_line : Bool → List ℕ
 same_line true = codes "same yes\n"
 same_line false = codes "same no\n"
+
+-- the line of a reply
+abbrev pub reply_text : Reply → List ℕ
+reply_text (Ready site n) = ready_line site n
+reply_text (Done id) = done_line id
+reply_text (Refused why) = refused_line why
+reply_text (Item item) = item_line item
+reply_text (End count) = end_line count
+reply_text (Status status) = status_line status
+reply_text (Noted number) = noted_line number
+reply_text (Who site note) = who_line site note
+reply_text (Applied id) = applied_line id
+reply_text (Dropped id by) = dropped_line id by
+reply_text (Reworked id count) = reworked_line id count
+reply_text (Backdated id clock sure) = backdated_line id clock sure
+reply_text (BadFrame fault) = bad_frame_line fault
+reply_text (NotTaken fault) = not_taken_line fault
+reply_text LongFrame = long_frame_line
+reply_text (Polled count) = polled_line count
+reply_text (LinkFault count) = link_fault_line count
+reply_text (Mail number) = mail_line number
+reply_text (Delivered number) = delivered_line number
+reply_text (BadLog at why) = bad_log_line at why
+reply_text Usage = usage_line
+reply_text LineLimit = line_limit_line
+reply_text (Arrivals applied dropped reworked undone) =
+    arrivals_line applied dropped reworked undone
+reply_text (SiteLine site status) = site_line site status
+reply_text (Churned edits refused sent delivered idle) =
+    churned_line edits refused sent delivered idle
+reply_text (Same same) = same_line same

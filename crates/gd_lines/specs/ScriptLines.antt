@@ -1,18 +1,22 @@
 -- The lines of a rehearsal, and what they ask for. `at` is followed by a site and a command, whose name is known and whose words
 -- are counted before the site is read: the faults of the whole line come in the same order as those of a command.
 use Rattle.std.specs.Prelude.{ℕ, ◌-◌, ◌^◌, List, Bool, true, false, length, Option, Some, None, Result, Ok, Err, ◌==◌, nat_lt, codes, if◌then◌else◌}
+use Rattle.std.specs.Bool.{then_some}
+use Rattle.std.specs.Option.{option_and_then}
 use Rattle.std.specs.Str.{bytes_eq}
+use Rattle.gd_base.specs.declared.ranges.TheConstants.{SITES}
 use Rattle.gd_base.specs.declared.refusal.LineFault.{LineFault}
 use Rattle.gd_base.specs.declared.refusal.LineFault.TheVariants.{LongLine, UnknownCommand, WrongCount}
 use Rattle.gd_lines.specs.declared.verb.Verb.{Verb}
 use Rattle.gd_lines.specs.declared.verb.Verb.TheVariants.{Poll, Quit}
 use Rattle.gd_lines.specs.declared.verb.ScriptVerb.{ScriptVerb}
 use Rattle.gd_lines.specs.declared.verb.ScriptVerb.TheVariants as script
+use Rattle.gd_lines.specs.declared.command.TheConstants.{LONGEST_LINE}
 use Rattle.gd_lines.specs.declared.command.ScriptLine.{ScriptLine}
 use Rattle.gd_lines.specs.declared.command.ScriptLine.TheVariants as a_line
 use Rattle.gd_base.specs.Results.{◌>>=◌}
 use Rattle.gd_lines.specs.LineWords.{word, behind, count_words, without_cr}
-use Rattle.gd_lines.specs.Lines.{ReadsWords, verb, fits, command_at, natural_at, longest_line, first_of}
+use Rattle.gd_lines.specs.Lines.{ReadsWords, verb, fits, command_at, natural_at, first_of}
 
 unfoldable pub script_verb : List ℕ → Option ScriptVerb
 script_verb text =
@@ -29,11 +33,10 @@ is_askable Quit = false
 is_askable other = true
 
 abbrev pub asked : Option Verb → Option Verb
-asked None = None
-asked (Some verb) = if is_askable verb then Some verb else None
+asked verb = option_and_then (λ v. then_some (is_askable v) v) verb
 
 unfoldable pub site_at : List ℕ → ReadsWords ℕ
-site_at line = natural_at 1 16 line
+site_at line = natural_at 1 SITES line
 
 unfoldable pub mail_at : List ℕ → ReadsWords ℕ
 mail_at line = natural_at 0 (2 ^ 32 - 1) line
@@ -51,7 +54,9 @@ asked_at (Some verb) n line = if fits verb n then site_command_at verb n line el
 
 -- a site and a command: at least two words
 unfoldable pub at_at : ℕ → List ℕ → ReadsWords ScriptLine
-at_at n line = if nat_lt n 2 then Err WrongCount else asked_at (asked (verb (word (behind line)))) (n - 2) line
+at_at n line =
+    if nat_lt n 2 then Err WrongCount
+    else asked_at (asked (verb (word (behind line)))) (n - 2) line
 
 unfoldable pub send_at : List ℕ → ReadsWords ScriptLine
 send_at line = do
@@ -73,7 +78,7 @@ script_at (Some script.Quit) n line = if n == 0 then Ok (a_line.Quit, line) else
 
 abbrev pub script_of : List ℕ → Result ScriptLine LineFault
 script_of line =
-    if nat_lt longest_line (length line) then Err LongLine
+    if nat_lt LONGEST_LINE (length line) then Err LongLine
     else if count_words line == 0 then Ok a_line.Blank
     else first_of (script_at (script_verb (word line)) (count_words line - 1) (behind line))
 

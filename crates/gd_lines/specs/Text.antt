@@ -1,5 +1,5 @@
--- The printed lines: those of a drawing, which are a line for each shown object in printed order and then the number of
--- these lines, and that of bytes that are no log.
+-- The lines of a drawing, which are a line for each shown object in printed order and then the number of these lines; and
+-- the line of bytes that are no log.
 use Rattle.std.specs.Prelude.{ℕ, ◌+◌, ◌/◌, ◌%◌, ℤ, List, [], ◌∷◌, ◌++◌, length, map, Option, Some, None, ◌==◌, nat_lt, nat_le, codes, decimal, if◌then◌else◌}
 use Rattle.std.specs.Fmt.{signed_decimal}
 use Rattle.gd_base.specs.Stamps.{Stamp}
@@ -18,16 +18,18 @@ hex_digit d = if nat_lt d 10 then 48 + d else 55 + d
 unfoldable pub nibble : ℕ → ℕ → ℕ
 nibble number weight = hex_digit (number / weight % 16)
 
--- the digits in front of the last six
+-- the digits before the last six of a number of at most four bytes
 unfoldable pub high_digits : ℕ → List ℕ
 high_digits c =
     if nat_le 0x10000000 c then nibble c 0x10000000 ∷ nibble c 0x1000000 ∷ []
     else if nat_le 0x1000000 c then nibble c 0x1000000 ∷ []
     else []
 
--- a colour has at least six digits
+-- a number of at most four bytes, as a colour is: as many digits as it needs, and at least six
 unfoldable pub colour_text : ℕ → List ℕ
-colour_text c = high_digits c ++ nibble c 0x100000 ∷ nibble c 0x10000 ∷ nibble c 0x1000 ∷ nibble c 0x100 ∷ nibble c 0x10 ∷ nibble c 1 ∷ []
+colour_text c =
+    high_digits c ++ nibble c 0x100000 ∷ nibble c 0x10000 ∷ nibble c 0x1000 ∷ nibble c 0x100
+    ∷ nibble c 0x10 ∷ nibble c 1 ∷ []
 
 -- clock.site
 unfoldable pub id_text : Stamp → List ℕ
@@ -65,14 +67,16 @@ unfoldable pub size_text : ℤ → ℤ → List ℕ
 size_text w h = codes " size " ++ signed_decimal w ++ codes " " ++ signed_decimal h
 
 unfoldable pub colours_text : ℕ → Option ℕ → List ℕ
-colours_text stroke fill = codes " stroke " ++ colour_text stroke ++ codes " fill " ++ fill_text fill
+colours_text stroke fill =
+    codes " stroke " ++ colour_text stroke ++ codes " fill " ++ fill_text fill
 
 unfoldable pub width_text : ℕ → List ℕ
 width_text width = codes " width " ++ decimal width
 
 -- what only a shape has
 unfoldable pub look_text : ShapeItem → List ℕ
-look_text s = size_text s.w s.h ++ colours_text s.stroke s.fill ++ width_text s.width ++ label_text s.label
+look_text s =
+    size_text s.w s.h ++ colours_text s.stroke s.fill ++ width_text s.width ++ label_text s.label
 
 abbrev pub look_of : Option ShapeItem → List ℕ
 look_of (Some shape) = look_text shape

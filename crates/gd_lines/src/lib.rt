@@ -2,7 +2,9 @@
 #![tactic(auto)]
 
 mod command;
+mod reply;
 mod verb;
 
-pub use command::{Command, ScriptLine};
+pub use command::{Command, LONGEST_LINE, ScriptLine};
+pub use reply::Reply;
 pub use verb::{ScriptVerb, Verb};

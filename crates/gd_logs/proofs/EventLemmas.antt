@@ -10,7 +10,8 @@ use Rattle.gd_grammar.specs.LogBytes.{Header, LogFault, in_log, header_at, turn_
 use Rattle.gd_logs.specs.declared.log.ReadError.TheVariants.{Log}
 use Rattle.gd_logs.specs.declared.stopped.LogFault as reader
 use Rattle.gd_logs.specs.declared.stopped.LogFault.TheVariants.{Read, Bad}
-use Rattle.gd_logs.specs.Steps.{Step, StartIs, NextIs}
+use Rattle.gd_logs.specs.Steps.{Step, NextIs}
+use Rattle.gd_logs.specs.Reader.{StartIs}
 use Rattle.gd_logs.specs.Logs.{LogIs}
 use Rattle.gd_logs.proofs.RecordLemmas.{event-left, record-taken, record-refused, record-faulty}
 use Rattle.gd_grammar.proofs.EventsLemmas.{events-some, events-none, events-err}

@@ -5,3 +5,4 @@ pub mod TurnLemmas
 pub mod EventLemmas
 pub mod WrittenLemmas
 pub mod WriterLemmas
+mod NextLemmas

@@ -1,5 +1,5 @@
 -- A record, and a step of a log, by what reading its event gives.
-use Rattle.std.proofs.Common.{◌≡◌, ℕ, ◌+◌, ◌-◌, ◌≤◌, List, [], ◌∷◌, length, drop, refl, sym, ap, ◌∙◌, arith, eq-eqb}
+use Rattle.std.proofs.Common.{◌≡◌, ℕ, suc, ◌+◌, ◌-◌, ◌≤◌, List, [], ◌∷◌, length, drop, refl, sym, ap, ◌∙◌, arith, eq-eqb}
 use Rattle.std.proofs.lemmas.Bool.{ne_eqb}
 use Rattle.std.specs.Prelude.{Some, None, Ok, Err}
 use Rattle.std.proofs.lemmas.List.{length-drop}
@@ -7,12 +7,14 @@ use Rattle.gd_base.specs.declared.fault.FieldFault.{FieldFault}
 use Rattle.gd_base.specs.declared.fault.LogWhy.{LogWhy}
 use Rattle.gd_base.specs.declared.fault.LogWhy.TheVariants.{NoSite, Turn}
 use Rattle.gd_events.specs.Events.{Event}
+use Rattle.gd_grammar.specs.Reading.{place}
 use Rattle.gd_grammar.specs.EventBytes.{event_at}
 use Rattle.gd_grammar.specs.LogBytes.{Header, LogFault, log_why, in_log, turn_fault, left_of, gate, header_at, record_at, step_at}
-use Rattle.gd_wire.proofs.Steady.{IsEnd}
-use Rattle.gd_wire.proofs.SteadyFields.{Steady-event, Steady-header, event-long}
+use Rattle.gd_grammar.proofs.Steady.{IsEnd}
+use Rattle.gd_grammar.proofs.SteadyFields.{Steady-event, Steady-header, event-long}
+use Rattle.gd_logs.specs.declared.stopped.LogFault.TheVariants.{Bad}
 use Rattle.gd_logs.specs.Turns.{turn_place}
-use Rattle.gd_logs.specs.Steps.{IsFault}
+use Rattle.gd_logs.specs.Steps.{Step, IsFault, NextIs}
 
 -- ---- the record of an event
 
@@ -38,19 +40,11 @@ turn-left NoSite n h = (omega arith, omega arith)
 turn-left Turn n h = (omega arith, omega arith)
 turn-left other n h = (omega arith, omega arith)
 
-turn-inside : (why : LogWhy) (n : ℕ) → 9 ≤ n → turn_place why ≤ n
-turn-inside NoSite n h = omega arith
-turn-inside Turn n h = omega arith
-turn-inside other n h = omega arith
-
 -- an event takes at least nine bytes
 pub nine_bytes : (bytes : List ℕ) (x : Event × List ℕ) → event_at bytes ≡ Ok x → 9 ≤ length bytes
 nine_bytes bytes x e = omega (arith, event-long bytes x e)
 
-pub turn-near : (bytes : List ℕ) (x : Event × List ℕ) (why : LogWhy) → event_at bytes ≡ Ok x → turn_place why ≤ length bytes
-turn-near bytes x why e = turn-inside why (length bytes) (nine_bytes bytes x e)
-
-pub refused-there : (n : ℕ) (seen : List Event) (bytes : List ℕ) (x : Event × List ℕ) (why : LogWhy) → event_at bytes ≡ Ok x → turn_fault n seen x.0 ≡ Some why → IsFault (record_at n seen bytes) bytes (turn_place why) why
+refused-there : (n : ℕ) (seen : List Event) (bytes : List ℕ) (x : Event × List ℕ) (why : LogWhy) → event_at bytes ≡ Ok x → turn_fault n seen x.0 ≡ Some why → IsFault (record_at n seen bytes) bytes (turn_place why) why
 refused-there n seen bytes x why e t = let at = turn-left why (length bytes) (nine_bytes bytes x e) in record {
   left = left_of why (length bytes);
   is = record-refused n seen bytes x why e t;
@@ -58,12 +52,12 @@ refused-there n seen bytes x why e t = let at = turn-left why (length bytes) (ni
   there = at.1;
 }
 
-pub faulty-there : (n : ℕ) (seen : List Event) (bytes : List ℕ) (f : FieldFault) (at : ℕ) (why : LogWhy) → event_at bytes ≡ Err f → at + f.left ≡ length bytes → why ≡ log_why f.why → IsFault (record_at n seen bytes) bytes at why
-faulty-there n seen bytes f at why e sum same = rw same record {
+faulty-there : (n : ℕ) (seen : List Event) (bytes : List ℕ) (f : FieldFault) → event_at bytes ≡ Err f → IsFault (record_at n seen bytes) bytes (place bytes f.left) (log_why f.why)
+faulty-there n seen bytes f e = record {
   left = f.left;
   is = record-faulty n seen bytes f e;
-  inside = omega arith;
-  there = omega arith;
+  inside = Steady-event.inside bytes f e;
+  there = refl;
 }
 
 -- the end of some bytes, by how many bytes stand in front of it
@@ -97,7 +91,7 @@ unfolding step_at
 step-faulty n seen b bytes f g e = rw (eq-eqb b gate g, e) refl
 
 -- a fault of a record stands one byte farther on, behind the gate
-pub step-there : (n : ℕ) (seen : List Event) (b : ℕ) (bytes : List ℕ) (at : ℕ) (why : LogWhy) → b ≡ gate → IsFault (record_at n seen bytes) bytes at why → IsFault (step_at n seen (b ∷ bytes)) (b ∷ bytes) (at + 1) why
+step-there : (n : ℕ) (seen : List Event) (b : ℕ) (bytes : List ℕ) (at : ℕ) (why : LogWhy) → b ≡ gate → IsFault (record_at n seen bytes) bytes at why → IsFault (step_at n seen (b ∷ bytes)) (b ∷ bytes) (at + 1) why
 step-there n seen b bytes at why g h = record {
   left = h.left;
   is = step-faulty n seen b bytes (record { why = why; left = h.left }) g h.is;
@@ -105,16 +99,54 @@ step-there n seen b bytes at why g h = record {
   there = omega (arith, h.inside, h.there);
 }
 
+-- ---- a step at a place of a log, and where the log stands then
+
+-- at the log's end it stands where it stood
+pub ended-next : (step : Step) (at : ℕ) (bytes : List ℕ) → step ≡ Ok None → NextIs (Ok None) step at bytes at (drop (at - at) bytes)
+ended-next step at bytes h = let stays : at - at ≡ 0 = omega arith in rw stays (h, refl, refl)
+
+-- and at a fault, which stands so many bytes farther on
+fault-next : (step : Step) (at there within : ℕ) (bytes : List ℕ) (why : LogWhy) → there ≡ at + within → IsFault step bytes within why → NextIs (Err (Bad there why)) step at bytes at (drop (at - at) bytes)
+fault-next step at there within bytes why h fault = let stays : at - at ≡ 0 = omega arith in rw stays (within, fault, h, refl, refl)
+
+-- what an event leaves behind its gate
+gate-left : (b : ℕ) (bytes : List ℕ) (x : Event × List ℕ) → event_at bytes ≡ Ok x → (length x.1 ≤ suc (length bytes)) × (drop (suc (length bytes) - length x.1) (b ∷ bytes) ≡ x.1)
+gate-left b bytes x e =
+    let left = event-left bytes x e in
+    let behind : suc (length bytes) - length x.1 ≡ suc (length bytes - length x.1) = omega (arith, left.0) in
+    (omega (arith, left.0), rw behind left.1)
+
+pub event-shorter : (b : ℕ) (bytes : List ℕ) (x : Event × List ℕ) → event_at bytes ≡ Ok x → length x.1 ≤ length (b ∷ bytes)
+event-shorter b bytes x e = (gate-left b bytes x e).0
+
+-- it stands behind an event that is next in turn
+pub taken-next : (n : ℕ) (seen : List Event) (b : ℕ) (bytes : List ℕ) (x : Event × List ℕ) (at at' : ℕ) → b ≡ gate → event_at bytes ≡ Ok x → turn_fault n seen x.0 ≡ None → at' ≡ at + (length (b ∷ bytes) - length x.1)
+    → NextIs (Ok (Some x.0)) (step_at n seen (b ∷ bytes)) at (b ∷ bytes) at' (drop (at' - at) (b ∷ bytes))
+taken-next n seen b bytes x at at' open_gate e next moved =
+    let left = gate-left b bytes x e in
+    let count : at' - at ≡ suc (length bytes) - length x.1 = omega (arith, moved) in
+    rw (count, left.1) (step-taken n seen b bytes x open_gate (record-taken n seen bytes x e next), omega (arith, moved, left.0))
+
+pub refused-next : (n : ℕ) (seen : List Event) (b : ℕ) (bytes : List ℕ) (x : Event × List ℕ) (why : LogWhy) (at : ℕ) → b ≡ gate → event_at bytes ≡ Ok x → turn_fault n seen x.0 ≡ Some why
+    → NextIs (Err (Bad (at + 1 + turn_place why) why)) (step_at n seen (b ∷ bytes)) at (b ∷ bytes) at (drop (at - at) (b ∷ bytes))
+refused-next n seen b bytes x why at open_gate e broken =
+    fault-next _ at _ (turn_place why + 1) (b ∷ bytes) why (omega arith) (step-there n seen b bytes (turn_place why) why open_gate (refused-there n seen bytes x why e broken))
+
+pub faulty-next : (n : ℕ) (seen : List Event) (b : ℕ) (bytes : List ℕ) (f : FieldFault) (at : ℕ) → b ≡ gate → event_at bytes ≡ Err f
+    → NextIs (Err (Bad (at + 1 + place bytes f.left) (log_why f.why))) (step_at n seen (b ∷ bytes)) at (b ∷ bytes) at (drop (at - at) (b ∷ bytes))
+faulty-next n seen b bytes f at open_gate e =
+    fault-next _ at _ (place bytes f.left + 1) (b ∷ bytes) (log_why f.why) (omega arith) (step-there n seen b bytes (place bytes f.left) (log_why f.why) open_gate (faulty-there n seen bytes f e))
+
 -- ---- the header
 
 -- what a header leaves, by how many bytes it took
 pub header-left : (bytes : List ℕ) (x : Header × List ℕ) → header_at bytes ≡ Ok x → (length x.1 ≤ length bytes) × (drop (length bytes - length x.1) bytes ≡ x.1)
 header-left bytes x e = left-by-end bytes x.1 (Steady-header.suffix bytes x e)
 
-pub header-faulty : (bytes : List ℕ) (f : FieldFault) (at : ℕ) (why : LogWhy) → header_at bytes ≡ Err f → at + f.left ≡ length bytes → why ≡ log_why f.why → IsFault (in_log (header_at bytes)) bytes at why
-header-faulty bytes f at why e sum same = rw same record {
+pub header-faulty : (bytes : List ℕ) (f : FieldFault) → header_at bytes ≡ Err f → IsFault (in_log (header_at bytes)) bytes (0 + place bytes f.left) (log_why f.why)
+header-faulty bytes f e = record {
   left = f.left;
   is = rw e refl;
-  inside = omega arith;
+  inside = Steady-header.inside bytes f e;
   there = omega arith;
 }

@@ -1,5 +1,5 @@
 -- A step over what was read ahead is the step over the whole stream, where enough was read ahead.
-use Rattle.std.proofs.Common.{◌≡◌, ℕ, ◌+◌, ◌<◌, ◌≤◌, ◌⊎◌, Bool, true, false, cond, eqb, List, [], ◌∷◌, ◌++◌, length, drop, refl, sym, ap, ◌∙◌, arith, inl, inr}
+use Rattle.std.proofs.Common.{◌≡◌, ℕ, ◌+◌, ◌-◌, ◌<◌, ◌≤◌, ◌⊎◌, Bool, true, false, cond, eqb, List, [], ◌∷◌, ◌++◌, length, drop, refl, sym, ap, ◌∙◌, arith, inl, inr}
 use Rattle.std.specs.Prelude.{Option, Some, None, Result, Ok, Err}
 use Rattle.std.proofs.lemmas.List.{length-append, length-drop, append-nil}
 use Rattle.std.proofs.Common.{ltb}
@@ -13,9 +13,13 @@ use Rattle.gd_base.specs.Results.{◌>>=◌}
 use Rattle.gd_grammar.specs.Reading.{Reads}
 use Rattle.gd_grammar.specs.EventBytes.{event_at}
 use Rattle.gd_grammar.specs.LogBytes.{Header, LogFault, log_why, in_log, turn_fault, left_of, gate, header_at, record_at, step_at}
-use Rattle.gd_wire.proofs.Steady.{Steady, farther}
-use Rattle.gd_wire.proofs.SteadyFields.{Steady-event, Steady-header}
-use Rattle.gd_logs.specs.Steps.{Step, IsFault}
+use Rattle.gd_grammar.proofs.Steady.{Steady, farther}
+use Rattle.gd_grammar.proofs.SteadyFields.{Steady-event, Steady-header}
+use Rattle.gd_logs.specs.declared.pieces.TheConstants.{HEADER, RECORD}
+use Rattle.gd_logs.specs.declared.stopped.LogFault as reader
+use Rattle.gd_logs.specs.declared.stopped.LogFault.TheVariants.{Read, Bad}
+use Rattle.gd_logs.specs.Steps.{Step, IsFault, NextIs, HeaderIs}
+use Rattle.gd_logs.specs.Reader.{ending_at, StartIs}
 use Rattle.gd_logs.proofs.RecordLemmas.{nine_bytes, record-taken, record-refused, record-faulty}
 
 -- so many bytes were read ahead, or nothing is left behind them
@@ -132,12 +136,12 @@ unfolding step_at
 step-more n seen [] more x e = absurd cc
 step-more n seen (b ∷ bytes) more x e = behind-ok (eqb b gate) n seen bytes more x e
 
-pub step-none-more : (n : ℕ) (seen : List Event) (bytes more : List ℕ) → Enough 492 bytes more → step_at n seen bytes ≡ Ok None → step_at n seen (bytes ++ more) ≡ Ok None
+pub step-none-more : (n : ℕ) (seen : List Event) (bytes more : List ℕ) → Enough RECORD bytes more → step_at n seen bytes ≡ Ok None → step_at n seen (bytes ++ more) ≡ Ok None
 unfolding step_at
 step-none-more n seen [] more enough e = rw (enough (omega arith)) refl
 step-none-more n seen (b ∷ bytes) more enough e = behind-none (eqb b gate) n seen bytes more e
 
-pub step-fault-more : (n : ℕ) (seen : List Event) (bytes more : List ℕ) (f : LogFault) → Enough 492 bytes more → step_at n seen bytes ≡ Err f → step_at n seen (bytes ++ more) ≡ Err (farther_on f more)
+pub step-fault-more : (n : ℕ) (seen : List Event) (bytes more : List ℕ) (f : LogFault) → Enough RECORD bytes more → step_at n seen bytes ≡ Err f → step_at n seen (bytes ++ more) ≡ Err (farther_on f more)
 unfolding step_at
 step-fault-more n seen [] more f enough e = absurd cc
 step-fault-more n seen (b ∷ bytes) more f enough e = behind-err (eqb b gate) n seen bytes more f (λ lt. enough (omega arith)) e
@@ -162,7 +166,7 @@ header-more bytes more x e = by (header_at bytes) refl e where
   by (Err f) q k = absurd cc
 
 -- a fault of a header that was read ahead is a fault of the stream
-pub header-fault-more : (bytes more : List ℕ) (f : LogFault) → Enough 11 bytes more → in_log (header_at bytes) ≡ Err f → in_log (header_at (bytes ++ more)) ≡ Err (farther_on f more)
+pub header-fault-more : (bytes more : List ℕ) (f : LogFault) → Enough HEADER bytes more → in_log (header_at bytes) ≡ Err f → in_log (header_at (bytes ++ more)) ≡ Err (farther_on f more)
 header-fault-more bytes more f enough e = by (header_at bytes) refl e where
   by : (r : Reads Header) → header_at bytes ≡ r → in_log r ≡ Err f → in_log (header_at (bytes ++ more)) ≡ Err (farther_on f more)
   by (Ok y) q k = absurd cc
@@ -172,18 +176,25 @@ header-fault-more bytes more f enough e = by (header_at bytes) refl e where
 
 -- ---- what was read ahead of a stream
 
--- a step that takes an event takes it from the stream
-pub stream-taken : (n : ℕ) (seen : List Event) (all ahead more : List ℕ) (e : Event) (k : ℕ) → all ≡ ahead ++ more → k ≤ length ahead → step_at n seen ahead ≡ Ok (Some (e, drop k ahead))
-    → (step_at n seen all ≡ Ok (Some (e, drop k ahead ++ more))) × (length all ≡ k + length (drop k ahead ++ more))
-stream-taken n seen all ahead more e k same fits h =
-    (rw same (step-more n seen ahead more (e, drop k ahead) h), rw same (omega (arith, length-append ahead more, length-append (drop k ahead) more, length-drop k ahead)))
+-- a step of what was read ahead is one of the stream
+pub stream-next : (result : Result (Option Event) reader.LogFault) (n : ℕ) (seen : List Event) (all ahead more : List ℕ) (at at' : ℕ) → (result ≡ Err Read → ⊥) → all ≡ ahead ++ more → Enough RECORD ahead more
+    → NextIs result (step_at n seen ahead) at ahead at' (drop (at' - at) ahead) → NextIs result (step_at n seen all) at all at' (drop (at' - at) ahead ++ more)
+stream-next (Ok None) n seen all ahead more at at' parsed same enough h = (rw same (step-none-more n seen ahead more enough h.0), rw h.1 (sym same), h.2)
+stream-next (Ok (Some e)) n seen all ahead more at at' parsed same enough h =
+    (rw same (step-more n seen ahead more (e, drop (at' - at) ahead) h.0), rw same (omega (arith, h.1, length-append ahead more, length-append (drop (at' - at) ahead) more)))
+stream-next (Err Read) n seen all ahead more at at' parsed same enough h = absurd (parsed refl)
+stream-next (Err (Bad there why)) n seen all ahead more at at' parsed same enough h = (
+  h.0,
+  rw same (there-more (step_at n seen) ahead more h.0 why (λ f e. step-fault-more n seen ahead more f enough e) h.1),
+  h.2,
+  rw h.3 (sym same),
+  h.4,
+)
 
-pub stream-ended : (n : ℕ) (seen : List Event) (all ahead more : List ℕ) → all ≡ ahead ++ more → Enough 492 ahead more → step_at n seen ahead ≡ Ok None → step_at n seen all ≡ Ok None
-stream-ended n seen all ahead more same enough h = rw same (step-none-more n seen ahead more enough h)
-
-pub stream-faulty : (n : ℕ) (seen : List Event) (all ahead more : List ℕ) (at : ℕ) (why : LogWhy) → all ≡ ahead ++ more → Enough 492 ahead more → IsFault (step_at n seen ahead) ahead at why → IsFault (step_at n seen all) all at why
-stream-faulty n seen all ahead more at why same enough h =
-    rw same (there-more (step_at n seen) ahead more at why (λ f e. step-fault-more n seen ahead more f enough e) h)
+-- nothing is ahead only where nothing is to come
+pub ending-ahead : (all ahead more : List ℕ) → all ≡ ahead ++ more → Enough RECORD ahead more → ending_at ahead ≡ ending_at all
+ending-ahead all [] more same enough = rw (same, enough (omega arith)) refl
+ending-ahead all (b ∷ ahead) more same enough = rw same refl
 
 -- a header that was read ahead is taken from the stream
 pub header-taken : (all ahead more : List ℕ) (h : Header) (k : ℕ) → all ≡ ahead ++ more → k ≤ length ahead → in_log (header_at ahead) ≡ Ok (h, drop k ahead)
@@ -191,6 +202,12 @@ pub header-taken : (all ahead more : List ℕ) (h : Header) (k : ℕ) → all �
 header-taken all ahead more h k same fits e =
     (rw same (header-more ahead more (h, drop k ahead) e), rw same (omega (arith, length-append ahead more, length-append (drop k ahead) more, length-drop k ahead)))
 
-pub header-there : (all ahead more : List ℕ) (at : ℕ) (why : LogWhy) → all ≡ ahead ++ more → Enough 11 ahead more → IsFault (in_log (header_at ahead)) ahead at why → IsFault (in_log (header_at all)) all at why
-header-there all ahead more at why same enough h =
+pub header-refused : (fault : reader.LogFault) (all ahead more left : List ℕ) → all ≡ ahead ++ more → Enough HEADER ahead more → HeaderIs (Err fault) ahead → StartIs (Err fault) all left
+header-refused Read all ahead more left same enough h = tt
+header-refused (Bad at why) all ahead more left same enough h =
     rw same (there-more (λ bytes. in_log (header_at bytes)) ahead more at why (λ f e. header-fault-more ahead more f enough e) h)
+
+pub parsed-header : (r : Result (Header × ℕ) reader.LogFault) (bytes : List ℕ) → HeaderIs r bytes → r ≡ Err Read → ⊥
+parsed-header (Ok x) bytes h e = cc
+parsed-header (Err Read) bytes h e = h
+parsed-header (Err (Bad at why)) bytes h e = cc

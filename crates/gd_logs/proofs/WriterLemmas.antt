@@ -7,6 +7,7 @@ use Rattle.gd_outside.specs.Journals.{put_at, MayWrite}
 use Rattle.gd_outside.proofs.JournalLemmas.{put_at-end}
 use Rattle.gd_grammar.specs.Spelling.{spelling}
 use Rattle.gd_grammar.specs.LogBytes.{Header, log, gate, header_bytes, gated_bytes, logged}
+use Rattle.gd_logs.specs.declared.pieces.TheConstants.{HEADER}
 use Rattle.gd_logs.specs.Written.{IsLogOf, IsLogAt, IsWithOrWithout, with_record}
 use Rattle.gd_logs.proofs.WrittenLemmas.{log-shut, log-logged, logged-at}
 
@@ -59,8 +60,8 @@ log-behind h events old more of =
     let front = header_bytes h ++ gated_bytes events in
     ap (λ (l : List ℕ). log (l ++ more)) of.is
     ∙ ap log (append_assoc front (0 ∷ []) more)
-    ∙ log-shut h events 0 more of.header of.session of.next refl
-    ∙ sym (ap log of.is ∙ log-logged h events of.header of.session of.next)
+    ∙ log-shut h events 0 more of.ruled.header of.ruled.session of.ruled.next refl
+    ∙ sym (ap log of.is ∙ log-logged h events of.ruled.header of.ruled.session of.ruled.next)
 
 -- whatever byte stands in the place of the closed gate, before a record
 log-at-gate : (h : Header) (events : List Event) (old s : List ℕ) (place b : ℕ) → IsLogOf h events old → length old ≡ place + 1 → IsWithOrWithout old s (take place old ++ (b ∷ (s ++ 0 ∷ [])))
@@ -71,8 +72,8 @@ log-at-gate h events old s place b of len = by (eqb b gate) refl where
       ap (λ (c : ℕ). log (take place old ++ (c ∷ (s ++ 0 ∷ [])))) at ∙ ap log (record-put old s place len))
   by false shut = inl (
       ap (λ (l : List ℕ). log (l ++ (b ∷ (s ++ 0 ∷ [])))) (front-of (header_bytes h ++ gated_bytes events) old place of.is len)
-      ∙ log-shut h events b (s ++ 0 ∷ []) of.header of.session of.next shut
-      ∙ sym (ap log of.is ∙ log-logged h events of.header of.session of.next))
+      ∙ log-shut h events b (s ++ 0 ∷ []) of.ruled.header of.ruled.session of.ruled.next shut
+      ∙ sym (ap log of.is ∙ log-logged h events of.ruled.header of.ruled.session of.ruled.next))
 
 -- ---- an append of the bytes s, with old contents, those with the piece behind them, and new ones
 
@@ -118,7 +119,7 @@ pub started : (h : Header) (piece old new : List ℕ) → piece ≡ header_bytes
 unfolding gated_bytes
 started h piece old new same none whole = whole ∙ ap (λ (l : List ℕ). put_at l 0 piece) none ∙ put_at-end [] piece 0 refl ∙ same
 
-pub started-at : (h : Header) (new : List ℕ) → new ≡ logged h [] → IsLogAt 11 new
+pub started-at : (h : Header) (new : List ℕ) → new ≡ logged h [] → IsLogAt HEADER new
 unfolding gated_bytes
 started-at h new is = (h, [], is, ap length is)
 

@@ -7,8 +7,8 @@ use Rattle.gd_events.specs.Events.{Event}
 use Rattle.gd_events.specs.Sound.{IsSound}
 use Rattle.gd_grammar.specs.Spelling.{spelling}
 use Rattle.gd_grammar.specs.LogBytes.{Header, IsHeader, in_log, turn_fault, left_of, gate, step_at, log, header_bytes, gated_bytes, logged}
-use Rattle.gd_wire.proofs.ExactEvent.{exact_event}
-use Rattle.gd_wire.proofs.ExactHeader.{exact_header}
+use Rattle.gd_grammar.proofs.ExactEvent.{exact_event}
+use Rattle.gd_grammar.proofs.ExactHeader.{exact_header}
 use Rattle.gd_logs.specs.Written.{AreNext}
 use Rattle.gd_logs.proofs.RecordLemmas.{record-taken, record-refused, step-taken, step-faulty}
 use Rattle.gd_logs.proofs.EventLemmas.{log_from, log-start, from-some, from-none, from-err}

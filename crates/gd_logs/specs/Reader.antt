@@ -1,11 +1,15 @@
--- What contracts see of a reader of a log.
-use Rattle.std.specs.Prelude.{ℕ, List, Option, None, Some, Result, Ok, Err}
+-- What contracts see of a reader of a log, and of its next event.
+use Rattle.std.specs.Prelude.{◌≡◌, ℕ, ◌+◌, List, [], ◌∷◌, ◌++◌, length, Option, None, Some, Result, Ok, Err, IfOk, IfSome, IsSome, OnErr}
 use Rattle.gd_events.specs.Events.{Event}
-use Rattle.gd_grammar.specs.LogBytes.{Header}
-use Rattle.gd_logs.specs.Turns.{Turns}
+use Rattle.gd_grammar.specs.LogBytes.{Header, header_at, in_log, step_at}
+use Rattle.gd_outside.specs.Seen.{SeenSource}
+use Rattle.gd_logs.specs.Stream.{stream}
+use Rattle.gd_logs.specs.Turns.{Turns, Follows, Took, OneMore}
+use Rattle.gd_logs.specs.Steps.{IsFault, NextIs}
 use Rattle.gd_logs.specs.declared.stopped.Stopped.{Stopped}
-use Rattle.gd_logs.specs.declared.stopped.Stopped.TheVariants.{End, Fault}
+use Rattle.gd_logs.specs.declared.stopped.Stopped.TheVariants.{Gate, EndOfBytes, Fault}
 use Rattle.gd_logs.specs.declared.stopped.LogFault.{LogFault}
+use Rattle.gd_logs.specs.declared.stopped.LogFault.TheVariants.{Read, Bad}
 
 pub record Reader : Type 0 where
   pub header : Header
@@ -14,16 +18,43 @@ pub record Reader : Type 0 where
   -- the bytes that it took from the source and hasn't used
   pub ahead : List ℕ
   pub turns : Turns
-  -- how reading came to its end, if it did
+  -- why reading stopped, if it did
   pub stopped : Option Stopped
 
--- what is answered once reading came to its end
+-- the end of a log that ends in front of these bytes: a closed gate, or nothing in a gate's place
+abbrev pub ending_at : List ℕ → Stopped
+ending_at [] = EndOfBytes
+ending_at (b ∷ bytes) = Gate
+
+-- what is returned once reading stopped
 abbrev pub answer_of : Stopped → Result (Option Event) LogFault
-answer_of End = Ok None
+answer_of Gate = Ok None
+answer_of EndOfBytes = Ok None
 answer_of (Fault fault) = Err fault
 
--- how an answer brings reading to its end, if it does
-abbrev pub stop_of : Result (Option Event) LogFault → Option Stopped
-stop_of (Ok (Some e)) = None
-stop_of (Ok None) = Some End
-stop_of (Err fault) = Some (Fault fault)
+-- why reading stops at this result, if it does, with these bytes still to come
+abbrev pub stop_of : Result (Option Event) LogFault → List ℕ → Option Stopped
+stop_of (Ok (Some e)) bytes = None
+stop_of (Ok None) bytes = Some (ending_at bytes)
+stop_of (Err fault) bytes = Some (Fault fault)
+
+-- a reader that stands behind the header of these bytes, and what the source has left; or the fault
+abbrev pub StartIs : Result (Reader × Header) LogFault → List ℕ → List ℕ → Type 0
+StartIs (Ok (r, h)) all left = (in_log (header_at all) ≡ Ok (h, r.ahead ++ left)) × (r.place + length (r.ahead ++ left) ≡ length all)
+StartIs (Err Read) all left = Unit {0}
+StartIs (Err (Bad at why)) all left = IsFault (in_log (header_at all)) all at why
+
+-- the result of the next event, with reader and source before and after it; of a reader that reading stopped nothing is read
+pub record IsNext (old : Reader) (result : Result (Option Event) LogFault) (new : Reader) (before after : SeenSource) : Type 0 where
+  pub exact : old.stopped ≡ None → (seen : List Event) → Follows old.turns seen → IsSome after.left
+      → NextIs result (step_at old.header.n seen (stream old.ahead before.left))
+      old.place (stream old.ahead before.left) new.place (stream new.ahead after.left)
+  pub follows : IfOk result (λ o. IfSome o (λ e. (seen : List Event) → Follows old.turns seen → Took seen e new.turns))
+  pub one_more : IfOk result (λ o. IfSome o (λ e. OneMore old.turns new.turns))
+  pub header : new.header ≡ old.header
+  pub ended : result ≡ Ok None → (new.turns ≡ old.turns) × (new.place ≡ old.place)
+  pub err : OnErr result ((new.turns ≡ old.turns) × (new.place ≡ old.place))
+  pub stops : old.stopped ≡ None → new.stopped ≡ stop_of result new.ahead
+  -- where the source tells its bytes, the end is the one that they have
+  pub ending : old.stopped ≡ None → result ≡ Ok None → IsSome after.left
+      → new.stopped ≡ Some (ending_at (stream old.ahead before.left))

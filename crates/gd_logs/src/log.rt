@@ -1,23 +1,26 @@
 //! A whole log.
 
 ghost use Rattle.std.specs.Prelude.{◌≡◌, ◌≤◌, length, IfOk, IsSome, IsTrue};
+ghost use Rattle.gd_base.specs.declared.ranges.TheConstants.{SESSION_EVENTS};
 ghost use Rattle.gd_events.specs.Ordered.{are_distinct};
-ghost use Rattle.gd_grammar.specs.LogBytes.{log};
 ghost use Rattle.gd_outside.specs.Told.{told};
 ghost use Rattle.gd_outside.specs.Called.{SourceCalled};
 ghost use Rattle.gd_logs.specs.Logs.{LogIs};
-ghost use Rattle.gd_logs.specs.Turns.{most_events};
 
 use crate::reader::LogReader;
 use crate::stopped::LogFault;
 use gd_events::EventList;
 use gd_outside::Source;
+use gd_wire::LogHeader;
 use std::alloc::{AllocError, Global};
+use thiserror::Error;
 
 /// Why the events of a log aren't there.
-#[derive(Clone, Copy, Debug, PartialEq, Eq)]
+#[derive(Clone, Copy, Debug, PartialEq, Eq, Error)]
 pub enum ReadError {
+    #[error("out of memory")]
     Memory,
+    #[error(transparent)]
     Log(LogFault),
 }
 
@@ -43,17 +46,23 @@ impl From<AllocError> for ReadError {
     }
 }
 
-/// The events of a log, in its order. No two of them have one stamp.
-pub fn read_log<S: Source>(alloc: Global, source: &mut S) -> Result<EventList, ReadError>
+/// The header and the events of a log, in its order. No two events have one stamp.
+///
+/// `Log` with `Read` where a read failed and with `Bad` at the first fault of the bytes, and `Memory` where memory ran out.
+pub fn read_log<S: Source>(
+    alloc: Global,
+    source: &mut S,
+) -> Result<(LogHeader, EventList), ReadError>
     ensures exact { IsSome (S.seen source.new).left → LogIs result (told (S.seen source.old).left) }
-    ensures few { IfOk result (λ events. length events ≤ most_events) }
-    ensures distinct { IfOk result (λ events. IsTrue (are_distinct events)) }
-    ensures called { SourceCalled (S.seen source.old) (S.seen source.new) (result ≡ Err (ReadError.Log LogFault.Read)) }
+    ensures few { IfOk result (λ log. length log.1 ≤ SESSION_EVENTS) }
+    ensures distinct { IfOk result (λ log. IsTrue (are_distinct log.1)) }
+    ensures called { SourceCalled (S.seen source.old) (S.seen source.new)
+        (result ≡ Err (ReadError.Log LogFault.Read)) }
 {
-    let (mut reader, _) = LogReader::start(source)?;
+    let (mut reader, header) = LogReader::start(source)?;
     let mut events = EventList::new(alloc);
     'records: while let Some(event) = reader.next(source)? {
         events.push(event)?;
     }
-    Ok(events)
+    Ok((header, events))
 }

@@ -1,52 +1,25 @@
 //! One record of a log.
 
-ghost use Rattle.std.specs.Prelude.{◌≡◌, ℕ, ◌+◌, ◌≤◌, [], ◌∷◌, ◌++◌, List, length, IfOk, IfSome, IsSome, IfErr, OnErr};
+ghost use Rattle.std.specs.Prelude.{◌≡◌, ◌+◌, ◌-◌, ◌^◌, ◌≤◌, List, length, drop, None, IfOk, IfSome, IsSome, OnErr};
+ghost use Rattle.gd_base.specs.declared.ranges.TheConstants.{SITES};
 ghost use Rattle.gd_events.specs.Events.{Event as EventValue};
-ghost use Rattle.gd_grammar.specs.LogBytes.{log_why, record_at, step_at};
-ghost use Rattle.gd_logs.specs.Turns.{turn_place};
+ghost use Rattle.gd_grammar.specs.Reading.{place};
+ghost use Rattle.gd_grammar.specs.LogBytes.{log_why, step_at};
 ghost use Rattle.gd_outside.specs.Called.{SourceCalled};
+ghost use Rattle.gd_logs.specs.declared.ahead.TheConstants.{SIZE};
 ghost use Rattle.gd_logs.specs.Stream.{stream};
-ghost use Rattle.gd_logs.specs.Turns.{Follows, Took, OneMore};
-ghost use Rattle.gd_logs.specs.Steps.{RecordIs, StepIs, StreamStepIs, IsNear};
+ghost use Rattle.gd_logs.specs.Turns.{turn_place, Follows, Took, OneMore};
+ghost use Rattle.gd_logs.specs.Steps.{NextIs};
+ghost use Rattle.gd_logs.specs.Reader.{ending_at};
 
-use crate::ahead::Ahead;
+use crate::ahead::ReadAhead;
+use crate::pieces::{GATE, RECORD};
+use crate::stopped::LogFault;
 use crate::turns::Turns;
 use gd_base::{FieldFault, FieldWhy, LogWhy};
 use gd_events::Event;
-use gd_outside::{Failed, Source};
+use gd_outside::Source;
 use gd_wire::Bytes;
-
-/// Stands in front of each record.
-pub const GATE: u8 = 0xC3;
-
-/// The most bytes that a gate and an event take.
-pub const RECORD: usize = 492;
-
-/// The first fault, with its place counted from the first of the bytes that are handed in: those of a header, of an event,
-/// or of a gate and an event.
-#[derive(Clone, Copy, Debug, PartialEq, Eq)]
-pub struct RecordFault {
-    pub at: usize,
-    pub why: LogWhy,
-}
-
-/// Why no record was read.
-#[derive(Clone, Copy, Debug, PartialEq, Eq)]
-pub enum Stop {
-    Read,
-    Bad(RecordFault),
-}
-
-impl From<Failed> for Stop {
-    ghost use Rattle.std.specs.Prelude.{◌≡◌};
-    ghost use Rattle.gd_logs.specs.declared.record.Stop.TheVariants.{Read};
-
-    ghost from_gives = { λ _ e. e ≡ Read };
-
-    fn from(_: Failed) -> Self {
-        Stop::Read
-    }
-}
 
 fn log_why(why: FieldWhy) -> LogWhy
     ensures { result ≡ log_why why }
@@ -61,64 +34,56 @@ fn log_why(why: FieldWhy) -> LogWhy
     }
 }
 
-/// The fault of a field of these bytes.
-pub fn field_fault(bytes: &[u8], fault: FieldFault) -> RecordFault
-    requires { fault.left ≤ length bytes.now }
-    ensures at { result.at + fault.left ≡ length bytes.now }
-    ensures why { result.why ≡ log_why fault.why }
+/// The fault of a field of these bytes, the first of which stands at the place `first` of the log.
+pub fn field_fault(first: u64, bytes: &[u8], fault: FieldFault) -> LogFault
+    requires room { first ≤ 2 ^ 62 }
+    requires inside { fault.left ≤ length bytes.now }
+    ensures { result ≡ LogFault.Bad (first + place bytes.now fault.left) (log_why fault.why) }
 {
-    RecordFault {
-        at: bytes.len() - fault.left,
+    LogFault::Bad {
+        at: first + (bytes.len() - fault.left) as u64,
         why: log_why(fault.why),
     }
 }
 
-/// The fault of an event that isn't next in turn: at its site byte, its number, or its first byte.
-fn turn_fault(why: LogWhy) -> RecordFault
-    ensures { result ≡ record { at = turn_place why; why = why } }
+/// The fault of an event that isn't next in turn, and whose first byte stands at the place `first` of the log.
+/// It stands at the event's site byte, its number, or its first byte.
+fn turn_fault(first: u64, why: LogWhy) -> LogFault
+    requires { first ≤ 2 ^ 62 }
+    ensures { result ≡ LogFault.Bad (first + turn_place why) why }
 {
-    let at = match why {
+    let within = match why {
         LogWhy::NoSite => 6,
         LogWhy::Turn => 7,
         _ => 0,
     };
-    RecordFault { at, why }
-}
-
-/// The event at the front of a record that is next in turn, and how many bytes it takes.
-fn parse_event(n: u8, turns: &mut Turns, body: &[u8]) -> Result<(Event, usize), RecordFault>
-    requires { n ≤ 16 }
-    ensures exact { (seen : List EventValue) → Follows turns.old seen → RecordIs result (record_at n seen body.now) body.now }
-    ensures follows { IfOk result (λ x. (seen : List EventValue) → Follows turns.old seen → Took seen x.0 turns.new) }
-    ensures one_more { IfOk result (λ x. OneMore turns.old turns.new) }
-    ensures within { IfOk result (λ x. x.1 ≤ length body.now) }
-    ensures near { IfErr result (λ f. f.at ≤ length body.now) }
-    ensures err { OnErr result (turns.new ≡ turns.old) }
-{
-    let mut bytes = Bytes::new(body);
-    match bytes.event() {
-        Ok(event) => match turns.take(n, &event) {
-            Ok(()) => Ok((event, body.len() - bytes.len())),
-            Err(why) => Err(turn_fault(why)),
-        },
-        Err(fault) => Err(field_fault(body, fault)),
+    LogFault::Bad {
+        at: first + within,
+        why,
     }
 }
 
-/// The event behind the gate at the front of these bytes, and how many bytes both take. None is the end of the log.
+/// Reads the record at the front of these bytes, which stand at `place` of the log, and moves `place` behind it.
+/// None is the end of the log.
 fn parse_record(
     n: u8,
+    place: &mut u64,
     turns: &mut Turns,
     bytes: &[u8],
-) -> Result<Option<(Event, usize)>, RecordFault>
-    requires { n ≤ 16 }
-    ensures exact { (seen : List EventValue) → Follows turns.old seen → StepIs result (step_at n seen bytes.now) bytes.now }
-    ensures follows { IfOk result (λ o. IfSome o (λ x. (seen : List EventValue) → Follows turns.old seen → Took seen x.0 turns.new)) }
-    ensures one_more { IfOk result (λ o. IfSome o (λ x. OneMore turns.old turns.new)) }
-    ensures within { IfOk result (λ o. IfSome o (λ x. x.1 ≤ length bytes.now)) }
-    ensures near { IfErr result (λ f. f.at ≤ length bytes.now) }
-    ensures none { result ≡ Ok None → turns.new ≡ turns.old }
-    ensures err { OnErr result (turns.new ≡ turns.old) }
+) -> Result<Option<Event>, LogFault>
+    requires sites { n ≤ SITES }
+    requires room { place.old ≤ 2 ^ 61 }
+    ensures exact { (seen : List EventValue) → Follows turns.old seen
+        → NextIs result (step_at n seen bytes.now) place.old bytes.now
+        place.new (drop (place.new - place.old) bytes.now) }
+    ensures follows { IfOk result (λ o. IfSome o (λ e. (seen : List EventValue)
+        → Follows turns.old seen → Took seen e turns.new)) }
+    ensures one_more { IfOk result (λ o. IfSome o (λ e. OneMore turns.old turns.new)) }
+    ensures forward { place.old ≤ place.new }
+    ensures within { place.new - place.old ≤ length bytes.now }
+    ensures none { result ≡ Ok None → (turns.new ≡ turns.old) × (place.new ≡ place.old) }
+    ensures err { OnErr result ((turns.new ≡ turns.old) × (place.new ≡ place.old)) }
+    ensures no_read { result ≡ Err LogFault.Read → ⊥ }
 {
     let Some((gate, body)) = bytes.split_first() else {
         return Ok(None);
@@ -126,40 +91,49 @@ fn parse_record(
     if *gate != GATE {
         return Ok(None);
     }
-    match parse_event(n, turns, body) {
-        Ok((event, count)) => Ok(Some((event, count + 1))),
-        Err(fault) => Err(RecordFault {
-            at: fault.at + 1,
-            why: fault.why,
-        }),
+    let mut rest = Bytes::new(body);
+    match rest.event() {
+        Ok(event) => match turns.take(n, &event) {
+            Ok(()) => {
+                *place += (bytes.len() - rest.len()) as u64;
+                Ok(Some(event))
+            }
+            Err(why) => Err(turn_fault(*place + 1, why)),
+        },
+        Err(fault) => Err(field_fault(*place + 1, body, fault)),
     }
 }
 
-/// The next event of a log, and how many bytes it takes with its gate. None is the end of the log.
+/// Reads the next record of a log that was read up to `place`, and moves `place` behind it. None is the end of the log.
 pub fn read_record<S: Source>(
     n: u8,
+    place: &mut u64,
     turns: &mut Turns,
-    ahead: &mut Ahead,
+    ahead: &mut ReadAhead,
     source: &mut S,
-) -> Result<Option<(Event, usize)>, Stop>
-    requires { n ≤ 16 }
-    ensures exact { (seen : List EventValue) → Follows turns.old seen → IsSome (S.seen source.new).left
-        → StreamStepIs result (step_at n seen (stream ahead.old (S.seen source.old).left)) (stream ahead.old (S.seen source.old).left) (stream ahead.new (S.seen source.new).left) }
-    ensures follows { IfOk result (λ o. IfSome o (λ x. (seen : List EventValue) → Follows turns.old seen → Took seen x.0 turns.new)) }
-    ensures one_more { IfOk result (λ o. IfSome o (λ x. OneMore turns.old turns.new)) }
-    ensures few { IfOk result (λ o. IfSome o (λ x. x.1 ≤ 65536)) }
-    ensures near { IsNear result }
-    ensures none { result ≡ Ok None → turns.new ≡ turns.old }
-    ensures err { OnErr result (turns.new ≡ turns.old) }
-    ensures called { SourceCalled (S.seen source.old) (S.seen source.new) (result ≡ Err Stop.Read) }
+) -> Result<Option<Event>, LogFault>
+    requires sites { n ≤ SITES }
+    requires room { place.old ≤ 2 ^ 61 }
+    ensures exact { (seen : List EventValue) → Follows turns.old seen
+        → IsSome (S.seen source.new).left
+        → NextIs result (step_at n seen (stream ahead.old (S.seen source.old).left))
+        place.old (stream ahead.old (S.seen source.old).left)
+        place.new (stream ahead.new (S.seen source.new).left) }
+    ensures follows { IfOk result (λ o. IfSome o (λ e. (seen : List EventValue)
+        → Follows turns.old seen → Took seen e turns.new)) }
+    ensures one_more { IfOk result (λ o. IfSome o (λ e. OneMore turns.old turns.new)) }
+    ensures few { place.new ≤ place.old + SIZE }
+    ensures none { result ≡ Ok None → (turns.new ≡ turns.old) × (place.new ≡ place.old) }
+    ensures err { OnErr result ((turns.new ≡ turns.old) × (place.new ≡ place.old)) }
+    // Nothing is ahead only where nothing is to come.
+    ensures ending { result ≡ Ok None → IsSome (S.seen source.new).left
+        → ending_at ahead.new ≡ ending_at (stream ahead.old (S.seen source.old).left) }
+    ensures called { SourceCalled (S.seen source.old) (S.seen source.new)
+        (result ≡ Err LogFault.Read) }
 {
     ahead.fill(source, RECORD)?;
-    match parse_record(n, turns, ahead.as_slice()) {
-        Ok(Some((event, count))) => {
-            ahead.skip(count);
-            Ok(Some((event, count)))
-        }
-        Ok(None) => Ok(None),
-        Err(fault) => Err(Stop::Bad(fault)),
-    }
+    let start = *place;
+    let read = parse_record(n, place, turns, ahead.as_slice());
+    ahead.skip((*place - start) as usize);
+    read
 }

@@ -1,18 +1,21 @@
 //! How reading a log comes to its end.
 
 ghost use Rattle.std.specs.Prelude.{◌≡◌};
-ghost use Rattle.gd_logs.specs.Reader.{answer_of, stop_of};
+ghost use Rattle.gd_logs.specs.Reader.{answer_of, ending_at, stop_of};
 
 use gd_base::LogWhy;
 use gd_events::Event;
 use gd_outside::Failed;
+use thiserror::Error;
 
 /// Why a log is not read on.
-#[derive(Clone, Copy, Debug, PartialEq, Eq)]
+#[derive(Clone, Copy, Debug, PartialEq, Eq, Error)]
 pub enum LogFault {
     /// A read of the source failed.
+    #[error("a read failed")]
     Read,
     /// The bytes are no log: the first fault, and its place, counted from the log's first byte.
+    #[error("{why}, at byte {at}")]
     Bad { at: u64, why: LogWhy },
 }
 
@@ -27,33 +30,46 @@ impl From<Failed> for LogFault {
     }
 }
 
-/// How reading came to its end.
+/// Why reading stopped.
 #[derive(Clone, Copy, Debug, PartialEq, Eq)]
 pub enum Stopped {
-    /// At a closed gate, or at the end of the source in a gate's place.
-    End,
+    /// At a closed gate.
+    Gate,
+    /// At the end of the source, in a gate's place.
+    EndOfBytes,
     Fault(LogFault),
 }
 
 impl Stopped {
-    /// What is answered from then on.
+    /// What is returned from then on.
     pub(crate) fn answer(self) -> Result<Option<Event>, LogFault>
         ensures { result ≡ answer_of self }
     {
         match self {
-            Stopped::End => Ok(None),
+            Stopped::Gate => Ok(None),
+            Stopped::EndOfBytes => Ok(None),
             Stopped::Fault(fault) => Err(fault),
         }
     }
 }
 
-/// How this answer brings reading to its end, if it does.
-pub(crate) fn stop_of(read: &Result<Option<Event>, LogFault>) -> Option<Stopped>
-    ensures { result ≡ stop_of read.now }
+/// The end that this result is, if it is one, with these bytes still to come.
+pub(crate) fn stop_of(read: &Result<Option<Event>, LogFault>, bytes: &[u8]) -> Option<Stopped>
+    ensures { result ≡ stop_of read.now bytes.now }
 {
     match read {
         Ok(Some(_)) => None,
-        Ok(None) => Some(Stopped::End),
+        Ok(None) => Some(ending_at(bytes)),
         Err(fault) => Some(Stopped::Fault(*fault)),
+    }
+}
+
+/// The end of a log that ends in front of these bytes.
+fn ending_at(bytes: &[u8]) -> Stopped
+    ensures { result ≡ ending_at bytes.now }
+{
+    match bytes {
+        [] => Stopped::EndOfBytes,
+        [_, ..] => Stopped::Gate,
     }
 }

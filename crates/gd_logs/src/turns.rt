@@ -1,28 +1,30 @@
 ghost use Rattle.std.specs.Prelude.{◌≡◌, ◌≤◌, [], ◌∷◌, ◌++◌, List, sum, OnOk, OnErr};
+ghost use Rattle.gd_base.specs.declared.ranges.TheConstants.{SITES};
 ghost use Rattle.gd_events.specs.Events.{Event};
 ghost use Rattle.gd_grammar.specs.LogBytes.{turn_fault};
 ghost use Rattle.gd_logs.specs.Turns.{Follows, Took, OneMore, TurnIs};
 
-use gd_base::LogWhy;
+use gd_base::{LogWhy, SITES};
 use gd_events::Event;
 use std::marker::Model;
 
 /// For each site, how many events came, and the clock of the last.
 #[derive(Drop)]
 pub struct Turns {
-    counts: [u16; 16],
-    clocks: [u64; 16],
+    counts: [u16; SITES as usize],
+    clocks: [u64; SITES as usize],
 }
 
 impl Model for Turns {
     ghost use Rattle.std.specs.Prelude.{◌≡◌, ◌≤◌, length, All};
+    ghost use Rattle.gd_base.specs.declared.ranges.TheConstants.{SITES, EVENTS_OF_A_SITE};
     ghost use Rattle.gd_logs.specs.Turns.{Turns as TurnsValue};
 
     ghost Value = { TurnsValue };
 
     ghost view = { λ t. record { counts = t.counts; clocks = t.clocks } };
 
-    ghost invariant = { λ t. (length t.counts ≡ 16) × All (λ c. c ≤ 65535) t.counts };
+    ghost invariant = { λ t. (length t.counts ≡ SITES) × All (λ c. c ≤ EVENTS_OF_A_SITE) t.counts };
 }
 
 impl Turns {
@@ -32,17 +34,20 @@ impl Turns {
         ensures zero { sum result.counts ≡ 0 }
     {
         Turns {
-            counts: [0; 16],
-            clocks: [0; 16],
+            counts: [0; SITES as usize],
+            clocks: [0; SITES as usize],
         }
     }
 
-    /// Takes the event, if it is next in turn in a session of `n` sites. Else the reason is answered, and nothing changes.
+    /// Takes the event, if it is next in turn in a session of `n` sites. Else it returns the reason, and nothing
+    /// changes.
     #[tactic(auto, unfolding(gd_grammar::specs::LogBytes::turn_fault))]
     pub fn take(&mut self, n: u8, event: &Event) -> Result<(), LogWhy>
-        requires { n ≤ 16 }
-        ensures exact { (seen : List Event) → Follows self.old seen → TurnIs result (turn_fault n seen event.now) }
-        ensures follows { OnOk result ((seen : List Event) → Follows self.old seen → Took seen event.now self.new) }
+        requires { n ≤ SITES }
+        ensures exact { (seen : List Event) → Follows self.old seen
+            → TurnIs result (turn_fault n seen event.now) }
+        ensures follows { OnOk result ((seen : List Event)
+            → Follows self.old seen → Took seen event.now self.new) }
         ensures one_more { OnOk result (OneMore self.old self.new) }
         ensures err { OnErr result (self.new ≡ self.old) }
     {

@@ -1,23 +1,21 @@
 //! Writing a log.
 
-ghost use Rattle.std.specs.Prelude.{◌≡◌, ℕ, ◌+◌, ◌^◌, ◌≤◌, [], ◌∷◌, ◌++◌, List, length, IfOk, IsErr, IsSome, OnOk, OnErr};
+ghost use Rattle.std.specs.Prelude.{◌≡◌, ℕ, ◌+◌, ◌^◌, ◌≤◌, [], ◌∷◌, ◌++◌, List, length};
+ghost use Rattle.std.specs.Prelude.{IfOk, IsErr, IsSome, OnOk, OnErr};
 ghost use Rattle.gd_events.specs.Events.{Event as EventValue};
 ghost use Rattle.gd_grammar.specs.LogBytes.{Header, logged};
 ghost use Rattle.gd_grammar.specs.Spelling.{spelling};
 ghost use Rattle.gd_outside.specs.Called.{JournalCalled};
 ghost use Rattle.gd_outside.specs.Journals.{put_at, MayWrite};
 ghost use Rattle.gd_outside.specs.Told.{told, Stays};
+ghost use Rattle.gd_logs.specs.declared.pieces.TheConstants.{HEADER, RECORD};
 ghost use Rattle.gd_logs.specs.Written.{IsLogAt, IsLogOf, IsWithOrWithout, with_record};
 
-use crate::pieces::{head_of, record_of};
-use crate::record::GATE;
+use crate::pieces::{GATE, HEADER, head_of, record_of};
 use gd_events::Event;
 use gd_outside::{Failed, Journal};
 use gd_wire::LogHeader;
 use std::marker::Model;
-
-/// Where the closed gate of a log without events stands.
-const FIRST_GATE: u64 = 11;
 
 /// Writes a log into a journal, one event after another. Contracts see the place of the log's closed gate.
 #[derive(Drop)]
@@ -42,16 +40,21 @@ impl LogWriter {
         name: &str,
         header: &LogHeader,
     ) -> Result<LogWriter, Failed>
-        ensures place { IfOk result (λ w. w ≡ 11) }
-        ensures written { OnOk result (IsSome (J.seen journal.new).contents → told (J.seen journal.new).contents ≡ logged header.now []) }
-        ensures named { OnOk result (IsSome (J.seen journal.new).name → told (J.seen journal.new).name ≡ name.now) }
-        ensures log { IfOk result (λ w. IsSome (J.seen journal.new).contents → IsLogAt w (told (J.seen journal.new).contents)) }
+        ensures place { IfOk result (λ w. w ≡ HEADER) }
+        ensures written { OnOk result (IsSome (J.seen journal.new).contents
+            → told (J.seen journal.new).contents ≡ logged header.now []) }
+        ensures named { OnOk result (IsSome (J.seen journal.new).name
+            → told (J.seen journal.new).name ≡ name.now) }
+        ensures log { IfOk result (λ w. IsSome (J.seen journal.new).contents
+            → IsLogAt w (told (J.seen journal.new).contents)) }
         ensures called { JournalCalled (J.seen journal.old) (J.seen journal.new) (IsErr result) }
     {
         let head = head_of(header);
         journal.create(name)?;
         put(journal, 0, head.as_slice())?;
-        Ok(LogWriter { place: FIRST_GATE })
+        Ok(LogWriter {
+            place: HEADER as u64,
+        })
     }
 
     /// Adds an event to the log: first its bytes and a closed gate behind the one that stands, which is opened then.
@@ -60,16 +63,22 @@ impl LogWriter {
     /// the new event, and the place is as it was.
     pub fn append<J: Journal>(&mut self, journal: &mut J, event: &Event) -> Result<(), Failed>
         requires room { self.old ≤ 2 ^ 62 }
-        requires log { IsSome (J.seen journal.old).contents → IsLogAt self.old (told (J.seen journal.old).contents) }
+        requires log { IsSome (J.seen journal.old).contents
+            → IsLogAt self.old (told (J.seen journal.old).contents) }
         ensures added { OnOk result (IsSome (J.seen journal.new).contents
-            → told (J.seen journal.new).contents ≡ with_record (told (J.seen journal.old).contents) (spelling event.now)) }
-        ensures logged { OnOk result (IsSome (J.seen journal.new).contents → (h : Header) (events : List EventValue)
-            → told (J.seen journal.old).contents ≡ logged h events → told (J.seen journal.new).contents ≡ logged h (events ++ event.now ∷ [])) }
-        ensures log { OnOk result (IsSome (J.seen journal.new).contents → IsLogAt self.new (told (J.seen journal.new).contents)) }
+            → told (J.seen journal.new).contents
+            ≡ with_record (told (J.seen journal.old).contents) (spelling event.now)) }
+        ensures logged { OnOk result (IsSome (J.seen journal.new).contents
+            → (h : Header) (events : List EventValue) → told (J.seen journal.old).contents ≡ logged h events
+            → told (J.seen journal.new).contents ≡ logged h (events ++ event.now ∷ [])) }
+        ensures log { OnOk result (IsSome (J.seen journal.new).contents
+            → IsLogAt self.new (told (J.seen journal.new).contents)) }
         ensures place { OnOk result (self.new ≡ self.old + 1 + length (spelling event.now)) }
-        ensures few { OnOk result (self.new ≤ self.old + 492) }
-        ensures torn { OnErr result (IsSome (J.seen journal.new).contents → (h : Header) (events : List EventValue) → IsLogOf h events (told (J.seen journal.old).contents)
-            → IsWithOrWithout (told (J.seen journal.old).contents) (spelling event.now) (told (J.seen journal.new).contents)) }
+        ensures few { OnOk result (self.new ≤ self.old + RECORD) }
+        ensures torn { OnErr result (IsSome (J.seen journal.new).contents
+            → (h : Header) (events : List EventValue) → IsLogOf h events (told (J.seen journal.old).contents)
+            → IsWithOrWithout (told (J.seen journal.old).contents) (spelling event.now)
+            (told (J.seen journal.new).contents)) }
         ensures err { OnErr result (self.new ≡ self.old) }
         ensures name { Stays (J.seen journal.old).name (J.seen journal.new).name }
         ensures called { JournalCalled (J.seen journal.old) (J.seen journal.new) (IsErr result) }
@@ -89,15 +98,18 @@ impl LogWriter {
     }
 }
 
-/// Writes the piece at `pos`, and sees to it that it outlasts the machine.
+/// Writes the piece at `pos`, and syncs it to the device.
 ///
 /// Fails only where the journal's count of faults rises, and leaves then what a failed write may leave.
 fn put<J: Journal>(journal: &mut J, pos: u64, piece: &[u8]) -> Result<(), Failed>
-    requires { IsSome (J.seen journal.old).contents → pos ≤ length (told (J.seen journal.old).contents) }
+    requires { IsSome (J.seen journal.old).contents
+        → pos ≤ length (told (J.seen journal.old).contents) }
     ensures written { OnOk result (IsSome (J.seen journal.new).contents
-        → told (J.seen journal.new).contents ≡ put_at (told (J.seen journal.old).contents) pos piece.now) }
+        → told (J.seen journal.new).contents
+        ≡ put_at (told (J.seen journal.old).contents) pos piece.now) }
     ensures torn { OnErr result (IsSome (J.seen journal.new).contents
-        → MayWrite (told (J.seen journal.old).contents) pos piece.now (told (J.seen journal.new).contents)) }
+        → MayWrite (told (J.seen journal.old).contents) pos piece.now
+        (told (J.seen journal.new).contents)) }
     ensures name { Stays (J.seen journal.old).name (J.seen journal.new).name }
     ensures called { JournalCalled (J.seen journal.old) (J.seen journal.new) (IsErr result) }
 {

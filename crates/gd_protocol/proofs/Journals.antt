@@ -9,14 +9,15 @@ use Rattle.gd_logs.proofs.WrittenLemmas.{log-logged}
 use Rattle.gd_logs.specs.Written.{AreNext}
 use Rattle.gd_grammar.specs.LogBytes.{count_of, last_clock, log, logged, turn_fault}
 use Rattle.gd_reference.specs.PerSite.{is_site}
-use Rattle.gd_reference.specs.SlowSite.{SlowSite, is_by, journal_header, made_by}
-use Rattle.gd_reference.specs.SlowRun.{replayed, replayed_as, shown}
-use Rattle.gd_reference.specs.World.{Step, IsSession, IsStep, after}
+use Rattle.gd_reference.specs.SlowSite.{SlowSite, is_by, journal_header, made_by, resumed}
+use Rattle.gd_reference.specs.SlowRun.{replayed, replayed_as, replay_effects}
+use Rattle.gd_reference.specs.World.{Step, after}
 use Rattle.gd_protocol.proofs.Chains.{IsChain-back, last_clock-made_by, made_by-append}
 use Rattle.gd_protocol.proofs.Least.{is_site-bounds}
 use Rattle.gd_protocol.specs.Kept.{IsChain}
-use Rattle.gd_protocol.specs.Sites.{IsWell}
+use Rattle.gd_protocol.specs.Sites.{IsRun, IsWell}
 use Rattle.gd_protocol.proofs.Ranged.{sites_are_well_after}
+use Rattle.gd_protocol.proofs.WellSites.{well_front}
 
 count-made_by : (site : ℕ) (es : List Event) → count_of site es ≡ length (made_by site es)
 unfolding made_by
@@ -49,8 +50,11 @@ well_journal slow h =
     log-logged (journal_header slow) slow.held (record { site_above = bounds.0; site_below = bounds.1; few = h.met.1 }) h.met.2
     (all-next slow.sites slow.held h.chains [] slow.held refl h.sound h.by_members)
 
-pub journals_after : (sites session : ℕ) (steps : List Step) (s : ℕ) → IsSession sites session → Every IsStep steps → is_site sites s ≡ true → log (logged (journal_header ((after sites session steps).at s)) ((after sites session steps).at s).held) ≡ Ok (journal_header ((after sites session steps).at s), ((after sites session steps).at s).held)
-journals_after sites session steps s met ranged inside = well_journal ((after sites session steps).at s) (sites_are_well_after sites session steps s met ranged inside)
+pub journals_after : (sites session : ℕ) (steps : List Step) (s : ℕ) → IsRun sites session steps → is_site sites s ≡ true → log (logged (journal_header ((after sites session steps).at s)) ((after sites session steps).at s).held) ≡ Ok (journal_header ((after sites session steps).at s), ((after sites session steps).at s).held)
+journals_after sites session steps s run inside = well_journal ((after sites session steps).at s) (sites_are_well_after sites session steps s run inside)
 
-pub well_replayed : (slow : SlowSite) → IsWell slow → replayed (logged (journal_header slow) slow.held) ≡ shown slow.held
+pub well_begun : (slow : SlowSite) (first rest : List Event) → slow.held ≡ first ++ rest → IsWell slow → log (logged (journal_header slow) first) ≡ Ok (journal_header slow, first)
+well_begun slow first rest is h = well_journal (resumed slow.me slow.sites slow.session first) (well_front slow first rest is h)
+
+pub well_replayed : (slow : SlowSite) → IsWell slow → replayed (logged (journal_header slow) slow.held) ≡ replay_effects slow.held
 well_replayed slow h = ap (replayed_as (logged (journal_header slow) slow.held)) (well_journal slow h)

@@ -8,14 +8,14 @@ ghost use Rattle.gd_reference.specs.DrawingText.{text};
 
 /// Lists of events with distinct stamps that hold the same events have the same text.
 pub fn same_events_print_the_same_text()
-    ensures { (es fs : List Event) → IsTrue (are_distinct es) → IsTrue (are_distinct fs) → HoldSame es fs
-        → text (picture es) ≡ text (picture fs) }
+    ensures { (es fs : List Event) → IsTrue (are_distinct es) → IsTrue (are_distinct fs)
+        → HoldSame es fs → text (picture es) ≡ text (picture fs) }
 {}
 
 /// Logs that hold the same events, in whatever order, have the same drawing and the same text.
 pub fn logs_with_the_same_events_show_the_same_drawing()
-    ensures drawing { (a b : List ℕ) (g h : Header) (es fs : List Event) → log a ≡ Ok (g, es) → log b ≡ Ok (h, fs) → HoldSame es fs
-        → picture es ≡ picture fs }
-    ensures printed { (a b : List ℕ) (g h : Header) (es fs : List Event) → log a ≡ Ok (g, es) → log b ≡ Ok (h, fs) → HoldSame es fs
-        → text (picture es) ≡ text (picture fs) }
+    ensures drawing { (a b : List ℕ) (g h : Header) (es fs : List Event) → log a ≡ Ok (g, es)
+        → log b ≡ Ok (h, fs) → HoldSame es fs → picture es ≡ picture fs }
+    ensures printed { (a b : List ℕ) (g h : Header) (es fs : List Event) → log a ≡ Ok (g, es)
+        → log b ≡ Ok (h, fs) → HoldSame es fs → text (picture es) ≡ text (picture fs) }
 {}

@@ -10,10 +10,8 @@
 -- it as its shift, so grouping moves nothing.
 use Rattle.std.specs.Prelude.{◌≡◌, ℕ, ℤ, ◌+◌, ◌-◌, ◌-ℤ◌, ◌^◌, ◌≤◌, Bool, true, not, ◌&&◌, List, [], ◌∷◌, ◌++◌, length, map, Option, Some, None, option_map, is_none, Result, Ok, Err, nat_le, if◌then◌else◌}
 use Rattle.std.specs.List.{list_all, AllByRecursion}
-use Rattle.std.specs.FinMap as map_of
-use Rattle.gd_base.specs.Labels.{IsLabel}
 use Rattle.gd_base.specs.Ranges.{place_limit, size_limit, is_within, is_style}
-use Rattle.gd_base.specs.Stamps.{Stamp, IsStamp, stamp_cmp, is_same, is_before}
+use Rattle.gd_base.specs.Stamps.{Stamp, is_same, is_before}
 use Rattle.gd_base.specs.declared.edit.Edit.{Edit}
 use Rattle.gd_base.specs.declared.edit.Edit.TheVariants as wish
 use Rattle.gd_base.specs.declared.member.Member.{Member}
@@ -28,7 +26,7 @@ use Rattle.gd_model.specs.declared.object.Kind.TheVariants.{Shape, Group}
 use Rattle.gd_model.specs.declared.object.Body.{Body}
 use Rattle.gd_model.specs.Drawing.{Drawing, picture}
 use Rattle.gd_model.specs.declared.above.Above.{Above}
-use Rattle.gd_model.specs.Shown.{above, is_gone}
+use Rattle.gd_model.specs.Shown.{seen_as}
 use Rattle.gd_reference.specs.SlowSite.{SlowSite, own, clock}
 
 -- ---- one object
@@ -38,16 +36,12 @@ pub record Target : Type 0 where
   pub kind : Kind
   pub above : Above
 
-abbrev pub target_as : Drawing → Stamp → Body → Option Target
-target_as d id b = if is_gone b then None else option_map (λ a. record { kind = b.kind; above = a }) (above d id b.link)
-
-abbrev pub target_of : Drawing → Stamp → Option Body → Option Target
-target_of d id None = None
-target_of d id (Some b) = target_as d id b
+abbrev pub target_at : Body → Above → Target
+target_at b a = record { kind = b.kind; above = a }
 
 -- the object of that id, where it is shown
 abbrev pub target : Drawing → Stamp → Option Target
-target d id = target_of d id (map_of.find stamp_cmp id d)
+target d id = seen_as target_at d id
 
 abbrev pub with_target : Option Target → (Target → Result Op EditRefusal) → Result Op EditRefusal
 with_target None rest = Err NoObject
@@ -73,9 +67,9 @@ with_another id None rest = None
 with_another id (Some t) rest = option_map (λ ts. (id, t) ∷ ts) rest
 
 -- the objects of these ids, where all of them are shown
-unfoldable pub targets : Drawing → List Stamp → Option (List (Stamp × Target))
-targets d [] = Some []
-targets d (id ∷ ids) = with_another id (target d id) (targets d ids)
+unfoldable pub targets : (Stamp → Option Target) → List Stamp → Option (List (Stamp × Target))
+targets look [] = Some []
+targets look (id ∷ ids) = with_another id (look id) (targets look ids)
 
 abbrev pub is_other : Stamp → Stamp → Bool
 is_other id other = not (is_same id other)
@@ -115,21 +109,21 @@ with_targets (Some ts) = grouped ts
 
 -- ---- every edit
 
--- the operation that the edit becomes over this drawing, or why it is refused
-abbrev pub judged_over : Drawing → Edit → Result Op EditRefusal
-judged_over d (wish.Create kind x y w h label) = Ok (op.Create kind x y w h label)
-judged_over d (wish.Delete id) = with_target (target d id) (λ t. Ok (op.Delete id))
-judged_over d (wish.Move id x y) = with_target (target d id) (λ t. moved_to id (x -ℤ t.above.dx) (y -ℤ t.above.dy))
-judged_over d (wish.Resize id w h) = with_target (target d id) (λ t. of_shape (op.Resize id w h) t.kind)
-judged_over d (wish.Restyle id style) = with_target (target d id) (λ t. of_shape (op.Restyle id style) t.kind)
-judged_over d (wish.Retext id label) = with_target (target d id) (λ t. of_shape (op.Retext id label) t.kind)
-judged_over d (wish.Group ids) = with_targets (targets d ids)
-judged_over d (wish.Ungroup id) = with_target (target d id) (λ t. of_group (op.Ungroup id) t.kind)
-judged_over d (wish.Raise id) = with_target (target d id) (λ t. Ok (op.Raise id))
+-- the operation that the edit becomes, or why it is refused, where `look` finds the objects that are shown
+abbrev pub judged_over : (Stamp → Option Target) → Edit → Result Op EditRefusal
+judged_over look (wish.Create kind x y w h label) = Ok (op.Create kind x y w h label)
+judged_over look (wish.Delete id) = with_target (look id) (λ t. Ok (op.Delete id))
+judged_over look (wish.Move id x y) = with_target (look id) (λ t. moved_to id (x -ℤ t.above.dx) (y -ℤ t.above.dy))
+judged_over look (wish.Resize id w h) = with_target (look id) (λ t. of_shape (op.Resize id w h) t.kind)
+judged_over look (wish.Restyle id style) = with_target (look id) (λ t. of_shape (op.Restyle id style) t.kind)
+judged_over look (wish.Retext id label) = with_target (look id) (λ t. of_shape (op.Retext id label) t.kind)
+judged_over look (wish.Group ids) = with_targets (targets look ids)
+judged_over look (wish.Ungroup id) = with_target (look id) (λ t. of_group (op.Ungroup id) t.kind)
+judged_over look (wish.Raise id) = with_target (look id) (λ t. Ok (op.Raise id))
 
 -- the same over the drawing of these events
 unfoldable pub judged : List Event → Edit → Result Op EditRefusal
-judged held edit = judged_over (picture held) edit
+judged held edit = judged_over (target (picture held)) edit
 
 abbrev pub greatest_stamp_clock : ℕ
 greatest_stamp_clock = 2 ^ 48 - 1
@@ -137,21 +131,25 @@ greatest_stamp_clock = 2 ^ 48 - 1
 abbrev pub most_own_events : ℕ
 most_own_events = 65535
 
--- the event that an operation of the site becomes
-abbrev pub next_event : SlowSite → Op → Event
-next_event slow change =
-    record { stamp = record { clock = clock slow + 1; site = slow.me }; number = length (own slow) + 1; op = change }
+-- the event that an operation becomes at a site of that number, with that clock, that has made so many events
+abbrev pub next_event : ℕ → ℕ → ℕ → Op → Event
+next_event me clock made change =
+    record { stamp = record { clock = clock + 1; site = me }; number = made + 1; op = change }
 
-abbrev pub event_of : SlowSite → Result Op EditRefusal → Result Event EditRefusal
-event_of slow (Ok change) = Ok (next_event slow change)
-event_of slow (Err why) = Err why
+abbrev pub event_of : ℕ → ℕ → ℕ → Result Op EditRefusal → Result Event EditRefusal
+event_of me clock made (Ok change) = Ok (next_event me clock made change)
+event_of me clock made (Err why) = Err why
+
+-- the same for an edit that was judged so, unless the site's clock or its events have come to their end
+abbrev pub edit_by : ℕ → ℕ → ℕ → Result Op EditRefusal → Result Event EditRefusal
+edit_by me clock made judgement =
+    if nat_le greatest_stamp_clock clock then Err ClockEnd
+    else if nat_le most_own_events made then Err SessionFull
+    else event_of me clock made judgement
 
 -- the event that an edit becomes, or why it is refused
 unfoldable pub edit : SlowSite → Edit → Result Event EditRefusal
-edit slow wanted =
-    if nat_le greatest_stamp_clock (clock slow) then Err ClockEnd
-    else if nat_le most_own_events (length (own slow)) then Err SessionFull
-    else event_of slow (judged slow.held wanted)
+edit slow wanted = edit_by slow.me (clock slow) (length (own slow)) (judged slow.held wanted)
 
 abbrev pub with_own : SlowSite → Result Event EditRefusal → SlowSite
 with_own slow (Ok e) = record slow { held = slow.held ++ e ∷ [] }

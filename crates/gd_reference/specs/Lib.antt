@@ -1,3 +1,4 @@
+pub mod Said
 pub mod DrawingText
 pub mod PerSite
 pub mod SlowSite

@@ -1,4 +1,4 @@
--- The slow run of a node.
+-- The reference run of a node.
 --
 -- A node writes its journal's header, prints that it is ready, and answers line by line. An edit, a name and a focus go as
 -- at any site. `show` prints the drawing's text, `status` where the site stands, and `who` each site's newest note. `poll`
@@ -10,24 +10,24 @@
 -- The run is several functions of the same arguments: the effects, the site after, and the entries left. Its lines are given
 -- as they were read.
 use Rattle.std.specs.Prelude.{◌≡◌, ℕ, zero, suc, ◌+◌, Bool, true, false, List, [], ◌∷◌, ◌++◌, length, map, Result, Ok, Err, ◌==◌, nat_lt, if◌then◌else◌}
-use Rattle.gd_base.specs.Labels.{is_name}
 use Rattle.gd_base.specs.declared.refusal.LineFault.{LineFault}
 use Rattle.gd_outside.specs.Seen.{Entry, Packet, Pause, Failure}
 use Rattle.gd_lines.specs.declared.command.Command.{Command}
 use Rattle.gd_lines.specs.declared.command.Command.TheVariants as command
 use Rattle.gd_model.specs.Drawing.{picture}
-use Rattle.gd_effects.specs.Effects.{Effect, Head, Print}
-use Rattle.gd_grammar.specs.FrameBytes.{frame, IsFocus}
-use Rattle.gd_lines.specs.InRange.{IsEdit}
-use Rattle.gd_reference.specs.Judging.{edited}
+use Rattle.gd_effects.specs.Effects.{Effect, Head}
+use Rattle.gd_grammar.specs.FrameBytes.{frame}
+use Rattle.gd_lines.specs.InRange.{IsCommand}
+use Rattle.gd_reference.specs.Judging.{edit, edited}
 use Rattle.gd_grammar.specs.LogBytes.{header_bytes}
 use Rattle.gd_lines.specs.Refusals.{line_refusal}
-use Rattle.gd_lines.specs.Replies.{ready_line, refused_line, status_line, who_line, long_frame_line, polled_line, link_fault_line}
-use Rattle.gd_reference.specs.SiteEffects.{tries, of_edit, of_note, of_read, after_read}
+use Rattle.gd_lines.specs.declared.reply.Reply.{Reply}
+use Rattle.gd_lines.specs.declared.reply.Reply.TheVariants as reply
+use Rattle.gd_reference.specs.Said.{says, all_said}
+use Rattle.gd_reference.specs.SiteEffects.{tries, edit_reply, note_reply, of_edit, of_read, after_read}
 use Rattle.gd_reference.specs.SlowSite.{SlowSite, new_site, journal_header, status}
-use Rattle.gd_grammar.specs.Spelling.{AreBytes}
-use Rattle.gd_lines.specs.Text.{end_line}
-use Rattle.gd_reference.specs.DrawingText.{text}
+use Rattle.gd_grammar.specs.FieldBytes.{AreBytes}
+use Rattle.gd_reference.specs.DrawingText.{drawing_replies}
 use Rattle.gd_reference.specs.World.{after_line, Names, Focuses}
 
 -- a line as it was read: what it asks for, or why it is no line
@@ -47,7 +47,7 @@ is_too_long datagram = nat_lt longest_datagram (length datagram)
 
 abbrev pub of_datagram : SlowSite → List ℕ → List Effect
 of_datagram slow datagram =
-    if is_too_long datagram then Print long_frame_line ∷ [] else of_read slow datagram (frame datagram)
+    if is_too_long datagram then says reply.LongFrame ∷ [] else of_read slow datagram (frame datagram)
 
 abbrev pub after_datagram : SlowSite → List ℕ → SlowSite
 after_datagram slow datagram = if is_too_long datagram then slow else after_read slow (frame datagram)
@@ -79,41 +79,46 @@ of_received (suc most) slow (Packet datagram ∷ entries) =
 abbrev pub polled : SlowSite → List Entry → Polling
 polled slow entries = received most_datagrams 0 slow entries
 
-abbrev pub end_of_poll : Bool → ℕ → List ℕ
-end_of_poll false count = polled_line count
-end_of_poll true count = link_fault_line count
+abbrev pub end_of_poll : Bool → ℕ → Reply
+end_of_poll false count = reply.Polled count
+end_of_poll true count = reply.LinkFault count
 
 abbrev pub of_poll : SlowSite → List Entry → List Effect
 of_poll slow entries =
-    let p = polled slow entries in of_received most_datagrams slow entries ++ tries p.site ++ Print (end_of_poll p.failed p.count) ∷ []
+    let p = polled slow entries in
+    of_received most_datagrams slow entries ++ tries p.site ++ says (end_of_poll p.failed p.count) ∷ []
 
 -- ---- who is there
 
 -- the note of a site, where it has made one
-abbrev pub who_at : SlowSite → ℕ → List (List ℕ)
-who_at slow site = if (slow.notes site).number == 0 then [] else who_line site (slow.notes site) ∷ []
+abbrev pub who_at : SlowSite → ℕ → List Reply
+who_at slow site = if (slow.notes site).number == 0 then [] else reply.Who site (slow.notes site) ∷ []
 
 -- the same of so many sites behind one
-unfoldable pub who_behind : SlowSite → ℕ → ℕ → List (List ℕ)
+unfoldable pub who_behind : SlowSite → ℕ → ℕ → List Reply
 who_behind slow site zero = []
 who_behind slow site (suc k) = who_at slow (site + 1) ++ who_behind slow (site + 1) k
 
-abbrev pub who_lines : SlowSite → List (List ℕ)
-who_lines slow = let there = who_behind slow 0 slow.sites in there ++ end_line (length there) ∷ []
+abbrev pub who_replies : SlowSite → List Reply
+who_replies slow = let there = who_behind slow 0 slow.sites in there ++ reply.End (length there) ∷ []
 
 -- ---- a line
 
+-- what a site says of a command that neither polls nor ends a run
+abbrev pub command_replies : SlowSite → Command → List Reply
+command_replies slow (command.Edit wanted) = edit_reply (edit slow wanted) ∷ []
+command_replies slow (command.Name name) = note_reply slow ∷ []
+command_replies slow (command.Focus focus) = note_reply slow ∷ []
+command_replies slow command.Show = drawing_replies (picture slow.held)
+command_replies slow command.Status = reply.Status (status slow) ∷ []
+command_replies slow command.Who = who_replies slow
+command_replies slow other = []
+
 abbrev pub of_command : SlowSite → List Entry → ReadLine → List Effect
-of_command slow entries (Ok (command.Edit edit)) = of_edit slow edit
-of_command slow entries (Ok (command.Name name)) = of_note slow
-of_command slow entries (Ok (command.Focus focus)) = of_note slow
-of_command slow entries (Ok command.Show) = map Print (text (picture slow.held))
-of_command slow entries (Ok command.Status) = Print (status_line (status slow)) ∷ []
-of_command slow entries (Ok command.Who) = map Print (who_lines slow)
+of_command slow entries (Ok (command.Edit wanted)) = of_edit slow wanted
 of_command slow entries (Ok command.Poll) = of_poll slow entries
-of_command slow entries (Ok command.Quit) = []
-of_command slow entries (Ok command.Blank) = []
-of_command slow entries (Err fault) = Print (refused_line (line_refusal fault)) ∷ []
+of_command slow entries (Ok other) = all_said (command_replies slow other)
+of_command slow entries (Err fault) = says (reply.Refused (line_refusal fault)) ∷ []
 
 abbrev pub after_command : SlowSite → List Entry → ReadLine → SlowSite
 after_command slow entries (Ok (command.Edit edit)) = edited slow edit
@@ -149,7 +154,7 @@ site_after slow entries (line ∷ lines) =
 abbrev pub node_effects : ℕ → ℕ → ℕ → List Entry → List ReadLine → List Effect
 node_effects me sites session entries lines =
     let slow = new_site me sites session in
-    Head (header_bytes (journal_header slow)) ∷ Print (ready_line me sites) ∷ answers slow entries lines
+    Head (header_bytes (journal_header slow)) ∷ says (reply.Ready me sites) ∷ answers slow entries lines
 
 -- the site of that node after its run
 abbrev pub node_after : ℕ → ℕ → ℕ → List Entry → List ReadLine → SlowSite
@@ -157,11 +162,9 @@ node_after me sites session entries lines = site_after (new_site me sites sessio
 
 -- ---- the ranges of a run
 
-abbrev pub IsCommand : ReadLine → Type 0
-IsCommand (Ok (command.Edit edit)) = IsEdit edit
-IsCommand (Ok (command.Name name)) = is_name name ≡ true
-IsCommand (Ok (command.Focus focus)) = IsFocus focus
-IsCommand other = Unit {0}
+abbrev pub IsRead : ReadLine → Type 0
+IsRead (Ok command) = IsCommand command
+IsRead (Err fault) = Unit {0}
 
 -- a datagram is a list of bytes
 abbrev pub IsEntry : Entry → Type 0

@@ -1,7 +1,8 @@
 //! Registers under numbers, which events set, remove and copy.
 
 ghost use Rattle.std.specs.Prelude.{◌≡◌, ℕ, ◌+◌, ◌<◌, ◌≤◌, List, [], length, Option};
-ghost use Rattle.gd_registers.specs.Registers.{target_of, reads, overwrites, content, rules, registers_laws};
+ghost use Rattle.gd_registers.specs.Registers.{target_of, reads, overwrites, content, rules};
+ghost use Rattle.gd_registers.specs.Laws.{registers_laws};
 
 use gd_base::{Stamp, Steps};
 use gd_repair::Document;

@@ -1,2 +1,5 @@
 pub mod Worked
+pub mod WorkedLines
 pub mod WorkedWorlds
+pub mod WorkedEdits
+pub mod WorkedNodes

@@ -1,5 +1,5 @@
 -- Worked rows: logs of a few events, byte by byte, and what is printed of them.
-use Rattle.std.specs.Prelude.{ℕ, ℤ, pos, negsuc, List, [], ◌∷◌, ◌++◌, map, codes, Some, None, Result, Err}
+use Rattle.std.specs.Prelude.{ℕ, ℤ, pos, negsuc, List, [], ◌∷◌, ◌++◌, map, take, set, codes, Some, None}
 use Rattle.gd_base.specs.Stamps.{Stamp}
 use Rattle.gd_base.specs.declared.member.Member.{Member}
 use Rattle.gd_base.specs.declared.shape.Shape.TheVariants.{Rect, Ellipse}
@@ -8,9 +8,11 @@ use Rattle.gd_events.specs.declared.op.Op.{Op}
 use Rattle.gd_events.specs.declared.op.Op.TheVariants.{Create, Delete, Move, Resize, Restyle, Retext, Group, Ungroup, Raise}
 use Rattle.gd_events.specs.Events.{Event}
 use Rattle.gd_base.specs.declared.fault.LogWhy.{LogWhy}
+use Rattle.gd_base.specs.declared.fault.LogWhy.TheVariants.{Short, Magic, Version, Field, FutureId, MemberOrder, NoSite, Turn, Backdated}
 use Rattle.gd_base.specs.declared.fault.WireWhy.{WireWhy}
+use Rattle.gd_base.specs.declared.fault.WireWhy.TheVariants as wire
 use Rattle.gd_grammar.specs.FrameBytes.{Frame, Misread}
-use Rattle.gd_grammar.specs.LogBytes.{Header, LogFault}
+use Rattle.gd_grammar.specs.LogBytes.{Header, LogMisread}
 use Rattle.gd_effects.specs.Effects.{Effect, Print, Work}
 
 abbrev pub at_stamp : ℕ → ℕ → Stamp
@@ -183,8 +185,11 @@ effect_before_cause =
 abbrev pub move_to : ℕ → ℕ → ℤ → Event
 move_to clock site x = event clock site clock (Move (at_stamp 1 1) x x)
 
+abbrev pub last_move : Event
+last_move = move_to 3 1 (pos 60)
+
 abbrev pub moves_held : List Event
-moves_held = event 1 1 1 (square (pos 0)) ∷ move_to 2 1 (pos 50) ∷ move_to 3 1 (pos 60) ∷ []
+moves_held = event 1 1 1 (square (pos 0)) ∷ move_to 2 1 (pos 50) ∷ last_move ∷ []
 
 abbrev pub late_move : Event
 late_move = move_to 2 2 (pos 90)
@@ -230,10 +235,6 @@ prints_of lines = map Print lines
 abbrev pub works_of : List ℕ → List Effect
 works_of steps = map Work steps
 
--- a record of no operation
-abbrev pub no_tag_log : List ℕ
-no_tag_log = header_bytes ++ 195 ∷ 0 ∷ 0 ∷ 0 ∷ 0 ∷ 0 ∷ 1 ∷ 1 ∷ 0 ∷ 1 ∷ 10 ∷ []
-
 -- a group of two objects that aren't there, and what dissolves it
 abbrev pub grouped_log : List ℕ
 grouped_log =
@@ -258,53 +259,69 @@ unordered_log =
     ∷ 0 ∷ 0 ∷ 0 ∷ 0 ∷ 0 ∷ 2 ∷ 1 ∷ 0 ∷ 0 ∷ 0 ∷ 0 ∷ 0 ∷ 0 ∷ 0 ∷ 0
     ∷ 0 ∷ 0 ∷ 0 ∷ 0 ∷ 0 ∷ 2 ∷ 1 ∷ 0 ∷ 0 ∷ 0 ∷ 0 ∷ 0 ∷ 0 ∷ 0 ∷ 0 ∷ []
 
--- groups of one member, and of 33
-abbrev pub one_member_log : List ℕ
-one_member_log = header_bytes ++ 195 ∷ 0 ∷ 0 ∷ 0 ∷ 0 ∷ 0 ∷ 3 ∷ 1 ∷ 0 ∷ 1 ∷ 7 ∷ 1 ∷ []
-
-abbrev pub many_members_log : List ℕ
-many_members_log = header_bytes ++ 195 ∷ 0 ∷ 0 ∷ 0 ∷ 0 ∷ 0 ∷ 3 ∷ 1 ∷ 0 ∷ 1 ∷ 7 ∷ 33 ∷ []
-
--- a header of another format, of another version, and of a site 0
-abbrev pub no_magic : List ℕ
-no_magic = 71 ∷ 68 ∷ 79 ∷ 108 ∷ 1 ∷ 0 ∷ 0 ∷ 0 ∷ 7 ∷ 1 ∷ 2 ∷ []
-
-abbrev pub no_version : List ℕ
-no_version = 71 ∷ 68 ∷ 79 ∷ 76 ∷ 2 ∷ 0 ∷ 0 ∷ 0 ∷ 7 ∷ 1 ∷ 2 ∷ []
-
-abbrev pub no_field : List ℕ
-no_field = 71 ∷ 68 ∷ 79 ∷ 76 ∷ 1 ∷ 0 ∷ 0 ∷ 0 ∷ 7 ∷ 0 ∷ 2 ∷ []
-
 -- a delete of what its own event would have made
 abbrev pub future_log : List ℕ
 future_log = header_bytes ++ 195 ∷ 0 ∷ 0 ∷ 0 ∷ 0 ∷ 0 ∷ 2 ∷ 1 ∷ 0 ∷ 1 ∷ 2 ∷ 0 ∷ 0 ∷ 0 ∷ 0 ∷ 0 ∷ 2 ∷ 1 ∷ []
 
 -- a resize of what its own event would have made, to a width that is out of range too
 abbrev pub future_resize_log : List ℕ
-future_resize_log = header_bytes ++ 195 ∷ 0 ∷ 0 ∷ 0 ∷ 0 ∷ 0 ∷ 2 ∷ 1 ∷ 0 ∷ 1 ∷ 4 ∷ 0 ∷ 0 ∷ 0 ∷ 0 ∷ 0 ∷ 2 ∷ 1 ∷ 127 ∷ 0 ∷ 0 ∷ 0 ∷ 0 ∷ 0 ∷ 0 ∷ 0 ∷ []
+future_resize_log =
+    header_bytes
+    ++ 195 ∷ 0 ∷ 0 ∷ 0 ∷ 0 ∷ 0 ∷ 2 ∷ 1 ∷ 0 ∷ 1 ∷ 4
+    ∷ 0 ∷ 0 ∷ 0 ∷ 0 ∷ 0 ∷ 2 ∷ 1 ∷ 127 ∷ 0 ∷ 0 ∷ 0 ∷ 0 ∷ 0 ∷ 0 ∷ 0 ∷ []
 
 -- a stroke one above the last colour
 abbrev pub no_colour_log : List ℕ
-no_colour_log = header_bytes ++ 195 ∷ 0 ∷ 0 ∷ 0 ∷ 0 ∷ 0 ∷ 2 ∷ 1 ∷ 0 ∷ 1 ∷ 5 ∷ 0 ∷ 0 ∷ 0 ∷ 0 ∷ 0 ∷ 1 ∷ 1 ∷ 1 ∷ 1 ∷ 0 ∷ 0 ∷ 0 ∷ []
+no_colour_log =
+    header_bytes
+    ++ 195 ∷ 0 ∷ 0 ∷ 0 ∷ 0 ∷ 0 ∷ 2 ∷ 1 ∷ 0 ∷ 1 ∷ 5 ∷ 0 ∷ 0 ∷ 0 ∷ 0 ∷ 0 ∷ 1 ∷ 1 ∷ 1 ∷ 1 ∷ 0 ∷ 0 ∷ 0 ∷ []
 
--- the tie's log with an event of site 3
-abbrev pub no_site_log : List ℕ
-no_site_log = 71 ∷ 68 ∷ 79 ∷ 76 ∷ 1 ∷ 0 ∷ 0 ∷ 0 ∷ 7 ∷ 1 ∷ 2 ∷ 195 ∷ 0 ∷ 0 ∷ 0 ∷ 0 ∷ 0 ∷ 1 ∷ 3 ∷ 0 ∷ 1 ∷ 1 ∷ 1 ∷ 0 ∷ 0 ∷ 0 ∷ 5 ∷ 0 ∷ 0 ∷ 0 ∷ 5 ∷ 0 ∷ 0 ∷ 0 ∷ 10 ∷ 0 ∷ 0 ∷ 0 ∷ 10 ∷ 0 ∷ 195 ∷ 0 ∷ 0 ∷ 0 ∷ 0 ∷ 0 ∷ 1 ∷ 1 ∷ 0 ∷ 1 ∷ 1 ∷ 2 ∷ 0 ∷ 0 ∷ 0 ∷ 0 ∷ 0 ∷ 0 ∷ 0 ∷ 0 ∷ 0 ∷ 0 ∷ 0 ∷ 20 ∷ 0 ∷ 0 ∷ 0 ∷ 20 ∷ 0 ∷ 0 ∷ []
+-- a header, and the first bytes of a record that are its stamp, its number, and these
+abbrev pub begun_log : List ℕ → List ℕ
+begun_log bytes = header_bytes ++ 195 ∷ 0 ∷ 0 ∷ 0 ∷ 0 ∷ 0 ∷ 3 ∷ 1 ∷ 0 ∷ 1 ∷ bytes
 
--- the same with a number that isn't next
-abbrev pub turn_log : List ℕ
-turn_log = 71 ∷ 68 ∷ 79 ∷ 76 ∷ 1 ∷ 0 ∷ 0 ∷ 0 ∷ 7 ∷ 1 ∷ 2 ∷ 195 ∷ 0 ∷ 0 ∷ 0 ∷ 0 ∷ 0 ∷ 1 ∷ 2 ∷ 0 ∷ 2 ∷ 1 ∷ 1 ∷ 0 ∷ 0 ∷ 0 ∷ 5 ∷ 0 ∷ 0 ∷ 0 ∷ 5 ∷ 0 ∷ 0 ∷ 0 ∷ 10 ∷ 0 ∷ 0 ∷ 0 ∷ 10 ∷ 0 ∷ 195 ∷ 0 ∷ 0 ∷ 0 ∷ 0 ∷ 0 ∷ 1 ∷ 1 ∷ 0 ∷ 1 ∷ 1 ∷ 2 ∷ 0 ∷ 0 ∷ 0 ∷ 0 ∷ 0 ∷ 0 ∷ 0 ∷ 0 ∷ 0 ∷ 0 ∷ 0 ∷ 20 ∷ 0 ∷ 0 ∷ 0 ∷ 20 ∷ 0 ∷ 0 ∷ []
+-- why bytes are no log, and how many of them stand from the fault's place on
+abbrev pub fault_at : LogWhy → ℕ → LogMisread
+fault_at why left = record { why = why; left = left }
 
--- the same with two events of site 2 and one clock
-abbrev pub backdated_log : List ℕ
-backdated_log = 71 ∷ 68 ∷ 79 ∷ 76 ∷ 1 ∷ 0 ∷ 0 ∷ 0 ∷ 7 ∷ 1 ∷ 2 ∷ 195 ∷ 0 ∷ 0 ∷ 0 ∷ 0 ∷ 0 ∷ 1 ∷ 2 ∷ 0 ∷ 1 ∷ 1 ∷ 1 ∷ 0 ∷ 0 ∷ 0 ∷ 5 ∷ 0 ∷ 0 ∷ 0 ∷ 5 ∷ 0 ∷ 0 ∷ 0 ∷ 10 ∷ 0 ∷ 0 ∷ 0 ∷ 10 ∷ 0 ∷ 195 ∷ 0 ∷ 0 ∷ 0 ∷ 0 ∷ 0 ∷ 1 ∷ 2 ∷ 0 ∷ 2 ∷ 1 ∷ 2 ∷ 0 ∷ 0 ∷ 0 ∷ 0 ∷ 0 ∷ 0 ∷ 0 ∷ 0 ∷ 0 ∷ 0 ∷ 0 ∷ 20 ∷ 0 ∷ 0 ∷ 0 ∷ 20 ∷ 0 ∷ 0 ∷ []
+-- The log of the tie has 70 bytes, and its records begin at the bytes 11 and 40.
+abbrev pub log_faults : List (List ℕ × LogMisread)
+log_faults =
+    -- another format, another version, and a site 0
+    (set header_bytes 3 108, fault_at Magic 11)
+    ∷ (set header_bytes 4 2, fault_at Version 7)
+    ∷ (set header_bytes 9 0, fault_at Field 2)
+    ∷ (future_log, fault_at FutureId 7)
+    ∷ (future_resize_log, fault_at FutureId 15)
+    ∷ (no_colour_log, fault_at Field 4)
+    ∷ (take 32 tie_log, fault_at Short 0)
+    -- an operation that isn't there, and groups of one member and of 33
+    ∷ (begun_log (10 ∷ []), fault_at Field 1)
+    ∷ (begun_log (7 ∷ 1 ∷ []), fault_at Field 1)
+    ∷ (begun_log (7 ∷ 33 ∷ []), fault_at Field 1)
+    ∷ (unordered_log, fault_at MemberOrder 15)
+    -- an event of site 3, a number that isn't next, and two events of site 2 and one clock
+    ∷ (set tie_log 18 3, fault_at NoSite 52)
+    ∷ (set tie_log 20 2, fault_at Turn 51)
+    ∷ (set (set tie_log 47 2) 49 2, fault_at Backdated 29)
+    ∷ []
 
-abbrev pub fault_at : LogWhy → ℕ → Result (Header × List Event) LogFault
-fault_at why left = Err (record { why = why; left = left })
+-- ---- frames
 
--- the frame of a site 2 that made a rect, for site 1, of which it holds nothing
+-- an event of site 2: a rect of size 10 10
+abbrev pub record_row : List ℕ
+record_row =
+    0 ∷ 0 ∷ 0 ∷ 0 ∷ 0 ∷ 1 ∷ 2 ∷ 0 ∷ 1 ∷ 1 ∷ 1
+    ∷ 0 ∷ 0 ∷ 0 ∷ 0 ∷ 0 ∷ 0 ∷ 0 ∷ 0 ∷ 0 ∷ 0 ∷ 0 ∷ 10 ∷ 0 ∷ 0 ∷ 0 ∷ 10 ∷ 0 ∷ []
+
+-- the frame of that site for another, of which it holds nothing
+abbrev pub frame_row_to : ℕ → List ℕ
+frame_row_to to =
+    71 ∷ 68 ∷ 79 ∷ 70 ∷ 1 ∷ 0 ∷ 0 ∷ 0 ∷ 7 ∷ 2 ∷ to ∷ 0 ∷ 0 ∷ 0 ∷ 1 ∷ 0 ∷ 0 ∷ 0 ∷ 0 ∷ 0 ∷ 1
+    ∷ 0 ∷ 0 ∷ 0 ∷ 0 ∷ 0 ∷ 0 ∷ 0 ∷ 0 ∷ 0 ∷ 0 ∷ 1 ∷ record_row
+
 abbrev pub frame_row : List ℕ
-frame_row = 71 ∷ 68 ∷ 79 ∷ 70 ∷ 1 ∷ 0 ∷ 0 ∷ 0 ∷ 7 ∷ 2 ∷ 1 ∷ 0 ∷ 0 ∷ 0 ∷ 1 ∷ 0 ∷ 0 ∷ 0 ∷ 0 ∷ 0 ∷ 1 ∷ 0 ∷ 0 ∷ 0 ∷ 0 ∷ 0 ∷ 0 ∷ 0 ∷ 0 ∷ 0 ∷ 0 ∷ 1 ∷ 0 ∷ 0 ∷ 0 ∷ 0 ∷ 0 ∷ 1 ∷ 2 ∷ 0 ∷ 1 ∷ 1 ∷ 1 ∷ 0 ∷ 0 ∷ 0 ∷ 0 ∷ 0 ∷ 0 ∷ 0 ∷ 0 ∷ 0 ∷ 0 ∷ 0 ∷ 10 ∷ 0 ∷ 0 ∷ 0 ∷ 10 ∷ 0 ∷ []
+frame_row = frame_row_to 1
 
 abbrev pub frame_value : Frame
 frame_value =
@@ -314,34 +331,26 @@ frame_value =
       events = event 1 2 1 (square (pos 0)) ∷ [];
     }
 
--- the same of version 2, from site 17, with an event of another site, above the count and above the clock, with the number
--- 0, of no kind, of a width of 1,000,001, and with a label that isn't there
-abbrev pub frame_of_version_2 : List ℕ
-frame_of_version_2 = 71 ∷ 68 ∷ 79 ∷ 70 ∷ 2 ∷ 0 ∷ 0 ∷ 0 ∷ 7 ∷ 2 ∷ 1 ∷ 0 ∷ 0 ∷ 0 ∷ 1 ∷ 0 ∷ 0 ∷ 0 ∷ 0 ∷ 0 ∷ 1 ∷ 0 ∷ 0 ∷ 0 ∷ 0 ∷ 0 ∷ 0 ∷ 0 ∷ 0 ∷ 0 ∷ 0 ∷ 1 ∷ 0 ∷ 0 ∷ 0 ∷ 0 ∷ 0 ∷ 1 ∷ 2 ∷ 0 ∷ 1 ∷ 1 ∷ 1 ∷ 0 ∷ 0 ∷ 0 ∷ 0 ∷ 0 ∷ 0 ∷ 0 ∷ 0 ∷ 0 ∷ 0 ∷ 0 ∷ 10 ∷ 0 ∷ 0 ∷ 0 ∷ 10 ∷ 0 ∷ []
+-- why bytes are no frame, and how many of them stand from the fault's place on
+abbrev pub misread : WireWhy → ℕ → Misread
+misread why left = record { why = why; left = left }
 
-abbrev pub frame_of_site_17 : List ℕ
-frame_of_site_17 = 71 ∷ 68 ∷ 79 ∷ 70 ∷ 1 ∷ 0 ∷ 0 ∷ 0 ∷ 7 ∷ 17 ∷ 1 ∷ 0 ∷ 0 ∷ 0 ∷ 1 ∷ 0 ∷ 0 ∷ 0 ∷ 0 ∷ 0 ∷ 1 ∷ 0 ∷ 0 ∷ 0 ∷ 0 ∷ 0 ∷ 0 ∷ 0 ∷ 0 ∷ 0 ∷ 0 ∷ 1 ∷ 0 ∷ 0 ∷ 0 ∷ 0 ∷ 0 ∷ 1 ∷ 2 ∷ 0 ∷ 1 ∷ 1 ∷ 1 ∷ 0 ∷ 0 ∷ 0 ∷ 0 ∷ 0 ∷ 0 ∷ 0 ∷ 0 ∷ 0 ∷ 0 ∷ 0 ∷ 10 ∷ 0 ∷ 0 ∷ 0 ∷ 10 ∷ 0 ∷ []
-
-abbrev pub frame_of_another_site : List ℕ
-frame_of_another_site = 71 ∷ 68 ∷ 79 ∷ 70 ∷ 1 ∷ 0 ∷ 0 ∷ 0 ∷ 7 ∷ 2 ∷ 1 ∷ 0 ∷ 0 ∷ 0 ∷ 1 ∷ 0 ∷ 0 ∷ 0 ∷ 0 ∷ 0 ∷ 1 ∷ 0 ∷ 0 ∷ 0 ∷ 0 ∷ 0 ∷ 0 ∷ 0 ∷ 0 ∷ 0 ∷ 0 ∷ 1 ∷ 0 ∷ 0 ∷ 0 ∷ 0 ∷ 0 ∷ 1 ∷ 1 ∷ 0 ∷ 1 ∷ 1 ∷ 1 ∷ 0 ∷ 0 ∷ 0 ∷ 0 ∷ 0 ∷ 0 ∷ 0 ∷ 0 ∷ 0 ∷ 0 ∷ 0 ∷ 10 ∷ 0 ∷ 0 ∷ 0 ∷ 10 ∷ 0 ∷ []
-
-abbrev pub frame_above_its_count : List ℕ
-frame_above_its_count = 71 ∷ 68 ∷ 79 ∷ 70 ∷ 1 ∷ 0 ∷ 0 ∷ 0 ∷ 7 ∷ 2 ∷ 1 ∷ 0 ∷ 0 ∷ 0 ∷ 0 ∷ 0 ∷ 0 ∷ 0 ∷ 0 ∷ 0 ∷ 1 ∷ 0 ∷ 0 ∷ 0 ∷ 0 ∷ 0 ∷ 0 ∷ 0 ∷ 0 ∷ 0 ∷ 0 ∷ 1 ∷ 0 ∷ 0 ∷ 0 ∷ 0 ∷ 0 ∷ 1 ∷ 2 ∷ 0 ∷ 1 ∷ 1 ∷ 1 ∷ 0 ∷ 0 ∷ 0 ∷ 0 ∷ 0 ∷ 0 ∷ 0 ∷ 0 ∷ 0 ∷ 0 ∷ 0 ∷ 10 ∷ 0 ∷ 0 ∷ 0 ∷ 10 ∷ 0 ∷ []
-
-abbrev pub frame_above_its_clock : List ℕ
-frame_above_its_clock = 71 ∷ 68 ∷ 79 ∷ 70 ∷ 1 ∷ 0 ∷ 0 ∷ 0 ∷ 7 ∷ 2 ∷ 1 ∷ 0 ∷ 0 ∷ 0 ∷ 1 ∷ 0 ∷ 0 ∷ 0 ∷ 0 ∷ 0 ∷ 0 ∷ 0 ∷ 0 ∷ 0 ∷ 0 ∷ 0 ∷ 0 ∷ 0 ∷ 0 ∷ 0 ∷ 0 ∷ 1 ∷ 0 ∷ 0 ∷ 0 ∷ 0 ∷ 0 ∷ 1 ∷ 2 ∷ 0 ∷ 1 ∷ 1 ∷ 1 ∷ 0 ∷ 0 ∷ 0 ∷ 0 ∷ 0 ∷ 0 ∷ 0 ∷ 0 ∷ 0 ∷ 0 ∷ 0 ∷ 10 ∷ 0 ∷ 0 ∷ 0 ∷ 10 ∷ 0 ∷ []
-
-abbrev pub frame_of_number_0 : List ℕ
-frame_of_number_0 = 71 ∷ 68 ∷ 79 ∷ 70 ∷ 1 ∷ 0 ∷ 0 ∷ 0 ∷ 7 ∷ 2 ∷ 1 ∷ 0 ∷ 0 ∷ 0 ∷ 1 ∷ 0 ∷ 0 ∷ 0 ∷ 0 ∷ 0 ∷ 1 ∷ 0 ∷ 0 ∷ 0 ∷ 0 ∷ 0 ∷ 0 ∷ 0 ∷ 0 ∷ 0 ∷ 0 ∷ 1 ∷ 0 ∷ 0 ∷ 0 ∷ 0 ∷ 0 ∷ 1 ∷ 2 ∷ 0 ∷ 0 ∷ 1 ∷ 1 ∷ 0 ∷ 0 ∷ 0 ∷ 0 ∷ 0 ∷ 0 ∷ 0 ∷ 0 ∷ 0 ∷ 0 ∷ 0 ∷ 10 ∷ 0 ∷ 0 ∷ 0 ∷ 10 ∷ 0 ∷ []
-
-abbrev pub frame_of_no_kind : List ℕ
-frame_of_no_kind = 71 ∷ 68 ∷ 79 ∷ 70 ∷ 1 ∷ 0 ∷ 0 ∷ 0 ∷ 7 ∷ 2 ∷ 1 ∷ 0 ∷ 0 ∷ 0 ∷ 1 ∷ 0 ∷ 0 ∷ 0 ∷ 0 ∷ 0 ∷ 1 ∷ 0 ∷ 0 ∷ 0 ∷ 0 ∷ 0 ∷ 0 ∷ 0 ∷ 0 ∷ 0 ∷ 0 ∷ 1 ∷ 0 ∷ 0 ∷ 0 ∷ 0 ∷ 0 ∷ 1 ∷ 2 ∷ 0 ∷ 1 ∷ 1 ∷ 5 ∷ 0 ∷ 0 ∷ 0 ∷ 0 ∷ 0 ∷ 0 ∷ 0 ∷ 0 ∷ 0 ∷ 0 ∷ 0 ∷ 10 ∷ 0 ∷ 0 ∷ 0 ∷ 10 ∷ 0 ∷ []
-
-abbrev pub frame_too_wide : List ℕ
-frame_too_wide = 71 ∷ 68 ∷ 79 ∷ 70 ∷ 1 ∷ 0 ∷ 0 ∷ 0 ∷ 7 ∷ 2 ∷ 1 ∷ 0 ∷ 0 ∷ 0 ∷ 1 ∷ 0 ∷ 0 ∷ 0 ∷ 0 ∷ 0 ∷ 1 ∷ 0 ∷ 0 ∷ 0 ∷ 0 ∷ 0 ∷ 0 ∷ 0 ∷ 0 ∷ 0 ∷ 0 ∷ 1 ∷ 0 ∷ 0 ∷ 0 ∷ 0 ∷ 0 ∷ 1 ∷ 2 ∷ 0 ∷ 1 ∷ 1 ∷ 1 ∷ 0 ∷ 0 ∷ 0 ∷ 0 ∷ 0 ∷ 0 ∷ 0 ∷ 0 ∷ 0 ∷ 15 ∷ 66 ∷ 65 ∷ 0 ∷ 0 ∷ 0 ∷ 10 ∷ 0 ∷ []
-
-abbrev pub frame_without_its_label : List ℕ
-frame_without_its_label = 71 ∷ 68 ∷ 79 ∷ 70 ∷ 1 ∷ 0 ∷ 0 ∷ 0 ∷ 7 ∷ 2 ∷ 1 ∷ 0 ∷ 0 ∷ 0 ∷ 1 ∷ 0 ∷ 0 ∷ 0 ∷ 0 ∷ 0 ∷ 1 ∷ 0 ∷ 0 ∷ 0 ∷ 0 ∷ 0 ∷ 0 ∷ 0 ∷ 0 ∷ 0 ∷ 0 ∷ 1 ∷ 0 ∷ 0 ∷ 0 ∷ 0 ∷ 0 ∷ 1 ∷ 2 ∷ 0 ∷ 1 ∷ 1 ∷ 1 ∷ 0 ∷ 0 ∷ 0 ∷ 0 ∷ 0 ∷ 0 ∷ 0 ∷ 0 ∷ 0 ∷ 0 ∷ 0 ∷ 10 ∷ 0 ∷ 0 ∷ 0 ∷ 10 ∷ 1 ∷ []
-
-abbrev pub misread : WireWhy → ℕ → Result Frame Misread
-misread why left = Err (record { why = why; left = left })
+-- The frame has 60 bytes, and its event begins at byte 32.
+abbrev pub frame_faults : List (List ℕ × Misread)
+frame_faults =
+    (take 33 frame_row, misread wire.Short 0)
+    -- version 2, and site 17
+    ∷ (set frame_row 4 2, misread wire.Version 56)
+    ∷ (set frame_row 9 17, misread wire.Field 51)
+    -- an event of another site, above the count, and above the clock
+    ∷ (set frame_row 38 1, misread wire.Disorder 28)
+    ∷ (set frame_row 14 0, misread wire.Disorder 28)
+    ∷ (set frame_row 20 0, misread wire.Disorder 28)
+    -- the number 0, no kind, and a width of 1,000,001
+    ∷ (set frame_row 40 0, misread wire.Field 21)
+    ∷ (set frame_row 42 5, misread wire.Field 18)
+    ∷ (set (set (set frame_row 52 15) 53 66) 54 65, misread wire.Field 9)
+    -- a label that isn't there, and a byte too many
+    ∷ (set frame_row 59 1, misread wire.Short 0)
+    ∷ (frame_row ++ 0 ∷ [], misread wire.Trailing 1)
+    ∷ []

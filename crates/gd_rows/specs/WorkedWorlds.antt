@@ -1,22 +1,22 @@
 -- Worked rows of sites and worlds: lists of steps, the frames of a site that runs ahead, and what becomes of them.
-use Rattle.std.specs.Prelude.{ℕ, ◌-◌, ℤ, pos, List, [], ◌∷◌, ◌++◌, codes, Some, Ok, Err}
+use Rattle.std.specs.Prelude.{ℕ, ◌-◌, ℤ, pos, List, [], ◌∷◌, ◌++◌, codes, Option, Some, None}
 use Rattle.gd_base.specs.declared.edit.Edit.{Edit}
 use Rattle.gd_base.specs.declared.edit.Edit.TheVariants as wish
 use Rattle.gd_base.specs.declared.note.Note.{Note}
+use Rattle.gd_base.specs.declared.refusal.FrameFault.{FrameFault}
+use Rattle.gd_base.specs.declared.refusal.FrameFault.TheVariants as fault
 use Rattle.gd_base.specs.declared.shape.Shape.TheVariants.{Rect}
 use Rattle.gd_base.specs.declared.site_status.SiteStatus.{SiteStatus}
 use Rattle.gd_events.specs.declared.op.Op.TheVariants as op
 use Rattle.gd_events.specs.Events.{Event}
-use Rattle.gd_outside.specs.Seen.{Entry, Packet, Failure}
-use Rattle.gd_base.specs.declared.refusal.LineFault.TheVariants.{UnknownCommand}
-use Rattle.gd_lines.specs.declared.command.Command.TheVariants as command
-use Rattle.gd_effects.specs.Effects.{Effect, Head, Print, Record, Try, Work}
-use Rattle.gd_grammar.specs.FrameBytes.{Frame, frame_bytes}
-use Rattle.gd_reference.specs.NodeRun.{ReadLine, node_effects}
+use Rattle.gd_effects.specs.Effects.{Effect, Print, Record, Work}
+use Rattle.gd_grammar.specs.FrameBytes.{Frame}
+use Rattle.gd_grammar.specs.declared.frame.Head.{Head}
+use Rattle.gd_reference.specs.Offers.{take_frame}
 use Rattle.gd_reference.specs.SlowSite.{SlowSite, new_site, no_note}
 use Rattle.gd_grammar.specs.Spelling.{spelling}
-use Rattle.gd_reference.specs.World.{World, Step, Edits, Names, Focuses, At, Send, Deliver, Restart, Editing, after}
-use Rattle.gd_rows.specs.Worked.{at_stamp, event, member, frame_row, header_bytes}
+use Rattle.gd_reference.specs.World.{World, Step, Edits, Names, Focuses, At, Send, Deliver, Restart, Editing, Taking, after}
+use Rattle.gd_rows.specs.Worked.{at_stamp, event, member}
 
 abbrev pub site_status : ℕ → ℕ → ℕ → ℕ → SiteStatus
 site_status held kept line clock = record { held = held; kept = kept; line = line; clock = clock }
@@ -27,6 +27,10 @@ new_rect x = wish.Create Rect x (pos 0) (pos 10) (pos 10) []
 
 abbrev pub move_to : ℕ → ℕ → ℕ → ℕ → Edit
 move_to clock site x y = wish.Move (at_stamp clock site) (pos x) (pos y)
+
+-- the first event of site 1, where that is the rect at 0
+abbrev pub first_rect : Event
+first_rect = event 1 1 1 (op.Create Rect (pos 0) (pos 0) (pos 10) (pos 10) [])
 
 -- ---- a move that comes late is covered by a later one
 
@@ -58,7 +62,7 @@ covered_move = event 2 2 1 (op.Move (at_stamp 1 1) (pos 90) (pos 90))
 -- what site 1 holds then
 abbrev pub cover_held : List Event
 cover_held =
-    event 1 1 1 (op.Create Rect (pos 0) (pos 0) (pos 10) (pos 10) [])
+    first_rect
     ∷ event 2 1 2 (op.Move (at_stamp 1 1) (pos 50) (pos 50))
     ∷ event 3 1 3 (op.Move (at_stamp 1 1) (pos 60) (pos 60))
     ∷ covered_move
@@ -118,7 +122,7 @@ late_group = event 3 2 2 (op.Group (member 1 2 (pos 0) (pos 0) ∷ member 2 1 (p
 -- what site 1 holds then
 abbrev pub closure_held : List Event
 closure_held =
-    event 1 1 1 (op.Create Rect (pos 0) (pos 0) (pos 10) (pos 10) [])
+    first_rect
     ∷ event 2 1 2 (op.Create Rect (pos 20) (pos 0) (pos 10) (pos 10) [])
     ∷ event 3 1 3 (op.Raise (at_stamp 1 1))
     ∷ event 4 1 4 (op.Group (member 1 1 (pos 0) (pos 0) ∷ member 2 1 (pos 0) (pos 0) ∷ []))
@@ -175,6 +179,10 @@ abbrev pub frame_of : ℕ → ℕ → List Event → Frame
 frame_of count clock events =
     record { head = record { session = 7; from = 2; to = 1; ack = 0; count = count; clock = clock }; note = no_note; events = events }
 
+-- a frame of no event, with that note
+abbrev pub noting_frame : Note → Frame
+noting_frame note = record (frame_of 0 0 []) { note = note }
+
 -- the first event, then the third and the fourth, then the second to the fourth
 abbrev pub ahead_first : Frame
 ahead_first = frame_of 1 1 (ahead_create ∷ [])
@@ -185,9 +193,22 @@ ahead_gap = frame_of 4 4 (ahead_move 3 ∷ ahead_move 4 ∷ [])
 abbrev pub ahead_rest : Frame
 ahead_rest = frame_of 4 4 (ahead_move 2 ∷ ahead_move 3 ∷ ahead_move 4 ∷ [])
 
+-- the listener behind the first of these, behind the second too, and behind all three
+abbrev pub ahead_one : SlowSite
+ahead_one = take_frame listener ahead_first
+
+abbrev pub ahead_none : SlowSite
+ahead_none = take_frame ahead_one ahead_gap
+
+abbrev pub ahead_all : SlowSite
+ahead_all = take_frame ahead_none ahead_rest
+
 -- two events under a clock of 9, and then an event of that clock
 abbrev pub sure_frame : Frame
 sure_frame = frame_of 2 9 (ahead_create ∷ ahead_move 2 ∷ [])
+
+abbrev pub sure_site : SlowSite
+sure_site = take_frame listener sure_frame
 
 abbrev pub sure_raise : Event
 sure_raise = event 9 2 3 (op.Raise (at_stamp 1 2))
@@ -195,24 +216,29 @@ sure_raise = event 9 2 3 (op.Raise (at_stamp 1 2))
 abbrev pub sure_late_frame : Frame
 sure_late_frame = frame_of 3 9 (sure_raise ∷ [])
 
--- ---- edits that are refused
+-- two events, and then a frame of fewer with a clock of 9
+abbrev pub two_held : SlowSite
+two_held = take_frame listener (frame_of 2 2 (ahead_create ∷ ahead_move 2 ∷ []))
 
--- three rects, of which the first two are a group that was moved
-abbrev pub grouped_steps : List Step
-grouped_steps =
-    At 1 (Edits (new_rect (pos 0)))
-    ∷ At 1 (Edits (new_rect (pos 20)))
-    ∷ At 1 (Edits (new_rect (pos 40)))
-    ∷ At 1 (Edits (group_of 1 1 2 1))
-    ∷ At 1 (Edits (move_to 4 1 5 7))
+abbrev pub lower_frame : Frame
+lower_frame = frame_of 1 9 []
+
+-- heads that aren't those of a frame for the listener
+abbrev pub ahead_head : Head
+ahead_head = ahead_first.head
+
+abbrev pub refused_heads : List (Head × Option FrameFault)
+refused_heads =
+    (record ahead_head { session = 8; to = 2 }, Some fault.Session)
+    ∷ (record ahead_head { from = 1; to = 2 }, Some fault.NotForMe)
+    ∷ (record ahead_head { from = 1; ack = 9 }, Some fault.FromMe)
+    ∷ (record ahead_head { from = 3; ack = 9 }, Some fault.NoSuchSite)
+    ∷ (record ahead_head { ack = 1 }, Some (fault.OverAck 1 0))
+    ∷ (ahead_head, None)
     ∷ []
 
-abbrev pub grouped_site : SlowSite
-grouped_site = (after 1 7 grouped_steps).at 1
-
--- the group at the greatest place
-abbrev pub far_site : SlowSite
-far_site = (after 1 7 (grouped_steps ++ At 1 (Edits (move_to 4 1 1000000000 0)) ∷ At 1 (Edits (wish.Ungroup (at_stamp 4 1))) ∷ [])).at 1
+abbrev pub over_acknowledged : Frame
+over_acknowledged = record ahead_first { head = record ahead_head { ack = 1 } }
 
 -- ---- notes, mail and a restart
 
@@ -244,90 +270,46 @@ lost_world = after 2 7 (noted_steps ++ Restart 1 0 (Editing (new_rect (pos 20)))
 abbrev pub stored_world : World
 stored_world = after 2 7 (noted_steps ++ Restart 1 1 (Editing (new_rect (pos 20))) ∷ [])
 
--- ---- the link of site 1 of 2
+-- a mail of two events, whose receiver stops when it has stored the first
+abbrev pub taken_world : World
+taken_world =
+    after 2 7 (At 1 (Edits (new_rect (pos 0))) ∷ At 1 (Edits (new_rect (pos 20))) ∷ Send 1 2 ∷ Restart 2 1 (Taking 0) ∷ [])
 
--- one frame three times
-abbrev pub repeat_entries : List Entry
-repeat_entries = Packet frame_row ∷ Packet frame_row ∷ Packet frame_row ∷ []
+-- ---- two mails of which the later one comes first
 
--- the frame that answers it: one event of site 2 is held
-abbrev pub answer_row : List ℕ
-answer_row = 71 ∷ 68 ∷ 79 ∷ 70 ∷ 1 ∷ 0 ∷ 0 ∷ 0 ∷ 7 ∷ 1 ∷ 2 ∷ 0 ∷ 1 ∷ 0 ∷ 0 ∷ 0 ∷ 0 ∷ 0 ∷ 0 ∷ 0 ∷ 1 ∷ 0 ∷ 0 ∷ 0 ∷ 0 ∷ 0 ∷ 0 ∷ 0 ∷ 0 ∷ 0 ∷ 0 ∷ 0 ∷ []
-
--- the event of that frame
-abbrev pub record_row : List ℕ
-record_row = 0 ∷ 0 ∷ 0 ∷ 0 ∷ 0 ∷ 1 ∷ 2 ∷ 0 ∷ 1 ∷ 1 ∷ 1 ∷ 0 ∷ 0 ∷ 0 ∷ 0 ∷ 0 ∷ 0 ∷ 0 ∷ 0 ∷ 0 ∷ 0 ∷ 0 ∷ 10 ∷ 0 ∷ 0 ∷ 0 ∷ 10 ∷ 0 ∷ []
-
-abbrev pub repeat_effects : List Effect
-repeat_effects =
-    Head header_bytes
-    ∷ Print (codes "ready 1 of 2\n")
-    ∷ Work 1
-    ∷ Record record_row
-    ∷ Print (codes "echo 1.2 applied\n")
-    ∷ Try 2 answer_row
-    ∷ Print (codes "polled 3\n")
+-- two answers of site 2, each with a note and with what it holds of site 1
+abbrev pub turned_steps : List Step
+turned_steps =
+    At 1 (Edits (new_rect (pos 0)))
+    ∷ Send 1 2
+    ∷ Deliver 0
+    ∷ At 2 (Names (codes "Ann"))
+    ∷ Send 2 1
+    ∷ At 1 (Edits (new_rect (pos 20)))
+    ∷ Send 1 2
+    ∷ Deliver 2
+    ∷ At 2 (Names (codes "Bob"))
+    ∷ Send 2 1
+    ∷ Deliver 3
+    ∷ Deliver 1
     ∷ []
 
--- the header, the event and a closed gate
-abbrev pub repeat_journal : List ℕ
-repeat_journal = header_bytes ++ 195 ∷ record_row ++ 0 ∷ []
+abbrev pub turned_world : World
+turned_world = after 2 7 turned_steps
 
-abbrev pub ahead_entries : List Entry
-ahead_entries = Packet (frame_bytes ahead_first) ∷ Packet (frame_bytes ahead_gap) ∷ Packet (frame_bytes ahead_rest) ∷ []
+abbrev pub named : ℕ → List ℕ → Note
+named number name = record { number = number; name = Some name; focus = None }
 
-abbrev pub sure_entries : List Entry
-sure_entries = Packet (frame_bytes sure_frame) ∷ Packet (frame_bytes sure_late_frame) ∷ []
+-- the listener behind a note of site 2
+abbrev pub noted_site : SlowSite
+noted_site = take_frame listener (noting_frame (named 1 (codes "Ann")))
 
--- the first event, its count and clock again, a failure, and the second event
-abbrev pub failing_entries : List Entry
-failing_entries =
-    Packet (frame_bytes ahead_first)
-    ∷ Packet (frame_bytes (frame_of 1 1 []))
-    ∷ Failure
-    ∷ Packet (frame_bytes (frame_of 2 2 (ahead_move 2 ∷ [])))
-    ∷ []
+-- ---- the own note
 
--- a new node 1 of 2 in session 7
-abbrev pub listening : List Entry → List ReadLine → List Effect
-listening entries lines = node_effects 1 2 7 entries lines
+-- a focus, and then a name
+abbrev pub focused_world : World
+focused_world = after 1 7 (At 1 (Focuses (Some (at_stamp 9 2))) ∷ At 1 (Names (codes "Ann")) ∷ [])
 
-abbrev pub ahead_printed : List ℕ
-ahead_printed =
-    codes "ready 1 of 2\necho 1.2 applied\necho 2.2 applied\necho 3.2 applied\necho 4.2 applied\npolled 3\nheld 4 kept 0 line 4 clock 4\n"
-
-abbrev pub sure_printed : List ℕ
-sure_printed =
-    codes "ready 1 of 2\necho 1.2 applied\necho 2.2 applied\nevent 9.2 refused: Backdated 9 9\npolled 2\nheld 2 kept 0 line 2 clock 2\n"
-
-abbrev pub failing_printed : List ℕ
-failing_printed = codes "ready 1 of 2\necho 1.2 applied\nlink fault after 2\necho 2.2 applied\npolled 1\n"
-
--- what is no frame: no byte, another session, and one byte too many
-abbrev pub refused_entries : List Entry
-refused_entries =
-    Packet []
-    ∷ Packet (frame_bytes (record { head = record { session = 8; from = 2; to = 1; ack = 0; count = 1; clock = 1 }; note = no_note; events = ahead_create ∷ [] }))
-    ∷ Packet (frame_row ++ 0 ∷ [])
-    ∷ []
-
-abbrev pub refused_printed : List ℕ
-refused_printed =
-    codes "ready 1 of 2\nframe refused: Short at 0\nframe refused: Session\nframe refused: Trailing at 60\npolled 3\nend 0\n"
-
-abbrev pub noting_lines : List ReadLine
-noting_lines =
-    Ok (command.Name (codes "Ada"))
-    ∷ Ok (command.Focus (Some (at_stamp 1 1)))
-    ∷ Ok command.Who
-    ∷ Err UnknownCommand
-    ∷ Ok command.Blank
-    ∷ Ok (command.Edit (new_rect (pos 0)))
-    ∷ Ok (command.Edit (wish.Ungroup (at_stamp 1 1)))
-    ∷ Ok command.Quit
-    ∷ Ok command.Show
-    ∷ []
-
-abbrev pub noting_printed : List ℕ
-noting_printed =
-    codes "ready 1 of 2\nnoted 1\nnoted 2\nwho 1 Ada focus 1.1\nend 1\nrefused: UnknownCommand\nok 1.1\nrefused: NotGroup\n"
+-- a site that has made so many notes
+abbrev pub listener_of_note : ℕ → SlowSite
+listener_of_note number = record listener { notes = λ site. record { number = number; name = None; focus = None } }

@@ -1,9 +1,8 @@
 //! The definitions, computed on worked rows.
 
+ghost use Rattle.std.specs.List.{AllByRecursion};
 ghost use Rattle.std.specs.Prelude.{◌≡◌, ◌++◌, ◌∷◌, [], Ok, Err, pos, take};
-ghost use Rattle.gd_base.specs.declared.fault.LogWhy.TheVariants.{Short, Magic, Version, Field, FutureId, MemberOrder, NoSite, Turn, Backdated};
 ghost use Rattle.gd_outside.specs.declared.status.Status.TheVariants as status;
-ghost use Rattle.gd_base.specs.declared.fault.WireWhy.TheVariants as wire;
 ghost use Rattle.gd_model.specs.declared.before.Before.TheVariants.{Place};
 ghost use Rattle.gd_repair.specs.Repair.Outcome.{applied, dropped, reworked};
 ghost use Rattle.gd_grammar.specs.FrameBytes.{frame, frame_bytes};
@@ -14,7 +13,7 @@ ghost use Rattle.gd_model.specs.Arrivals.{drawn, all_drawn, outcome_of, costs};
 ghost use Rattle.gd_reference.specs.DrawingText.{text};
 ghost use Rattle.gd_reference.specs.SlowRun.{slow_effects, slow_end};
 ghost use Rattle.gd_lines.specs.Replies.{usage_line};
-ghost use Rattle.gd_rows.specs.Worked.{header, header_bytes, empty_log, tie_log, tie_events, tie_text, rank_events, rank_text, effect_before_cause, end_alone, replay_words, other_words, prints_of, works_of, cut_text, moved_log, moved_events, moved_text, styled_log, styled_events, styled_text, no_tag_log, grouped_log, grouped_events, unordered_log, one_member_log, many_members_log, regrouped_events, regrouped_text, nested_events, nested_text, no_magic, no_version, no_field, future_log, future_resize_log, no_colour_log, no_site_log, turn_log, backdated_log, fault_at, frame_row, frame_value, frame_of_version_2, frame_of_site_17, frame_of_another_site, frame_above_its_count, frame_above_its_clock, frame_of_number_0, frame_of_no_kind, frame_too_wide, frame_without_its_label, misread, at_stamp, move_to, moves_held, late_move, late_delete, tied_held, late_group, undone_by_the_group};
+ghost use Rattle.gd_rows.specs.Worked.{header, header_bytes, empty_log, tie_log, tie_events, tie_text, rank_events, rank_text, effect_before_cause, end_alone, replay_words, other_words, prints_of, works_of, cut_text, moved_log, moved_events, moved_text, styled_log, styled_events, styled_text, grouped_log, grouped_events, regrouped_events, regrouped_text, nested_events, nested_text, frame_row, frame_value, at_stamp, moves_held, late_move, late_delete, tied_held, late_group, undone_by_the_group, log_faults, frame_faults, last_move};
 
 /// A log without events prints no object, with its closed gate and without.
 pub fn an_empty_log_prints_its_end()
@@ -25,20 +24,23 @@ pub fn an_empty_log_prints_its_end()
 /// Events of one clock are ordered by their sites.
 pub fn a_tie_of_clocks_goes_by_sites()
     ensures read { log tie_log ≡ Ok (header, tie_events) }
-    ensures printed { slow_effects replay_words tie_log ≡ works_of (1 ∷ 1 ∷ []) ++ prints_of tie_text }
+    ensures printed { slow_effects replay_words tie_log
+        ≡ works_of (1 ∷ 1 ∷ []) ++ prints_of tie_text }
     ensures end { slow_end replay_words tie_log ≡ status.Done }
 {}
 
 /// A move puts an object at another place, and a label is printed behind all else.
 pub fn a_move_and_a_label_are_shown()
     ensures read { log moved_log ≡ Ok (header, moved_events) }
-    ensures printed { slow_effects replay_words moved_log ≡ works_of (1 ∷ 1 ∷ []) ++ prints_of moved_text }
+    ensures printed { slow_effects replay_words moved_log
+        ≡ works_of (1 ∷ 1 ∷ []) ++ prints_of moved_text }
 {}
 
 /// A size, both colours, the width and a label are those that were set last, and what is set of no object changes nothing.
 pub fn a_look_is_set()
     ensures read { log styled_log ≡ Ok (header, styled_events) }
-    ensures printed { slow_effects replay_words styled_log ≡ works_of (1 ∷ 1 ∷ 1 ∷ 1 ∷ 1 ∷ 1 ∷ 1 ∷ []) ++ prints_of styled_text }
+    ensures printed { slow_effects replay_words styled_log
+        ≡ works_of (1 ∷ 1 ∷ 1 ∷ 1 ∷ 1 ∷ 1 ∷ 1 ∷ []) ++ prints_of styled_text }
 {}
 
 /// A raise lifts its object above all whose creates and raises come before it by their stamps.
@@ -68,15 +70,17 @@ pub fn an_effect_before_its_cause_counts()
 
 /// A late move is dropped by the next move of its object, and a late delete has that one redone.
 pub fn a_late_event_is_dropped_or_has_others_redone()
-    ensures dropped { outcome_of moves_held late_move ≡ dropped (drawn (move_to 3 1 (pos 60))) }
-    ensures redone { outcome_of (moves_held ++ late_move ∷ []) late_delete ≡ reworked (all_drawn (move_to 3 1 (pos 60) ∷ [])) }
+    ensures dropped { outcome_of moves_held late_move ≡ dropped (drawn last_move) }
+    ensures redone { outcome_of (moves_held ++ late_move ∷ []) late_delete
+        ≡ reworked (all_drawn (last_move ∷ [])) }
     ensures first { outcome_of [] late_move ≡ applied }
     ensures steps { costs (moves_held ++ late_move ∷ late_delete ∷ []) ≡ 1 ∷ 1 ∷ 1 ∷ 0 ∷ 3 ∷ [] }
 {}
 
 /// Where a move is dropped, its before-value is that of the move that drops it, which now finds the place that the dropped one sets.
 pub fn a_dropped_event_is_spliced_in()
-    ensures { splice (at_stamp 2 2) late_move.op (at_stamp 3 1) (move_to 3 1 (pos 60)).op (Place (pos 50) (pos 50)) ≡ (Place (pos 50) (pos 50), Place (pos 90) (pos 90)) }
+    ensures { splice (at_stamp 2 2) late_move.op (at_stamp 3 1) last_move.op
+        (Place (pos 50) (pos 50)) ≡ (Place (pos 50) (pos 50), Place (pos 90) (pos 90)) }
 {}
 
 /// An event that depends on a late one through another event alone is undone with it.
@@ -92,20 +96,7 @@ pub fn what_others_do_costs_nothing()
 
 /// The first fault of a log, with its place as the number of bytes that stand from it on.
 pub fn a_fault_has_its_place()
-    ensures magic { log no_magic ≡ fault_at Magic 11 }
-    ensures version { log no_version ≡ fault_at Version 7 }
-    ensures field { log no_field ≡ fault_at Field 2 }
-    ensures future { log future_log ≡ fault_at FutureId 7 }
-    ensures future_resize { log future_resize_log ≡ fault_at FutureId 15 }
-    ensures no_colour { log no_colour_log ≡ fault_at Field 4 }
-    ensures cut { log (take 32 tie_log) ≡ fault_at Short 0 }
-    ensures no_tag { log no_tag_log ≡ fault_at Field 1 }
-    ensures unordered { log unordered_log ≡ fault_at MemberOrder 15 }
-    ensures one_member { log one_member_log ≡ fault_at Field 1 }
-    ensures many_members { log many_members_log ≡ fault_at Field 1 }
-    ensures no_site { log no_site_log ≡ fault_at NoSite 52 }
-    ensures turn { log turn_log ≡ fault_at Turn 51 }
-    ensures backdated { log backdated_log ≡ fault_at Backdated 29 }
+    ensures { AllByRecursion (λ r. log r.0 ≡ Err r.1) log_faults }
 {}
 
 /// Bytes that are no log are refused with the place and the reason of the first fault.
@@ -130,15 +121,5 @@ pub fn a_frame_is_read_and_written()
 
 /// The first fault of bytes that are no frame, with its place as the number of bytes that stand from it on.
 pub fn a_fault_of_a_frame_has_its_place()
-    ensures cut { frame (take 33 frame_row) ≡ misread wire.Short 0 }
-    ensures version { frame frame_of_version_2 ≡ misread wire.Version 56 }
-    ensures site { frame frame_of_site_17 ≡ misread wire.Field 51 }
-    ensures sender { frame frame_of_another_site ≡ misread wire.Disorder 28 }
-    ensures count { frame frame_above_its_count ≡ misread wire.Disorder 28 }
-    ensures clock { frame frame_above_its_clock ≡ misread wire.Disorder 28 }
-    ensures number { frame frame_of_number_0 ≡ misread wire.Field 21 }
-    ensures kind { frame frame_of_no_kind ≡ misread wire.Field 18 }
-    ensures width { frame frame_too_wide ≡ misread wire.Field 9 }
-    ensures label { frame frame_without_its_label ≡ misread wire.Short 0 }
-    ensures tail { frame (frame_row ++ 0 ∷ []) ≡ misread wire.Trailing 1 }
+    ensures { AllByRecursion (λ r. frame r.0 ≡ Err r.1) frame_faults }
 {}

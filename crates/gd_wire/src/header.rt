@@ -1,10 +1,11 @@
 ghost use Rattle.std.specs.Prelude.{◌≡◌, ◌≤◌, ◌↔◌, IsSome, IfSome, IfOk};
 ghost use Rattle.gd_base.specs.Results.{Gives};
 ghost use Rattle.gd_grammar.specs.LogBytes.{magic, magic_at, version_at, session_at, sites_at, header_at, header_bytes, IsHeader};
+ghost use Rattle.gd_base.specs.declared.ranges.TheConstants.{SITES};
 
 use crate::buffer::{EventBytes, HeaderBytes};
 use crate::bytes::Bytes;
-use gd_base::{FieldFault, FieldWhy};
+use gd_base::{FieldFault, FieldWhy, SITES};
 use std::marker::Model;
 
 const MAGIC: u32 = 0x4744_4F4C;
@@ -12,7 +13,7 @@ const MAGIC: u32 = 0x4744_4F4C;
 const VERSION: u8 = 1;
 
 /// What stands at the front of a log: the session, the site that keeps the log, and the number `n` of the session's
-/// sites. The site is from 1 to `n`, and `n` is at most 16.
+/// sites. The site is from 1 to `n`, and `n` is at most `SITES`.
 #[derive(Clone, Copy, Debug, PartialEq, Eq)]
 pub struct LogHeader {
     session: u32,
@@ -33,12 +34,12 @@ impl Model for LogHeader {
 }
 
 impl LogHeader {
-    /// None exactly where the site isn't from 1 to `n`, or `n` is above 16.
+    /// None exactly where the site isn't from 1 to `n`, or `n` is above `SITES`.
     pub fn new(session: u32, site: u8, n: u8) -> Option<Self>
         ensures value { IfSome result (λ h. h ≡ record { session = session; site = site; n = n }) }
         ensures ranges { IsSome result ↔ IsHeader (record { session = session; site = site; n = n }) }
     {
-        if site < 1 || site > n || n > 16 {
+        if site < 1 || site > n || n > SITES {
             return None;
         }
         Some(LogHeader { session, site, n })
@@ -120,11 +121,11 @@ impl<'a> Bytes<'a> {
     fn sites(&mut self, site: u8) -> Result<u8, FieldFault>
         ensures read { Gives (λ x. (x, self.new)) result (sites_at site self.old) }
         ensures above { IfOk result (λ n. site ≤ n) }
-        ensures below { IfOk result (λ n. n ≤ 16) }
+        ensures below { IfOk result (λ n. n ≤ SITES) }
     {
         let fault = self.fault(FieldWhy::Field);
         let n = self.byte()?;
-        if n < site || n > 16 {
+        if n < site || n > SITES {
             return Err(fault);
         }
         Ok(n)

@@ -1,15 +1,14 @@
 //! Writes the fields of an event one behind the other.
 ghost use Rattle.std.specs.Prelude.{◌≡◌, ◌≤◌, ◌<◌, ◌+◌, ◌*◌, ◌^◌, ◌++◌, ◌∷◌, [], length};
 ghost use Rattle.std.specs.Int.{bytes_high_first};
-ghost use Rattle.gd_grammar.specs.Spelling.{stamp_bytes, word_bytes, signed_bytes, shape_byte, label_bytes, style_bytes, member_bytes, members_bytes, op_bytes, spelling};
+ghost use Rattle.gd_grammar.specs.Spelling.{shape_byte, style_bytes, member_bytes, members_bytes, op_bytes, spelling};
+ghost use Rattle.gd_grammar.specs.FieldBytes.{stamp_bytes, word_bytes, signed_bytes, label_bytes};
 
 use crate::buffer::EventBytes;
+use crate::style::NO_FILL;
 use byteorder::{BigEndian, ByteOrder};
 use gd_base::{Label, Member, Shape, Stamp, Style};
 use gd_events::{Event, Op};
-
-/// The word that stands for no fill.
-const NO_FILL: u32 = 0xFFFF_FFFF;
 
 /// Writes the event's bytes in place of those that were there.
 pub fn write_event(event: &Event, out: &mut EventBytes)

@@ -1,33 +1,38 @@
 -- What is read is in its ranges: word by word, and then line by line.
-use Rattle.std.proofs.Common.{◌≡◌, ℕ, zero, suc, ℤ, pos, negsuc, neg_ℤ, nat_abs, int_le, ◌+◌, ◌-◌, ◌^◌, ◌<◌, ◌≤◌, Bool, true, false, ◌&&◌, List, [], ◌∷◌, ◌++◌, length, take, drop, Option, Some, None, Result, Ok, Err, nat_lt, nat_le, ◌==◌, if◌then◌else◌, subst, refl, arith}
+use Rattle.std.proofs.Common.{◌≡◌, ℕ, zero, suc, ℤ, pos, negsuc, neg_ℤ, nat_abs, ◌+◌, ◌-◌, ◌^◌, ◌<◌, ◌≤◌, Bool, true, false, ◌&&◌, List, [], ◌∷◌, ◌++◌, length, take, drop, Option, Some, None, Result, Ok, Err, nat_lt, nat_le, ◌==◌, if◌then◌else◌, subst, refl, arith}
 use Rattle.std.specs.Prelude.{IfSome, All}
+use Rattle.std.specs.Bool.{then_some}
 use Rattle.std.specs.List.{fold, list_all, position_or_len}
+use Rattle.std.specs.Option.{option_map, option_and_then}
 use Rattle.std.proofs.lemmas.Bool.{and_parts, and_from, ltb-true}
 use Rattle.std.proofs.lemmas.Bool.Decides.{nat_tests}
-use Rattle.std.proofs.lemmas.Option.{IfSome_then}
 use Rattle.std.proofs.lemmas.List.{length_push}
 use Rattle.std.proofs.lemmas.List.Elements.{All-nil, All-push, recursion_from_All}
 use Rattle.gd_base.specs.Stamps.{Stamp, IsStamp}
+use Rattle.gd_base.specs.Sites.{is_site, IsSite}
+use Rattle.gd_base.specs.declared.ranges.TheConstants.{CLOCK_LIMIT, SITES, MOST_MEMBERS, WIDTH_LIMIT}
+use Rattle.gd_base.proofs.SiteLemmas.{is_site-bounds}
 use Rattle.gd_base.specs.Labels.{IsLabel, is_name, is_plain, most_label}
 use Rattle.gd_base.specs.Ranges.{place_limit, size_limit, is_within, is_colour, is_width, is_style}
 use Rattle.gd_base.specs.declared.style.Style.TheVariants as style
 use Rattle.gd_base.specs.declared.edit.Edit.{Edit}
 use Rattle.gd_base.specs.declared.refusal.LineFault.{LineFault}
-use Rattle.gd_base.specs.declared.refusal.LineFault.TheVariants.{LongLine, WrongCount}
+use Rattle.gd_base.specs.declared.refusal.LineFault.TheVariants.{LongLine, WrongCount, BadNumber}
 use Rattle.gd_lines.specs.declared.verb.Verb.{Verb}
 use Rattle.gd_lines.specs.declared.verb.Verb.TheVariants as verb_of
+use Rattle.gd_lines.specs.declared.command.TheConstants.{LONGEST_LINE}
 use Rattle.gd_lines.specs.declared.command.Command.{Command}
 use Rattle.gd_lines.specs.declared.command.Command.TheVariants as command
 use Rattle.gd_base.specs.Results.{◌>>=◌}
 use Rattle.gd_lines.specs.LineWords.{word, behind, count_words, without_cr}
-use Rattle.gd_lines.specs.WordKinds.{when, digit, is_digit, push_digit, value, numeral, number, within, number_in, natural, natural_in, in_ranges, is_dot, id, colour, perhaps, fill, focus, label, name}
-use Rattle.gd_lines.specs.Lines.{ReadsWords, or_fault, kind_at, place_at, size_at, natural_at, width_at, id_at, colour_at, fill_at, focus_at, name_at, label_at, ids_at, verb, fits, create_at, delete_at, move_at, resize_at, stroke_at, refill_at, rewidth_at, text_at, group_at, ungroup_at, raise_at, an_edit, command_at, counted_at, first_of, line_of, longest_line, read}
+use Rattle.gd_lines.specs.WordKinds.{digit, is_digit, push_digit, value, numeral, number, is_between, number_in, natural_in, in_ranges, is_dot, id, colour, fill, focus, label, name}
+use Rattle.gd_lines.specs.Lines.{ReadsWords, or_fault, next, kind_at, place_at, size_at, natural_at, width_at, id_at, colour_at, fill_at, focus_at, name_at, label_at, ids_at, verb, fits, create_at, delete_at, move_at, resize_at, stroke_at, refill_at, rewidth_at, text_at, group_at, ungroup_at, raise_at, an_edit, command_at, counted_at, first_of, line_of, read}
 use Rattle.gd_lines.specs.declared.verb.ScriptVerb.{ScriptVerb}
 use Rattle.gd_lines.specs.declared.verb.ScriptVerb.TheVariants as script
 use Rattle.gd_lines.specs.declared.command.ScriptLine.{ScriptLine}
 use Rattle.gd_lines.specs.declared.command.ScriptLine.TheVariants as a_line
-use Rattle.gd_lines.specs.ScriptLines.{script_verb, asked, site_at, mail_at, site_command_at, asked_at, at_at, send_at, deliver_at, script_at, script_of, read_script}
-use Rattle.gd_lines.specs.InRange.{IsEdit, IsCommand, IsSite, IsScriptLine}
+use Rattle.gd_lines.specs.ScriptLines.{script_verb, is_askable, asked, site_at, mail_at, site_command_at, asked_at, at_at, send_at, deliver_at, script_at, script_of, read_script}
+use Rattle.gd_lines.specs.InRange.{IsEdit, IsCommand, IsAsked, IsScriptLine}
 use Rattle.gd_words.proofs.Digits.{push_small}
 
 -- what is read, if it is read, has the property
@@ -35,7 +40,8 @@ abbrev Yields : {A : Type 0} → (A → Type 0) → ReadsWords A → Type 0
 Yields P (Ok x) = P x.0
 Yields P (Err fault) = Unit {0}
 
-first : {A B : Type 0} (P : A → Type 0) (Q : B → Type 0) (r : ReadsWords A) (f : A × List ℕ → ReadsWords B) → Yields P r → ((x : A × List ℕ) → P x.0 → Yields Q (f x)) → Yields Q (r >>= f)
+first : {A B : Type 0} (P : A → Type 0) (Q : B → Type 0) (r : ReadsWords A) (f : A × List ℕ → ReadsWords B)
+    → Yields P r → ((x : A × List ℕ) → P x.0 → Yields Q (f x)) → Yields Q (r >>= f)
 first P Q (Ok x) f h k = k x h
 first P Q (Err fault) f h k = tt
 
@@ -47,62 +53,84 @@ any : {A : Type 0} (r : ReadsWords A) → Yields Any r
 any (Ok x) = tt
 any (Err fault) = tt
 
-by_spelling : {A : Type 0} (P : A → Type 0) (fault : LineFault) (rest : List ℕ) (o : Option A) → IfSome o P → Yields P (or_fault fault rest o)
+both : {A : Type 0} (P Q : A → Type 0) (r : ReadsWords A) → Yields P r → Yields Q r → Yields (λ x. P x × Q x) r
+both P Q (Ok x) p q = (p, q)
+both P Q (Err fault) p q = tt
+
+weaker : {A : Type 0} (P Q : A → Type 0) (r : ReadsWords A) → ((x : A) → P x → Q x) → Yields P r → Yields Q r
+weaker P Q (Ok x) f h = f x.0 h
+weaker P Q (Err fault) f h = tt
+
+by_spelling : {A : Type 0} (P : A → Type 0) (fault : LineFault) (rest : List ℕ) (o : Option A)
+    → IfSome o P → Yields P (or_fault fault rest o)
 by_spelling P fault rest None h = tt
 by_spelling P fault rest (Some x) h = h
 
-when_holds : {A : Type 0} (P : A → Type 0) (test : Bool) (x : A) → (test ≡ true → P x) → IfSome (when test x) P
-when_holds P true x h = h refl
-when_holds P false x h = tt
+then_holds : {A : Type 0} (P : A → Type 0) (test : Bool) (x : A) → (test ≡ true → P x) → IfSome (then_some test x) P
+then_holds P true x h = h refl
+then_holds P false x h = tt
 
-within_in : (low high : ℤ) (o : Option ℤ) → IfSome (within low high o) (λ z. (int_le low z && int_le z high) ≡ true)
-within_in low high None = tt
-within_in low high (Some z) = when_holds (λ y. (int_le low y && int_le y high) ≡ true) (int_le low z && int_le z high) z (λ e. e)
+abbrev InBounds : ℤ → ℤ → ℤ → Type 0
+InBounds low high z = is_between low high z ≡ true
+
+-- `number_in`, of what was read as a number
+abbrev bounded : ℤ → ℤ → Option ℤ → Option ℤ
+bounded low high o = option_and_then (λ z. then_some (is_between low high z) z) o
+
+bounded_in : (low high : ℤ) (o : Option ℤ) → IfSome (bounded low high o) (InBounds low high)
+bounded_in low high None = tt
+bounded_in low high (Some z) = then_holds (InBounds low high) (is_between low high z) z (λ e. e)
+
+number_at_in : (low high : ℤ) (line : List ℕ) → Yields (InBounds low high) (next BadNumber (number_in low high) line)
+unfolding number_in
+number_at_in low high line =
+    by_spelling _ _ _ (bounded low high (number (word line))) (bounded_in low high (number (word line)))
 
 place_in : (line : List ℕ) → Yields (λ z. is_within place_limit z ≡ true) (place_at line)
-unfolding place_at number_in
-place_in line = by_spelling _ _ _ (within (neg_ℤ (pos place_limit)) (pos place_limit) (number (word line))) (within_in (neg_ℤ (pos place_limit)) (pos place_limit) (number (word line)))
+unfolding place_at
+place_in line = number_at_in (neg_ℤ (pos place_limit)) (pos place_limit) line
 
 size_in : (line : List ℕ) → Yields (λ z. is_within size_limit z ≡ true) (size_at line)
-unfolding size_at number_in
-size_in line = by_spelling _ _ _ (within (neg_ℤ (pos size_limit)) (pos size_limit) (number (word line))) (within_in (neg_ℤ (pos size_limit)) (pos size_limit) (number (word line)))
+unfolding size_at
+size_in line = number_at_in (neg_ℤ (pos size_limit)) (pos size_limit) line
 
-natural_of : (low high : ℕ) (z : ℤ) → (int_le (pos low) z && int_le z (pos high)) ≡ true → (nat_le low (nat_abs z) && nat_le (nat_abs z) high) ≡ true
+abbrev InRange : ℕ → ℕ → ℕ → Type 0
+InRange low high n = (nat_le low n && nat_le n high) ≡ true
+
+natural_of : (low high : ℕ) (z : ℤ) → InBounds (pos low) (pos high) z → InRange low high (nat_abs z)
 natural_of low high (pos n) e = e
 natural_of low high (negsuc n) e = absurd cc
 
-natural_by : (low high : ℕ) (o : Option ℤ) → IfSome o (λ z. (int_le (pos low) z && int_le z (pos high)) ≡ true) → IfSome (natural o) (λ n. (nat_le low n && nat_le n high) ≡ true)
+natural_by : (low high : ℕ) (o : Option ℤ) → IfSome o (InBounds (pos low) (pos high))
+    → IfSome (option_map nat_abs o) (InRange low high)
 natural_by low high None h = tt
 natural_by low high (Some z) h = natural_of low high z h
 
-width_in : (line : List ℕ) → Yields (λ n. is_width n ≡ true) (width_at line)
-unfolding width_at natural_at natural_in number_in
-width_in line = by_spelling _ _ _ (natural (within (pos 1) (pos 64) (number (word line)))) (natural_by 1 64 (within (pos 1) (pos 64) (number (word line))) (within_in (pos 1) (pos 64) (number (word line))))
+natural_in_range : (low high : ℕ) (line : List ℕ) → Yields (InRange low high) (natural_at low high line)
+unfolding natural_at natural_in number_in
+natural_in_range low high line =
+    let o = bounded (pos low) (pos high) (number (word line)) in
+    by_spelling _ _ _ (option_map nat_abs o)
+    (natural_by low high o (bounded_in (pos low) (pos high) (number (word line))))
 
-stamp_of : (c s : ℕ) → ((nat_le 1 c && nat_lt c (2 ^ 48)) && (nat_le 1 s && nat_le s 16)) ≡ true → IsStamp (record { clock = c; site = s })
-stamp_of c s e =
-    let p = and_parts _ _ e in
-    let q = and_parts _ _ p.0 in
-    let r = and_parts _ _ p.1 in
-    let a : nat_le 1 c ≡ true = q.0 in
-    let b : nat_lt c (2 ^ 48) ≡ true = q.1 in
-    let d : nat_le 1 s ≡ true = r.0 in
-    let f : nat_le s 16 ≡ true = r.1 in
-    record {
-      clock_above = grind (arith, nat_tests, a);
-      clock_below = grind (arith, nat_tests, b);
-      site_above = grind (arith, nat_tests, d);
-      site_below = grind (arith, nat_tests, f);
-    }
+width_in : (line : List ℕ) → Yields (λ n. is_width n ≡ true) (width_at line)
+unfolding width_at
+width_in line = natural_in_range 1 WIDTH_LIMIT line
+
+stamp_of : (c s : ℕ) → ((nat_le 1 c && nat_lt c CLOCK_LIMIT) && is_site SITES s) ≡ true
+    → IsStamp (record { clock = c; site = s })
+stamp_of c s e = grind arith
 
 stamp_in : (c s : Option ℕ) → IfSome (in_ranges c s) IsStamp
 stamp_in None s = tt
 stamp_in (Some c) None = tt
-stamp_in (Some c) (Some s) = when_holds IsStamp _ (record { clock = c; site = s }) (stamp_of c s)
+stamp_in (Some c) (Some s) = then_holds IsStamp _ (record { clock = c; site = s }) (stamp_of c s)
 
 id_of : (text : List ℕ) → IfSome (id text) IsStamp
 unfolding id
-id_of text = stamp_in (numeral 10 1 15 (take (position_or_len is_dot text) text)) (numeral 10 1 2 (drop 1 (drop (position_or_len is_dot text) text)))
+id_of text =
+    let dot = position_or_len is_dot text in
+    stamp_in (numeral 10 1 15 (take dot text)) (numeral 10 1 2 (drop 1 (drop dot text)))
 
 id_in : (line : List ℕ) → Yields IsStamp (id_at line)
 unfolding id_at
@@ -116,7 +144,7 @@ small (b ∷ bs) n i all h =
     subst (λ k. fold (push_digit 16) (push_digit 16 n b) bs < 16 ^ k) same (small bs (push_digit 16 n b) (i + 1) p.1 (push_small n 16 (digit b) i h (omega arith) (ltb-true _ _ p.0)))
 
 six : (n : ℕ) → (nat_le 6 n && nat_le n 6) ≡ true → n ≡ 6
-six n e = let p = and_parts _ _ e in let a : nat_le 6 n ≡ true = p.0 in let b : nat_le n 6 ≡ true = p.1 in grind (arith, nat_tests, a, b)
+six n e = grind arith
 
 colour_small : (text : List ℕ) → ((nat_le 6 (length text) && nat_le (length text) 6) && list_all (is_digit 16) text) ≡ true → is_colour (value 16 text) ≡ true
 colour_small text e =
@@ -127,7 +155,7 @@ colour_small text e =
 
 colour_of : (text : List ℕ) → IfSome (colour text) (λ c. is_colour c ≡ true)
 unfolding colour numeral
-colour_of text = when_holds (λ c. is_colour c ≡ true) _ (value 16 text) (colour_small text)
+colour_of text = then_holds (λ c. is_colour c ≡ true) _ (value 16 text) (colour_small text)
 
 colour_in : (line : List ℕ) → Yields (λ c. is_colour c ≡ true) (colour_at line)
 unfolding colour_at
@@ -136,7 +164,8 @@ colour_in line = by_spelling _ _ _ (colour (word line)) (colour_of (word line))
 IsFill : Option ℕ → Type 0
 IsFill f = is_style (style.Fill f) ≡ true
 
-fill_by : (b : Bool) (o : Option ℕ) → IfSome o (λ c. is_colour c ≡ true) → IfSome (if b then Some None else perhaps o) IsFill
+fill_by : (b : Bool) (o : Option ℕ) → IfSome o (λ c. is_colour c ≡ true)
+    → IfSome (if b then Some None else option_map Some o) IsFill
 unfolding IsFill
 fill_by true o h = refl
 fill_by false None h = tt
@@ -149,7 +178,8 @@ fill_in line = by_spelling IsFill _ _ _ (fill_by _ (colour (word line)) (colour_
 IsFocus : Option Stamp → Type 0
 IsFocus f = IsCommand (command.Focus f)
 
-focus_by : (b : Bool) (o : Option Stamp) → IfSome o IsStamp → IfSome (if b then Some None else perhaps o) IsFocus
+focus_by : (b : Bool) (o : Option Stamp) → IfSome o IsStamp
+    → IfSome (if b then Some None else option_map Some o) IsFocus
 unfolding IsFocus
 focus_by true o h = tt
 focus_by false None h = tt
@@ -161,14 +191,16 @@ focus_in line = by_spelling IsFocus _ _ _ (focus_by _ (id (word line)) (id_of (w
 
 name_in : (line : List ℕ) → Yields (λ n. is_name n ≡ true) (name_at line)
 unfolding name_at name
-name_in line = by_spelling _ _ _ (when (is_name (word line)) (word line)) (when_holds (λ n. is_name n ≡ true) _ (word line) (λ e. e))
+name_in line =
+    by_spelling _ _ _ (then_some (is_name (word line)) (word line))
+    (then_holds (λ n. is_name n ≡ true) _ (word line) (λ e. e))
 
 label_of : (text : List ℕ) → (nat_le (length text) most_label && is_plain text) ≡ true → IsLabel text
-label_of text e = let p = and_parts _ _ e in let a : nat_le (length text) 64 ≡ true = p.0 in record { fits = grind (arith, nat_tests, a); plain = p.1 }
+label_of text e = grind arith
 
 label_in : (line : List ℕ) → Yields IsLabel (label_at line)
 unfolding label_at label
-label_in line = by_spelling IsLabel _ _ _ (when_holds IsLabel _ (drop 1 line) (label_of (drop 1 line)))
+label_in line = by_spelling IsLabel _ _ _ (then_holds IsLabel _ (drop 1 line) (label_of (drop 1 line)))
 
 abbrev AreIds : ℕ → List Stamp → Type 0
 AreIds n ids = (length ids ≡ n) × All IsStamp ids
@@ -235,14 +267,11 @@ text_in line =
     first IsStamp IsEdit (id_at line) _ (id_in line) (λ id is.
     first IsLabel IsEdit (label_at id.1) _ (label_in id.1) (λ label is_label. (is, is_label)))
 
-group_in : (n : ℕ) (line : List ℕ) → (nat_le 2 n && nat_le n 32) ≡ true → Yields IsEdit (group_at n line)
+group_in : (n : ℕ) (line : List ℕ) → (nat_le 2 n && nat_le n MOST_MEMBERS) ≡ true → Yields IsEdit (group_at n line)
 unfolding group_at
 group_in n line fit =
-    let p = and_parts _ _ fit in
-    let a : nat_le 2 n ≡ true = p.0 in
-    let b : nat_le n 32 ≡ true = p.1 in
-    let least : 2 ≤ n = grind (arith, nat_tests, a) in
-    let most : n ≤ 32 = grind (arith, nat_tests, b) in
+    let least : 2 ≤ n = grind arith in
+    let most : n ≤ MOST_MEMBERS = grind arith in
     first (AreIds n) IsEdit (ids_at n [] line) _ (ids_in n n [] line (omega arith) (All-nil IsStamp)) (λ ids are.
     (omega (arith, are.0, least), omega (arith, are.0, most), recursion_from_All IsStamp ids.0 are.1))
 
@@ -312,32 +341,60 @@ line_in bytes c e =
     let line : List ℕ = without_cr bytes in
     let r : ReadsWords Command = counted_at (verb (word line)) (count_words line - 1) (behind line) in
     read_in IsCommand (line_of line) c e
-    (judged_in IsCommand (nat_lt longest_line (length line)) (count_words line == 0) command.Blank (first_of r) tt (first_in IsCommand r (counted_in (verb (word line)) (count_words line - 1) (behind line))))
+    (judged_in IsCommand (nat_lt LONGEST_LINE (length line)) (count_words line == 0) command.Blank (first_of r) tt
+    (first_in IsCommand r (counted_in (verb (word line)) (count_words line - 1) (behind line))))
 
 -- ---- a line of a rehearsal
 
-site_of : (n : ℕ) → (nat_le 1 n && nat_le n 16) ≡ true → IsSite n
-site_of n e =
-    let p = and_parts _ _ e in
-    let a : nat_le 1 n ≡ true = p.0 in
-    let b : nat_le n 16 ≡ true = p.1 in
-    (grind (arith, nat_tests, a), grind (arith, nat_tests, b))
-
 site_in : (line : List ℕ) → Yields IsSite (site_at line)
-unfolding site_at natural_at natural_in number_in
-site_in line =
-    let o : Option ℤ = within (pos 1) (pos 16) (number (word line)) in
-    by_spelling IsSite _ _ (natural o) (IfSome_then (natural o) (natural_by 1 16 o (within_in (pos 1) (pos 16) (number (word line)))) site_of)
+unfolding site_at
+site_in line = weaker (InRange 1 SITES) IsSite (site_at line) (is_site-bounds SITES) (natural_in_range 1 SITES line)
 
-site_command_in : (v : Verb) (n : ℕ) (line : List ℕ) → fits v n ≡ true → Yields IsScriptLine (site_command_at v n line)
+asked_edit : (r : ReadsWords Edit) → Yields IsAsked (an_edit r)
+asked_edit (Ok e) = tt
+asked_edit (Err fault) = tt
+
+asked_command : (v : Verb) (n : ℕ) (line : List ℕ) → is_askable v ≡ true → Yields IsAsked (command_at v n line)
+asked_command verb_of.Create n line e = asked_edit (create_at line)
+asked_command verb_of.Delete n line e = asked_edit (delete_at line)
+asked_command verb_of.Move n line e = asked_edit (move_at line)
+asked_command verb_of.Resize n line e = asked_edit (resize_at line)
+asked_command verb_of.Stroke n line e = asked_edit (stroke_at line)
+asked_command verb_of.Fill n line e = asked_edit (refill_at line)
+asked_command verb_of.Width n line e = asked_edit (rewidth_at line)
+asked_command verb_of.Text n line e = asked_edit (text_at line)
+asked_command verb_of.Group n line e = asked_edit (group_at n line)
+asked_command verb_of.Ungroup n line e = asked_edit (ungroup_at line)
+asked_command verb_of.Raise n line e = asked_edit (raise_at line)
+asked_command verb_of.Show n line e = tt
+asked_command verb_of.Poll n line e = absurd cc
+asked_command verb_of.Status n line e = tt
+asked_command verb_of.Focus n line e = first Any IsAsked (focus_at line) _ (any (focus_at line)) (λ focus a. tt)
+asked_command verb_of.Name n line e = first Any IsAsked (name_at line) _ (any (name_at line)) (λ name a. tt)
+asked_command verb_of.Who n line e = tt
+asked_command verb_of.Quit n line e = absurd cc
+
+abbrev IsAskedInRange : Command → Type 0
+IsAskedInRange c = IsCommand c × IsAsked c
+
+site_command_in : (v : Verb) (n : ℕ) (line : List ℕ) → is_askable v ≡ true → fits v n ≡ true
+    → Yields IsScriptLine (site_command_at v n line)
 unfolding site_command_at
-site_command_in v n line fit =
+site_command_in v n line askable fit =
     first IsSite IsScriptLine (site_at line) _ (site_in line) (λ site is.
-    first IsCommand IsScriptLine (command_at v n (behind site.1)) _ (command_in v n (behind site.1) fit) (λ command in_range. (is, in_range)))
+    let rest = behind site.1 in
+    first IsAskedInRange IsScriptLine (command_at v n rest) _
+    (both IsCommand IsAsked (command_at v n rest) (command_in v n rest fit) (asked_command v n rest askable))
+    (λ command in_range. (is, in_range.0, in_range.1)))
 
-asked_in : (v : Option Verb) (n : ℕ) (line : List ℕ) → Yields IsScriptLine (asked_at v n line)
+askable_in : (v : Verb) (n : ℕ) (line : List ℕ) (b : Bool) → is_askable v ≡ b
+    → Yields IsScriptLine (asked_at (then_some b v) n line)
+askable_in v n line true e = fitting IsScriptLine (fits v n) (site_command_at v n line) (site_command_in v n line e)
+askable_in v n line false e = tt
+
+asked_in : (v : Option Verb) (n : ℕ) (line : List ℕ) → Yields IsScriptLine (asked_at (asked v) n line)
 asked_in None n line = tt
-asked_in (Some v) n line = fitting IsScriptLine (fits v n) (site_command_at v n line) (site_command_in v n line)
+asked_in (Some v) n line = askable_in v n line (is_askable v) refl
 
 unless_short : {A : Type 0} (P : A → Type 0) (short : Bool) (r : ReadsWords A) → Yields P r → Yields P (if short then Err WrongCount else r)
 unless_short P true r h = tt
@@ -346,8 +403,8 @@ unless_short P false r h = h
 at_in : (n : ℕ) (line : List ℕ) → Yields IsScriptLine (at_at n line)
 unfolding at_at
 at_in n line =
-    let v : Option Verb = asked (verb (word (behind line))) in
-    unless_short IsScriptLine (nat_lt n 2) (asked_at v (n - 2) line) (asked_in v (n - 2) line)
+    let v : Option Verb = verb (word (behind line)) in
+    unless_short IsScriptLine (nat_lt n 2) (asked_at (asked v) (n - 2) line) (asked_in v (n - 2) line)
 
 send_in : (line : List ℕ) → Yields IsScriptLine (send_at line)
 unfolding send_at
@@ -372,4 +429,5 @@ script_line_in bytes l e =
     let line : List ℕ = without_cr bytes in
     let r : ReadsWords ScriptLine = script_at (script_verb (word line)) (count_words line - 1) (behind line) in
     read_in IsScriptLine (script_of line) l e
-    (judged_in IsScriptLine (nat_lt longest_line (length line)) (count_words line == 0) a_line.Blank (first_of r) tt (first_in IsScriptLine r (script_in (script_verb (word line)) (count_words line - 1) (behind line))))
+    (judged_in IsScriptLine (nat_lt LONGEST_LINE (length line)) (count_words line == 0) a_line.Blank (first_of r) tt
+    (first_in IsScriptLine r (script_in (script_verb (word line)) (count_words line - 1) (behind line))))

@@ -2,12 +2,13 @@
 
 ghost use Rattle.std.specs.Prelude.{◌≡◌, ◌≤◌, ◌+◌, ◌++◌, [], length};
 ghost use Rattle.gd_lines.specs.Text.{shape_word, kind_word, parent_text, fill_text, label_text, head_text, size_text, colours_text, width_text, look_text, look_of};
+ghost use Rattle.gd_words.specs.declared.reply_text.TheConstants.{LONGEST_REPLY};
 
 use crate::colours::push_colour;
 use crate::reply_text::ReplyText;
 use gd_base::{Item, Label, Shape, ShapeItem, Stamp};
 
-/// Puts what each item has: what it is, its id, its effective parent and its place.
+/// Appends what each item has: what it is, its id, its effective parent and its place.
 #[tactic(auto, unfolding(gd_lines::specs::Text::head_text))]
 pub(crate) fn push_head(text: &mut ReplyText, item: &Item)
     requires { text.old ≡ [] }
@@ -25,9 +26,9 @@ pub(crate) fn push_head(text: &mut ReplyText, item: &Item)
     text.signed(item.at.y);
 }
 
-/// Puts what only a shape has.
+/// Appends what only a shape has.
 pub(crate) fn push_look_of(text: &mut ReplyText, shape: &Option<ShapeItem>)
-    requires { length text.old ≤ 150 }
+    requires room { length text.old + 174 ≤ LONGEST_REPLY }
     ensures value { text.new ≡ text.old ++ look_of shape.now }
     ensures grown { length text.new ≤ length text.old + 174 }
 {
@@ -59,9 +60,9 @@ fn shape_word(kind: Shape) -> &'static [u8]
     }
 }
 
-/// Puts the id last, or that there is none.
+/// Appends the id, or that there is none.
 pub(crate) fn push_parent(text: &mut ReplyText, parent: Option<Stamp>)
-    requires { length text.old ≤ 400 }
+    requires room { length text.old + 41 ≤ LONGEST_REPLY }
     ensures value { text.new ≡ text.old ++ parent_text parent }
     ensures grown { length text.new ≤ length text.old + 41 }
 {
@@ -73,7 +74,7 @@ pub(crate) fn push_parent(text: &mut ReplyText, parent: Option<Stamp>)
 
 #[tactic(auto, unfolding(gd_lines::specs::Text::look_text))]
 fn push_look(text: &mut ReplyText, shape: &ShapeItem)
-    requires { length text.old ≤ 150 }
+    requires room { length text.old + 174 ≤ LONGEST_REPLY }
     ensures value { text.new ≡ text.old ++ look_text shape.now }
     ensures grown { length text.new ≤ length text.old + 174 }
 {
@@ -85,7 +86,7 @@ fn push_look(text: &mut ReplyText, shape: &ShapeItem)
 
 #[tactic(auto, unfolding(gd_lines::specs::Text::size_text))]
 fn push_size(text: &mut ReplyText, w: i32, h: i32)
-    requires { length text.old ≤ 400 }
+    requires room { length text.old + 47 ≤ LONGEST_REPLY }
     ensures value { text.new ≡ text.old ++ size_text w h }
     ensures grown { length text.new ≤ length text.old + 47 }
 {
@@ -97,7 +98,7 @@ fn push_size(text: &mut ReplyText, w: i32, h: i32)
 
 #[tactic(auto, unfolding(gd_lines::specs::Text::colours_text))]
 fn push_colours(text: &mut ReplyText, stroke: u32, fill: Option<u32>)
-    requires { length text.old ≤ 300 }
+    requires room { length text.old + 30 ≤ LONGEST_REPLY }
     ensures value { text.new ≡ text.old ++ colours_text stroke fill }
     ensures grown { length text.new ≤ length text.old + 30 }
 {
@@ -108,7 +109,7 @@ fn push_colours(text: &mut ReplyText, stroke: u32, fill: Option<u32>)
 }
 
 fn push_fill(text: &mut ReplyText, fill: Option<u32>)
-    requires { length text.old ≤ 400 }
+    requires room { length text.old + 8 ≤ LONGEST_REPLY }
     ensures value { text.new ≡ text.old ++ fill_text fill }
     ensures grown { length text.new ≤ length text.old + 8 }
 {
@@ -120,7 +121,7 @@ fn push_fill(text: &mut ReplyText, fill: Option<u32>)
 
 #[tactic(auto, unfolding(gd_lines::specs::Text::width_text))]
 fn push_width(text: &mut ReplyText, width: u8)
-    requires { length text.old ≤ 400 }
+    requires room { length text.old + 27 ≤ LONGEST_REPLY }
     ensures value { text.new ≡ text.old ++ width_text width }
     ensures grown { length text.new ≤ length text.old + 27 }
 {
@@ -129,7 +130,7 @@ fn push_width(text: &mut ReplyText, width: u8)
 }
 
 fn push_label(text: &mut ReplyText, label: &Label)
-    requires { length text.old ≤ 400 }
+    requires room { length text.old + 70 ≤ LONGEST_REPLY }
     ensures value { text.new ≡ text.old ++ label_text label.now }
     ensures grown { length text.new ≤ length text.old + 70 }
 {

@@ -15,7 +15,7 @@ use gd_base::Steps;
 use gd_effects::{print, status_of};
 use gd_log::replay;
 use gd_outside::{Sink, Source, Status, WordList};
-use gd_words::Reply;
+use gd_words::{AsText, Reply};
 use std::alloc::Global;
 use std::sync::ledger::Ledger;
 

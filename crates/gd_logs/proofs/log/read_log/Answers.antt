@@ -17,9 +17,10 @@ records-init g c = rw c.new-events.ensures record {
   follows = c.in_ok-reader.ensures.fresh;
   reached = tt;
   apart = refl;
+  header = c.in_ok-reader.ensures.header;
   on = c.in_ok-reader.ensures.on;
   exact = λ is_told. let start = c.in_ok-reader.ensures.exact is_told in
-      rw c.in_ok-reader.ensures.header (log-start _ _ c.in_ok-reader.field-0-1 start.0);
+      rw c.in_ok-reader.ensures.header (log-start _ _ c.in_ok-reader.header start.0);
   place = λ is_told. let start = c.in_ok-reader.ensures.exact is_told in start.1;
   counted = omega arith;
   few = omega arith;
@@ -30,31 +31,32 @@ returns-in_err-event-clause-exact g c = λ is_told.
     let p = err_from_is_err_and c.from_residual-in_err-event.result c.from_residual-in_err-event.ensures.1 in
     let was = c.in_err-event.ensures.called.handed.was is_told in
     rw (p.1, p.2) (log-stopped c.in_err-event.field-0.0 c.records.reader.header c.records.events _ _ _ c.records.reader.place _ (c.records.invariant.exact was) (c.records.invariant.place was)
-    (c.in_err-event.ensures.exact c.records.invariant.on c.records.events c.records.invariant.follows is_told))
+    (c.in_err-event.ensures.next.exact c.records.invariant.on c.records.events c.records.invariant.follows is_told))
 
 pub records-preserved : goal.records-preserved
 records-preserved g c =
     let taken = rw c.in-Some.is at c.in_ok-event.ensures in
-    let took = taken.follows c.records.events c.records.invariant.follows in
-    rw (c.in_ok-push.ensures.ok, taken.header) record {
+    let took = taken.next.follows c.records.events c.records.invariant.follows in
+    rw (c.in_ok-push.ensures.ok, taken.next.header) record {
       called = source_called_as (λ failed. absurd failed) (source_called_then c.records.invariant.called c.in_ok-event.ensures.called);
       follows = took.follows;
       reached = reached-push c.records.events c.records.events c.in-Some.event took.above c.records.invariant.reached;
       apart = distinct-push c.records.events c.records.events c.in-Some.event took.above c.records.invariant.reached c.records.invariant.apart;
-      on = taken.stops;
-      exact = λ is_told. let step = taken.exact c.records.invariant.on c.records.events c.records.invariant.follows is_told in
+      header = c.records.invariant.header;
+      on = taken.next.stops c.records.invariant.on;
+      exact = λ is_told. let step = taken.next.exact c.records.invariant.on c.records.events c.records.invariant.follows is_told in
           c.records.invariant.exact (c.in_ok-event.ensures.called.handed.was is_told) ∙ from-some c.records.reader.header c.records.events _ _ step.0;
-      place = λ is_told. let step = taken.exact c.records.invariant.on c.records.events c.records.invariant.follows is_told in
+      place = λ is_told. let step = taken.next.exact c.records.invariant.on c.records.events c.records.invariant.follows is_told in
           omega (arith, step.1, c.records.invariant.place (c.in_ok-event.ensures.called.handed.was is_told));
-      counted = omega (arith, taken.one_more.counted, length-append c.records.events (c.in-Some.event ∷ []));
-      few = omega (arith, taken.one_more.counted, taken.one_more.few, length-append c.records.events (c.in-Some.event ∷ []));
+      counted = omega (arith, taken.next.one_more.counted, length-append c.records.events (c.in-Some.event ∷ []));
+      few = omega (arith, taken.next.one_more.counted, taken.next.one_more.few, length-append c.records.events (c.in-Some.event ∷ []));
     }
 
 pub returns-clause-exact : goal.returns-clause-exact
 returns-clause-exact g c = λ is_told.
     let ended = rw c.in_default.is at c.in_ok-event.ensures in
-    let step = ended.exact c.records.invariant.on c.records.events c.records.invariant.follows is_told in
-    (c.records.reader.header, c.records.invariant.exact (c.in_ok-event.ensures.called.handed.was is_told) ∙ from-none c.records.reader.header c.records.events _ step.0)
+    let step = ended.next.exact c.records.invariant.on c.records.events c.records.invariant.follows is_told in
+    rw (← c.records.invariant.header) (c.records.invariant.exact (c.in_ok-event.ensures.called.handed.was is_told) ∙ from-none c.records.reader.header c.records.events _ step.0)
 
 pub returns-in_err-event-clause-called : goal.returns-in_err-event-clause-called
 returns-in_err-event-clause-called g c =

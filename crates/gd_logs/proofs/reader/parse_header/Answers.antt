@@ -1,7 +1,7 @@
 use Rattle.std.proofs.Common.{ℕ, List, Ok, ap, sym, arith}
 use Rattle.std.specs.Prelude.{Result}
 use Rattle.gd_grammar.specs.LogBytes.{Header, LogFault}
-use Rattle.gd_wire.proofs.SteadyFields.{Steady-header}
+use Rattle.gd_grammar.proofs.SteadyFields.{Steady-header}
 use Rattle.gd_logs.proofs.RecordLemmas.{header-left, header-faulty}
 use Rattle.gd_logs.proofs.reader.parse_header.Goals as goal
 
@@ -13,8 +13,8 @@ overflow_sub-result c =
     let e = rw c.new-rest.ensures at c.in-Ok.ensures in
     omega (arith, (header-left c.args.bytes.now (c.in-Ok.header, c.header.new.self) e).0, c.len.ensures)
 
-pub field_fault-requires : goal.field_fault-requires
-field_fault-requires c =
+pub field_fault-requires-clause-inside : goal.field_fault-requires-clause-inside
+field_fault-requires-clause-inside c =
     let e = rw c.new-rest.ensures at c.in-Err.ensures in
     Steady-header.inside c.args.bytes.now c.in-Err.fault e
 
@@ -27,4 +27,4 @@ returns-in-Ok c =
 pub returns-in-Err : goal.returns-in-Err
 returns-in-Err c =
     let e = rw c.new-rest.ensures at c.in-Err.ensures in
-    header-faulty c.args.bytes.now c.in-Err.fault _ _ e c.field_fault.ensures.at c.field_fault.ensures.why
+    rw c.field_fault.ensures (header-faulty c.args.bytes.now c.in-Err.fault e)

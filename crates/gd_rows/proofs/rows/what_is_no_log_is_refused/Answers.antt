@@ -1,18 +1,11 @@
 use Rattle.std.proofs.Common.{refl}
-use Rattle.std.specs.Fmt.{digits}
-use Rattle.std.specs.Str.{chars, is_utf8}
-use Rattle.gd_grammar.specs.EventBytes.{byte_at, clock_at, site_at, stamp_at, id_at, number_at, signed_at, shape_at, label_at, create_at, delete_at, move_at, raise_at, op_at, event_at}
-use Rattle.gd_grammar.specs.LogBytes.{magic_at, version_at, session_at, sites_at, header_at, turn_fault, record_at, step_at, events_at, log}
-use Rattle.gd_lines.specs.Text.{hex_digit, nibble, high_digits, colour_text, id_text, head_text, size_text, colours_text, width_text, look_text, item_line, end_line, bad_log_line}
-use Rattle.gd_reference.specs.SlowRun.{slow_effects, slow_end}
-use Rattle.gd_base.specs.Insertions.{inserted_by}
-use Rattle.gd_base.specs.Stamps.{stamp_cmp}
+use Rattle.gd_rows.proofs.Computing.{computing}
 use Rattle.gd_rows.proofs.rows.what_is_no_log_is_refused.Goals as goal
 
 pub returns-clause-printed : goal.returns-clause-printed
-unfolding digits chars is_utf8 byte_at clock_at site_at stamp_at id_at number_at signed_at shape_at label_at create_at delete_at move_at raise_at op_at event_at magic_at version_at session_at sites_at header_at turn_fault record_at step_at events_at log hex_digit nibble high_digits colour_text id_text head_text size_text colours_text width_text look_text item_line end_line bad_log_line slow_effects slow_end inserted_by stamp_cmp
+unfolding computing
 returns-clause-printed c = refl
 
 pub returns-clause-end : goal.returns-clause-end
-unfolding digits chars is_utf8 byte_at clock_at site_at stamp_at id_at number_at signed_at shape_at label_at create_at delete_at move_at raise_at op_at event_at magic_at version_at session_at sites_at header_at turn_fault record_at step_at events_at log hex_digit nibble high_digits colour_text id_text head_text size_text colours_text width_text look_text item_line end_line bad_log_line slow_effects slow_end inserted_by stamp_cmp
+unfolding computing
 returns-clause-end c = refl

@@ -1,32 +1,23 @@
 use Rattle.std.proofs.Common.{refl}
-use Rattle.std.specs.Fmt.{digits}
-use Rattle.std.specs.Str.{chars, is_utf8}
-use Rattle.gd_lines.specs.Text.{hex_digit, nibble, high_digits, colour_text, id_text, head_text, size_text, colours_text, width_text, look_text, item_line, end_line}
-use Rattle.gd_base.specs.Insertions.{inserted_by}
-use Rattle.gd_base.specs.Stamps.{stamp_cmp}
-use Rattle.gd_reference.specs.PerSite.{put, least_of_others}
-use Rattle.gd_reference.specs.SlowSite.{made_by, greatest_clock, resumed}
-use Rattle.gd_reference.specs.Offers.{offered, all_arrived, offers, refusal, take_frame, frame_for}
-use Rattle.gd_reference.specs.Judging.{targets, are_apart, placed, by_id, judged, edit}
-use Rattle.gd_reference.specs.World.{after_line, with_site, happens, after_from}
+use Rattle.gd_rows.proofs.Computing.{computing}
 use Rattle.gd_rows.proofs.world_rows.a_frame_that_runs_ahead.Goals as goal
 
 pub returns-clause-first : goal.returns-clause-first
-unfolding digits chars is_utf8 hex_digit nibble high_digits colour_text id_text head_text size_text colours_text width_text look_text item_line end_line inserted_by stamp_cmp put least_of_others made_by greatest_clock offered all_arrived offers refusal take_frame frame_for targets are_apart placed by_id judged edit after_line with_site happens after_from resumed
+unfolding computing
 returns-clause-first c = refl
 
 pub returns-clause-gap : goal.returns-clause-gap
-unfolding digits chars is_utf8 hex_digit nibble high_digits colour_text id_text head_text size_text colours_text width_text look_text item_line end_line inserted_by stamp_cmp put least_of_others made_by greatest_clock offered all_arrived offers refusal take_frame frame_for targets are_apart placed by_id judged edit after_line with_site happens after_from resumed
+unfolding computing
 returns-clause-gap c = refl
 
 pub returns-clause-rest : goal.returns-clause-rest
-unfolding digits chars is_utf8 hex_digit nibble high_digits colour_text id_text head_text size_text colours_text width_text look_text item_line end_line inserted_by stamp_cmp put least_of_others made_by greatest_clock offered all_arrived offers refusal take_frame frame_for targets are_apart placed by_id judged edit after_line with_site happens after_from resumed
+unfolding computing
 returns-clause-rest c = refl
 
 pub returns-clause-repeated : goal.returns-clause-repeated
-unfolding digits chars is_utf8 hex_digit nibble high_digits colour_text id_text head_text size_text colours_text width_text look_text item_line end_line inserted_by stamp_cmp put least_of_others made_by greatest_clock offered all_arrived offers refusal take_frame frame_for targets are_apart placed by_id judged edit after_line with_site happens after_from resumed
+unfolding computing
 returns-clause-repeated c = refl
 
 pub returns-clause-status : goal.returns-clause-status
-unfolding digits chars is_utf8 hex_digit nibble high_digits colour_text id_text head_text size_text colours_text width_text look_text item_line end_line inserted_by stamp_cmp put least_of_others made_by greatest_clock offered all_arrived offers refusal take_frame frame_for targets are_apart placed by_id judged edit after_line with_site happens after_from resumed
+unfolding computing
 returns-clause-status c = refl

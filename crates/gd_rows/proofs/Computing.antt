@@ -1,0 +1,48 @@
+-- The names that `refl` has to see through where it computes a worked row.
+use Rattle.std.specs.Prelude.{⊤}
+use Rattle.std.specs.Char.{encode_utf8}
+use Rattle.std.specs.Fmt.{digits}
+use Rattle.std.specs.Str.{chars, is_utf8}
+use Rattle.gd_base.specs.Stamps.{stamp_cmp}
+use Rattle.gd_base.specs.Insertions.{inserted_by}
+use Rattle.gd_grammar.specs.EventBytes as bytes
+use Rattle.gd_grammar.specs.Fields as fields
+use Rattle.gd_grammar.specs.Reading.{many_at}
+use Rattle.gd_grammar.specs.FieldBytes.{each_bytes}
+use Rattle.gd_grammar.specs.FrameBytes.{event_count_at, focus_at, frame, frame_at, frame_magic_at, frame_version_at, half_at, head_at, name_at, name_text_at, next_event_at, note_at, six_at}
+use Rattle.gd_grammar.specs.LogBytes.{events_at, header_at, log, magic_at, record_at, session_at, sites_at, step_at, turn_fault, version_at}
+use Rattle.gd_lines.specs.LineWords.{behind, count_from, without_cr, word}
+use Rattle.gd_lines.specs.Lines as lines
+use Rattle.gd_lines.specs.Replies.{applied_line, backdated_line, bad_frame_line, done_line, dropped_line, link_fault_line, noted_line, polled_line, ready_line, refused_line, reworked_line, status_line, status_text, who_line}
+use Rattle.gd_lines.specs.ScriptLines.{at_at, deliver_at, mail_at, read_script, script_verb, send_at, site_at, site_command_at}
+use Rattle.gd_lines.specs.Text.{bad_log_line, colour_text, colours_text, end_line, head_text, hex_digit, high_digits, id_text, item_line, look_text, nibble, size_text, width_text}
+use Rattle.gd_lines.specs.WordKinds.{colour, digit, fill, focus, id, kind, label, name, natural_in, number, number_in, numeral}
+use Rattle.gd_model.specs.Relations.{covers, independent}
+use Rattle.gd_model.specs.Splices.{splice}
+use Rattle.gd_reference.specs.Judging.{are_apart, by_id, edit, judged, placed, targets}
+use Rattle.gd_reference.specs.NodeRun.{answers, of_received, received, who_behind}
+use Rattle.gd_reference.specs.Offers.{all_arrived, frame_for, offered, offers, refusal, take_frame}
+use Rattle.gd_reference.specs.PerSite.{least_of_others, put}
+use Rattle.gd_reference.specs.SiteEffects.{events_replies, of_events, tries_behind}
+use Rattle.gd_reference.specs.SlowRun.{slow_effects, slow_end}
+use Rattle.gd_reference.specs.SlowSite.{greatest_clock, made_by, resumed}
+use Rattle.gd_reference.specs.World.{after_from, after_line, happens, with_site}
+
+-- events, logs and frames
+unfoldable pub bytes_compute : ⊤
+unfolding chars is_utf8 fields.byte_at fields.clock_at bytes.colour_at bytes.create_at bytes.delete_at bytes.event_at bytes.fill_at bytes.fill_style_at bytes.group_at fields.id_at fields.label_within bytes.member_at bytes.member_count_at bytes.member_id_at bytes.move_at fields.number_at bytes.op_at bytes.raise_at bytes.resize_at bytes.restyle_at bytes.retext_at bytes.shape_at fields.signed_at fields.site_at fields.stamp_at bytes.stroke_style_at bytes.style_at bytes.ungroup_at bytes.width_at bytes.width_style_at fields.word_at event_count_at each_bytes focus_at frame frame_at many_at frame_magic_at frame_version_at half_at head_at name_at name_text_at next_event_at note_at six_at events_at header_at log magic_at record_at session_at sites_at step_at turn_fault version_at
+bytes_compute = tt
+
+-- lines that are typed, and lines that are printed
+unfoldable pub lines_compute : ⊤
+unfolding chars is_utf8 encode_utf8 digits behind count_from without_cr word lines.colour_at lines.create_at lines.delete_at lines.fill_at lines.focus_at lines.group_at lines.id_at lines.ids_at lines.kind_at lines.label_at lines.move_at lines.name_at lines.natural_at lines.place_at lines.raise_at lines.read lines.refill_at lines.resize_at lines.rewidth_at lines.size_at lines.stroke_at lines.text_at lines.ungroup_at lines.verb lines.width_at at_at deliver_at mail_at read_script script_verb send_at site_at site_command_at applied_line backdated_line bad_frame_line done_line dropped_line link_fault_line noted_line polled_line ready_line refused_line reworked_line status_line status_text who_line bad_log_line colour_text colours_text end_line head_text hex_digit high_digits id_text item_line look_text nibble size_text width_text colour digit fill focus id kind label name natural_in number number_in numeral
+lines_compute = tt
+
+-- drawings, sites, worlds and runs
+unfoldable pub sites_compute : ⊤
+unfolding stamp_cmp inserted_by covers independent splice are_apart by_id edit judged placed targets answers of_received received who_behind all_arrived frame_for offered offers refusal take_frame least_of_others put events_replies of_events tries_behind slow_effects slow_end greatest_clock made_by resumed after_from after_line happens with_site
+sites_compute = tt
+
+unfoldable pub computing : ⊤
+unfolding bytes_compute lines_compute sites_compute
+computing = tt

@@ -1,0 +1,138 @@
+-- Worked rows of nodes: what is typed and received, and what the node does.
+use Rattle.std.specs.Prelude.{ℕ, pos, List, [], ◌∷◌, ◌++◌, replicate, codes, Some, Ok, Err}
+use Rattle.std.specs.List.{concat}
+use Rattle.gd_base.specs.declared.edit.Edit.TheVariants as wish
+use Rattle.gd_base.specs.declared.refusal.LineFault.TheVariants.{UnknownCommand}
+use Rattle.gd_effects.specs.Effects.{Effect, Head, Print, Record, Try, Work}
+use Rattle.gd_grammar.specs.FrameBytes.{frame_bytes}
+use Rattle.gd_lines.specs.declared.command.Command.TheVariants as command
+use Rattle.gd_outside.specs.Seen.{Entry, Packet, Pause, Failure}
+use Rattle.gd_reference.specs.NodeRun.{ReadLine, node_effects}
+use Rattle.gd_rows.specs.Worked.{at_stamp, frame_row, frame_row_to, header_bytes, record_row}
+use Rattle.gd_rows.specs.WorkedWorlds.{new_rect, ahead_move, ahead_first, ahead_gap, ahead_rest, frame_of, sure_frame, sure_late_frame}
+
+-- ---- site 2 of 3
+
+-- its header, and an edit: a step, the record, the line, and a frame for each other site
+abbrev pub created_effects : List Effect
+created_effects =
+    Head (71 ∷ 68 ∷ 79 ∷ 76 ∷ 1 ∷ 0 ∷ 0 ∷ 0 ∷ 7 ∷ 2 ∷ 3 ∷ [])
+    ∷ Print (codes "ready 2 of 3\n")
+    ∷ Work 1 ∷ Record record_row ∷ Print (codes "ok 1.2\n")
+    ∷ Try 1 (frame_row_to 1) ∷ Try 3 (frame_row_to 3)
+    ∷ []
+
+-- ---- a site alone
+
+abbrev pub alone : List Entry → List ReadLine → List Effect
+alone entries lines = node_effects 1 1 7 entries lines
+
+-- 65 datagrams of no byte, a pause, and one more
+abbrev pub full_entries : List Entry
+full_entries = replicate 65 (Packet []) ++ Pause ∷ Packet [] ∷ []
+
+abbrev pub short_frames : ℕ → List ℕ
+short_frames n = concat (replicate n (codes "frame refused: Short at 0\n"))
+
+abbrev pub full_printed : List ℕ
+full_printed =
+    codes "ready 1 of 1\n"
+    ++ short_frames 64
+    ++ codes "polled 64\n"
+    ++ short_frames 1
+    ++ codes "polled 1\n"
+    ++ short_frames 1
+    ++ codes "polled 1\npolled 0\n"
+
+-- the longest datagram that is read, and one of a byte more
+abbrev pub long_entries : List Entry
+long_entries = Packet (replicate 8192 0) ∷ Packet (replicate 8193 0) ∷ []
+
+abbrev pub long_printed : List ℕ
+long_printed = codes "ready 1 of 1\nframe refused: Magic at 0\nframe refused: TooLong\npolled 2\n"
+
+-- ---- the link of site 1 of 2
+
+-- one frame three times
+abbrev pub repeat_entries : List Entry
+repeat_entries = Packet frame_row ∷ Packet frame_row ∷ Packet frame_row ∷ []
+
+-- the frame that answers it: one event of site 2 is held
+abbrev pub answer_row : List ℕ
+answer_row =
+    71 ∷ 68 ∷ 79 ∷ 70 ∷ 1 ∷ 0 ∷ 0 ∷ 0 ∷ 7 ∷ 1 ∷ 2 ∷ 0 ∷ 1 ∷ 0 ∷ 0 ∷ 0 ∷ 0 ∷ 0 ∷ 0 ∷ 0 ∷ 1
+    ∷ 0 ∷ 0 ∷ 0 ∷ 0 ∷ 0 ∷ 0 ∷ 0 ∷ 0 ∷ 0 ∷ 0 ∷ 0 ∷ []
+
+abbrev pub repeat_effects : List Effect
+repeat_effects =
+    Head header_bytes
+    ∷ Print (codes "ready 1 of 2\n")
+    ∷ Work 1
+    ∷ Record record_row
+    ∷ Print (codes "echo 1.2 applied\n")
+    ∷ Try 2 answer_row
+    ∷ Print (codes "polled 3\n")
+    ∷ []
+
+-- the header, the event and a closed gate
+abbrev pub repeat_journal : List ℕ
+repeat_journal = header_bytes ++ 195 ∷ record_row ++ 0 ∷ []
+
+abbrev pub ahead_entries : List Entry
+ahead_entries = Packet (frame_bytes ahead_first) ∷ Packet (frame_bytes ahead_gap) ∷ Packet (frame_bytes ahead_rest) ∷ []
+
+abbrev pub sure_entries : List Entry
+sure_entries = Packet (frame_bytes sure_frame) ∷ Packet (frame_bytes sure_late_frame) ∷ []
+
+-- the first event, its count and clock again, a failure, and the second event
+abbrev pub failing_entries : List Entry
+failing_entries =
+    Packet (frame_bytes ahead_first)
+    ∷ Packet (frame_bytes (frame_of 1 1 []))
+    ∷ Failure
+    ∷ Packet (frame_bytes (frame_of 2 2 (ahead_move 2 ∷ [])))
+    ∷ []
+
+-- a new node 1 of 2 in session 7
+abbrev pub listening : List Entry → List ReadLine → List Effect
+listening entries lines = node_effects 1 2 7 entries lines
+
+abbrev pub ahead_printed : List ℕ
+ahead_printed =
+    codes "ready 1 of 2\necho 1.2 applied\necho 2.2 applied\necho 3.2 applied\necho 4.2 applied\npolled 3\nheld 4 kept 0 line 4 clock 4\n"
+
+abbrev pub sure_printed : List ℕ
+sure_printed =
+    codes "ready 1 of 2\necho 1.2 applied\necho 2.2 applied\nevent 9.2 refused: Backdated 9 9\npolled 2\nheld 2 kept 0 line 2 clock 2\n"
+
+abbrev pub failing_printed : List ℕ
+failing_printed = codes "ready 1 of 2\necho 1.2 applied\nlink fault after 2\necho 2.2 applied\npolled 1\n"
+
+-- what is no frame: no byte, another session, and one byte too many
+abbrev pub refused_entries : List Entry
+refused_entries =
+    Packet []
+    ∷ Packet (frame_bytes (record ahead_first { head = record ahead_first.head { session = 8 } }))
+    ∷ Packet (frame_row ++ 0 ∷ [])
+    ∷ []
+
+abbrev pub refused_printed : List ℕ
+refused_printed =
+    codes "ready 1 of 2\nframe refused: Short at 0\nframe refused: Session\nframe refused: Trailing at 60\npolled 3\nend 0\n"
+
+abbrev pub noting_lines : List ReadLine
+noting_lines =
+    Ok (command.Name (codes "Ada"))
+    ∷ Ok (command.Focus (Some (at_stamp 1 1)))
+    ∷ Ok command.Who
+    ∷ Err UnknownCommand
+    ∷ Ok command.Blank
+    ∷ Ok (command.Edit (new_rect (pos 0)))
+    ∷ Ok (command.Edit (wish.Ungroup (at_stamp 1 1)))
+    ∷ Ok command.Quit
+    ∷ Ok command.Show
+    ∷ []
+
+abbrev pub noting_printed : List ℕ
+noting_printed =
+    codes "ready 1 of 2\nnoted 1\nnoted 2\nwho 1 Ada focus 1.1\nend 1\nrefused: UnknownCommand\nok 1.1\nrefused: NotGroup\n"
