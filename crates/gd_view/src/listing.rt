@@ -46,7 +46,8 @@ fn put_last(items: &mut Vec<Item>, item: Option<Item>) -> Result<(), AllocError>
 fn item_of(canvas: &Canvas, table: &Known, id: Stamp) -> Option<Item>
     requires { AreKnown (listed (board_of canvas.now)) table.now }
     ensures { result
-        ≡ item_of (listed (board_of canvas.now)) id (option_map body (map_of.get (board_of canvas.now) id)) }
+        ≡ item_of (listed (board_of canvas.now)) id
+        (option_map body (map_of.get (board_of canvas.now) id)) }
 {
     let object = canvas.get(id)?;
     item(canvas, table, id, object)

@@ -61,7 +61,8 @@ fn sum_at(canvas: &Canvas, table: &Known, id: Stamp, turn: u32) -> Option<Above>
 fn sum_by(canvas: &Canvas, table: &Known, id: Stamp, link: &Link, turn: u32) -> Option<Above>
     requires few { turn ≤ SESSION_EVENTS }
     requires greater { IsTrue (is_before id link.now.parent)
-        → known table.now link.now.parent ≡ above_at (listed (board_of canvas.now)) link.now.parent }
+        → known table.now link.now.parent
+        ≡ above_at (listed (board_of canvas.now)) link.now.parent }
     requires within { IfSome (known table.now link.now.parent) (λ a. Within turn a) }
     ensures above { result ≡ above (listed (board_of canvas.now)) id (Some link.now) }
     ensures within { IfSome result (λ a. Within (1 + turn) a) }
