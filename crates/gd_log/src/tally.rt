@@ -1,6 +1,6 @@
 ghost use Rattle.std.specs.Prelude.{◌≡◌, ◌+◌, ◌<◌, ◌^◌};
 ghost use Rattle.gd_log.specs.Arriving.{no_tally, tallied, undone_in};
-ghost use Rattle.gd_logs.specs.Turns.{most_events};
+ghost use Rattle.gd_base.specs.declared.ranges.TheConstants.{SESSION_EVENTS};
 
 use gd_history::Arrival;
 
@@ -28,7 +28,7 @@ impl Tally {
 
     /// Counts one more event, and what was undone for it.
     pub fn count(&mut self, arrival: &Arrival)
-        requires few { self.old.applied + self.old.dropped + self.old.reworked < most_events }
+        requires few { self.old.applied + self.old.dropped + self.old.reworked < SESSION_EVENTS }
         requires room { self.old.undone + undone_in arrival.now < 2 ^ 64 }
         ensures { self.new ≡ tallied self.old arrival.now }
     {
