@@ -1,5 +1,5 @@
-mod EventsLemmas
-mod DistinctLemmas
+pub mod EventsLemmas
+pub mod DistinctLemmas
 pub mod Steady
 pub mod SteadyFields
 pub mod Exact

@@ -8,7 +8,7 @@ use Rattle.gd_grammar.specs.Reading.{Reads}
 use Rattle.gd_grammar.specs.EventBytes.{event_at}
 use Rattle.gd_grammar.specs.LogBytes.{Header, LogMisread, in_log, header_at, turn_fault, gate, record_at, step_at, events_at, log}
 use Rattle.gd_logs.specs.declared.log.ReadError.TheVariants.{Log}
-use Rattle.gd_logs.specs.declared.stopped.LogFault as reader
+use Rattle.gd_logs.specs.declared.stopped.LogFault.{LogFault}
 use Rattle.gd_logs.specs.declared.stopped.LogFault.TheVariants.{Read, Bad}
 use Rattle.gd_logs.specs.Steps.{Step, NextIs}
 use Rattle.gd_logs.specs.Reader.{StartIs}
@@ -47,7 +47,7 @@ unfolding step_at
 step-shorter n seen [] x e = absurd cc
 step-shorter n seen (b ∷ bytes) x e = omega (arith, behind-shorter (eqb b gate) n seen bytes x e)
 
--- ---- at most so many steps
+-- ---- at most k steps
 
 events-nil : (k n : ℕ) (seen : List Event) → events_at k n seen [] ≡ Ok seen
 unfolding events_at step_at
@@ -109,12 +109,12 @@ unfolding log
 header-err all f e = rw e refl
 
 -- a fault of the header is the log's
-pub log-refused : (fault : reader.LogFault) (all left : List ℕ) → StartIs (Err fault) all left → LogIs (Err (Log fault)) all
+pub log-refused : (fault : LogFault) (all left : List ℕ) → StartIs (Err fault) all left → LogIs (Err (Log fault)) all
 log-refused Read all left h = tt
 log-refused (Bad at why) all left h = record { left = h.left; is = header-err all (record { why = why; left = h.left }) h.is; inside = h.inside; there = h.there }
 
 -- a fault of a step is the log's, at its place in the log
-pub log-stopped : (fault : reader.LogFault) (h : Header) (seen : List Event) (all bytes rest : List ℕ) (at at' : ℕ) → log all ≡ log_from h seen bytes → at + length bytes ≡ length all
+pub log-stopped : (fault : LogFault) (h : Header) (seen : List Event) (all bytes rest : List ℕ) (at at' : ℕ) → log all ≡ log_from h seen bytes → at + length bytes ≡ length all
     → NextIs (Err fault) (step_at h.n seen bytes) at bytes at' rest → LogIs (Err (Log fault)) all
 log-stopped Read h seen all bytes rest at at' same sum next = tt
 log-stopped (Bad there why) h seen all bytes rest at at' same sum next = let fault = next.1 in record {

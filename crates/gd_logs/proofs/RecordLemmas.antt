@@ -105,7 +105,7 @@ step-there n seen b bytes at why g h = record {
 pub ended-next : (step : Step) (at : ℕ) (bytes : List ℕ) → step ≡ Ok None → NextIs (Ok None) step at bytes at (drop (at - at) bytes)
 ended-next step at bytes h = let stays : at - at ≡ 0 = omega arith in rw stays (h, refl, refl)
 
--- and at a fault, which stands so many bytes farther on
+-- and at a fault, which stands `within` bytes farther on
 fault-next : (step : Step) (at there within : ℕ) (bytes : List ℕ) (why : LogWhy) → there ≡ at + within → IsFault step bytes within why → NextIs (Err (Bad there why)) step at bytes at (drop (at - at) bytes)
 fault-next step at there within bytes why h fault = let stays : at - at ≡ 0 = omega arith in rw stays (within, fault, h, refl, refl)
 

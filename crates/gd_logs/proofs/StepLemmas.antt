@@ -15,14 +15,15 @@ use Rattle.gd_grammar.specs.EventBytes.{event_at}
 use Rattle.gd_grammar.specs.LogBytes.{Header, LogMisread, log_why, in_log, turn_fault, left_of, gate, header_at, record_at, step_at}
 use Rattle.gd_grammar.proofs.Steady.{Steady, farther}
 use Rattle.gd_grammar.proofs.SteadyFields.{Steady-event, Steady-header}
-use Rattle.gd_logs.specs.declared.pieces.TheConstants.{HEADER, RECORD}
-use Rattle.gd_logs.specs.declared.stopped.LogFault as reader
+use Rattle.gd_grammar.specs.declared.sizes.TheConstants.{EVENT_BYTES, HEADER_BYTES}
+use Rattle.gd_logs.specs.declared.pieces.TheConstants.{RECORD}
+use Rattle.gd_logs.specs.declared.stopped.LogFault.{LogFault}
 use Rattle.gd_logs.specs.declared.stopped.LogFault.TheVariants.{Read, Bad}
 use Rattle.gd_logs.specs.Steps.{Step, IsFault, NextIs, HeaderIs}
 use Rattle.gd_logs.specs.Reader.{ending_at, StartIs}
 use Rattle.gd_logs.proofs.RecordLemmas.{nine_bytes, record-taken, record-refused, record-faulty}
 
--- so many bytes were read ahead, or nothing is left behind them
+-- at least `most` bytes were read ahead, or nothing is left behind them
 abbrev pub Enough : ℕ → List ℕ → List ℕ → Type 0
 Enough most bytes more = length bytes < most → more ≡ []
 
@@ -81,7 +82,7 @@ left-more Turn m n h = omega arith
 left-more other m n h = refl
 
 -- a fault of a record that was read ahead is a fault of the stream
-pub record-fault-more : (n : ℕ) (seen : List Event) (bytes more : List ℕ) (f : LogMisread) → Enough 491 bytes more → record_at n seen bytes ≡ Err f → record_at n seen (bytes ++ more) ≡ Err (farther_on f more)
+pub record-fault-more : (n : ℕ) (seen : List Event) (bytes more : List ℕ) (f : LogMisread) → Enough EVENT_BYTES bytes more → record_at n seen bytes ≡ Err f → record_at n seen (bytes ++ more) ≡ Err (farther_on f more)
 record-fault-more n seen bytes more f enough e = by_event (event_at bytes) refl where
   by_turn : (y : Event × List ℕ) → event_at bytes ≡ Ok y → (t : Option LogWhy) → turn_fault n seen y.0 ≡ t → record_at n seen (bytes ++ more) ≡ Err (farther_on f more)
   by_turn y q None t = absurd (let k = sym (record-taken n seen bytes y q t) ∙ e in cc)
@@ -95,7 +96,7 @@ record-fault-more n seen bytes more f enough e = by_event (event_at bytes) refl 
   by_event (Ok y) q = by_turn y q (turn_fault n seen y.0) refl
   by_event (Err g) q =
       let same : refused_by (log_why g.why) g.left ≡ f = let k = sym (record-faulty n seen bytes g q) ∙ e in cc in
-      record-faulty n seen (bytes ++ more) (farther g more) (front-err 491 event_at Steady-event bytes more g enough q)
+      record-faulty n seen (bytes ++ more) (farther g more) (front-err EVENT_BYTES event_at Steady-event bytes more g enough q)
       ∙ ap (λ (h : LogMisread). fault_of (farther_on h more)) same
 
 -- ---- steps
@@ -124,7 +125,7 @@ behind-none true n seen bytes more e = by (record_at n seen bytes) e where
   by (Err f) k = absurd cc
 behind-none false n seen bytes more e = refl
 
-behind-err : (t : Bool) (n : ℕ) (seen : List Event) (bytes more : List ℕ) (f : LogMisread) → Enough 491 bytes more → behind t n seen bytes ≡ step_fault f → behind t n seen (bytes ++ more) ≡ step_fault (farther_on f more)
+behind-err : (t : Bool) (n : ℕ) (seen : List Event) (bytes more : List ℕ) (f : LogMisread) → Enough EVENT_BYTES bytes more → behind t n seen bytes ≡ step_fault f → behind t n seen (bytes ++ more) ≡ step_fault (farther_on f more)
 behind-err true n seen bytes more f enough e = by (record_at n seen bytes) refl e where
   by : (r : Result (Event × List ℕ) LogMisread) → record_at n seen bytes ≡ r → (r >>= λ y. step_of (Some y)) ≡ step_fault f → (record_at n seen (bytes ++ more) >>= λ y. step_of (Some y)) ≡ step_fault (farther_on f more)
   by (Ok y) q k = absurd cc
@@ -166,18 +167,18 @@ header-more bytes more x e = by (header_at bytes) refl e where
   by (Err f) q k = absurd cc
 
 -- a fault of a header that was read ahead is a fault of the stream
-pub header-fault-more : (bytes more : List ℕ) (f : LogMisread) → Enough HEADER bytes more → in_log (header_at bytes) ≡ Err f → in_log (header_at (bytes ++ more)) ≡ Err (farther_on f more)
+pub header-fault-more : (bytes more : List ℕ) (f : LogMisread) → Enough HEADER_BYTES bytes more → in_log (header_at bytes) ≡ Err f → in_log (header_at (bytes ++ more)) ≡ Err (farther_on f more)
 header-fault-more bytes more f enough e = by (header_at bytes) refl e where
   by : (r : Reads Header) → header_at bytes ≡ r → in_log r ≡ Err f → in_log (header_at (bytes ++ more)) ≡ Err (farther_on f more)
   by (Ok y) q k = absurd cc
   by (Err g) q k =
       let same : refused_by (log_why g.why) g.left ≡ f = cc in
-      rw (front-err 11 header_at Steady-header bytes more g enough q) (ap (λ (h : LogMisread). header_fault (farther_on h more)) same)
+      rw (front-err HEADER_BYTES header_at Steady-header bytes more g enough q) (ap (λ (h : LogMisread). header_fault (farther_on h more)) same)
 
 -- ---- what was read ahead of a stream
 
 -- a step of what was read ahead is one of the stream
-pub stream-next : (result : Result (Option Event) reader.LogFault) (n : ℕ) (seen : List Event) (all ahead more : List ℕ) (at at' : ℕ) → (result ≡ Err Read → ⊥) → all ≡ ahead ++ more → Enough RECORD ahead more
+pub stream-next : (result : Result (Option Event) LogFault) (n : ℕ) (seen : List Event) (all ahead more : List ℕ) (at at' : ℕ) → (result ≡ Err Read → ⊥) → all ≡ ahead ++ more → Enough RECORD ahead more
     → NextIs result (step_at n seen ahead) at ahead at' (drop (at' - at) ahead) → NextIs result (step_at n seen all) at all at' (drop (at' - at) ahead ++ more)
 stream-next (Ok None) n seen all ahead more at at' parsed same enough h = (rw same (step-none-more n seen ahead more enough h.0), rw h.1 (sym same), h.2)
 stream-next (Ok (Some e)) n seen all ahead more at at' parsed same enough h =
@@ -202,12 +203,7 @@ pub header-taken : (all ahead more : List ℕ) (h : Header) (k : ℕ) → all �
 header-taken all ahead more h k same fits e =
     (rw same (header-more ahead more (h, drop k ahead) e), rw same (omega (arith, length-append ahead more, length-append (drop k ahead) more, length-drop k ahead)))
 
-pub header-refused : (fault : reader.LogFault) (all ahead more left : List ℕ) → all ≡ ahead ++ more → Enough HEADER ahead more → HeaderIs (Err fault) ahead → StartIs (Err fault) all left
+pub header-refused : (fault : LogFault) (all ahead more left : List ℕ) → all ≡ ahead ++ more → Enough HEADER_BYTES ahead more → HeaderIs (Err fault) ahead → StartIs (Err fault) all left
 header-refused Read all ahead more left same enough h = tt
 header-refused (Bad at why) all ahead more left same enough h =
     rw same (there-more (λ bytes. in_log (header_at bytes)) ahead more at why (λ f e. header-fault-more ahead more f enough e) h)
-
-pub parsed-header : (r : Result (Header × ℕ) reader.LogFault) (bytes : List ℕ) → HeaderIs r bytes → r ≡ Err Read → ⊥
-parsed-header (Ok x) bytes h e = cc
-parsed-header (Err Read) bytes h e = h
-parsed-header (Err (Bad at why)) bytes h e = cc

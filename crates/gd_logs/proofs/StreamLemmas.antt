@@ -27,14 +27,14 @@ take-skipped start end count bytes h =
     ap (λ (x : List ℕ). take (end - (start + count)) x) (sym (drop-drop count start bytes))
     ∙ sym (rw sum at (drop-take count (end - (start + count)) (drop start bytes)))
 
--- the front of the bytes, once a read has put more behind it
+-- a prefix of the bytes, once a read has put more behind it
 pub take-put : (end k count : ℕ) (bytes buf : List ℕ) → end ≤ length bytes → count ≤ length buf → take (end + count) (put_mid end k bytes buf) ≡ take end bytes ++ take count buf
 take-put end k count bytes buf h le =
-    let front : length (take end bytes) ≡ end = length-take-le end bytes h in
+    let prefix : length (take end bytes) ≡ end = length-take-le end bytes h in
     let e : take (length (take end bytes) + count) (put_mid end k bytes buf) ≡ take end bytes ++ take count (buf ++ post_of end k bytes) = take-append-add (take end bytes) (buf ++ post_of end k bytes) count in
-    rw front at e ∙ ap (λ (x : List ℕ). take end bytes ++ x) (take-append-le count buf (post_of end k bytes) le)
+    rw prefix at e ∙ ap (λ (x : List ℕ). take end bytes ++ x) (take-append-le count buf (post_of end k bytes) le)
 
--- the front of the bytes, once a read that took nothing has written behind it
+-- a prefix of the bytes, once a read that took nothing has written behind it
 pub take-unread : (end k : ℕ) (bytes buf : List ℕ) → end ≤ length bytes → take end (put_mid end k bytes buf) ≡ take end bytes
 take-unread end k bytes buf h =
     let e : take (end + 0) (put_mid end k bytes buf) ≡ take end bytes ++ [] = take-put end k 0 bytes buf h (omega arith) in

@@ -7,7 +7,7 @@ use Rattle.gd_outside.specs.Journals.{put_at, MayWrite}
 use Rattle.gd_outside.proofs.JournalLemmas.{put_at-end}
 use Rattle.gd_grammar.specs.Spelling.{spelling}
 use Rattle.gd_grammar.specs.LogBytes.{Header, log, gate, header_bytes, gated_bytes, logged}
-use Rattle.gd_logs.specs.declared.pieces.TheConstants.{HEADER}
+use Rattle.gd_grammar.specs.declared.sizes.TheConstants.{HEADER_BYTES}
 use Rattle.gd_logs.specs.Written.{IsLogOf, IsLogAt, IsWithOrWithout, with_record}
 use Rattle.gd_logs.proofs.WrittenLemmas.{log-shut, log-logged, logged-at}
 
@@ -119,7 +119,7 @@ pub started : (h : Header) (piece old new : List ℕ) → piece ≡ header_bytes
 unfolding gated_bytes
 started h piece old new same none whole = whole ∙ ap (λ (l : List ℕ). put_at l 0 piece) none ∙ put_at-end [] piece 0 refl ∙ same
 
-pub started-at : (h : Header) (new : List ℕ) → new ≡ logged h [] → IsLogAt HEADER new
+pub started-at : (h : Header) (new : List ℕ) → new ≡ logged h [] → IsLogAt HEADER_BYTES new
 unfolding gated_bytes
 started-at h new is = (h, [], is, ap length is)
 

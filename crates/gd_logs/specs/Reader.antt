@@ -44,7 +44,8 @@ StartIs (Ok (r, h)) all left = (in_log (header_at all) ≡ Ok (h, r.ahead ++ lef
 StartIs (Err Read) all left = Unit {0}
 StartIs (Err (Bad at why)) all left = IsFault (in_log (header_at all)) all at why
 
--- the result of the next event, with reader and source before and after it; of a reader that reading stopped nothing is read
+-- What asking for the next event returns, and leaves of the reader and the source. Where reading had stopped before, the
+-- clause `again` of `next` says all.
 pub record IsNext (old : Reader) (result : Result (Option Event) LogFault) (new : Reader) (before after : SeenSource) : Type 0 where
   pub exact : old.stopped ≡ None → (seen : List Event) → Follows old.turns seen → IsSome after.left
       → NextIs result (step_at old.header.n seen (stream old.ahead before.left))

@@ -4,7 +4,7 @@ use Rattle.gd_base.specs.declared.fault.LogWhy.{LogWhy}
 use Rattle.gd_events.specs.Events.{Event}
 use Rattle.gd_grammar.specs.Reading.{place}
 use Rattle.gd_grammar.specs.LogBytes.{Header, LogMisread, header_at, in_log}
-use Rattle.gd_logs.specs.declared.stopped.LogFault as reader
+use Rattle.gd_logs.specs.declared.stopped.LogFault.{LogFault}
 use Rattle.gd_logs.specs.declared.stopped.LogFault.TheVariants.{Read, Bad}
 
 -- what one step of a log is: an event and the bytes behind it, or the end, or the first fault
@@ -18,14 +18,14 @@ pub record IsFault {A : Type 0} (read : Result A LogMisread) (bytes : List ℕ) 
   pub inside : left ≤ length bytes
   pub there : at ≡ place bytes left
 
--- the header at the front of these bytes and how many of them it takes, or the fault
-abbrev pub HeaderIs : Result (Header × ℕ) reader.LogFault → List ℕ → Type 0
+-- the header that these bytes begin with and how many of them it takes, or the fault
+abbrev pub HeaderIs : Result (Header × ℕ) LogFault → List ℕ → Type 0
 HeaderIs (Ok x) bytes = (in_log (header_at bytes) ≡ Ok (x.0, drop x.1 bytes)) × (x.1 ≤ length bytes)
 HeaderIs (Err Read) bytes = ⊥
 HeaderIs (Err (Bad at why)) bytes = IsFault (in_log (header_at bytes)) bytes at why
 
 -- a step of a log at a place, with all bytes from there on: an event, the end, or the fault, and where the log stands then
-abbrev pub NextIs : Result (Option Event) reader.LogFault → Step → ℕ → List ℕ → ℕ → List ℕ → Type 0
+abbrev pub NextIs : Result (Option Event) LogFault → Step → ℕ → List ℕ → ℕ → List ℕ → Type 0
 NextIs (Ok None) step at all at' rest = (step ≡ Ok None) × (rest ≡ all) × (at' ≡ at)
 NextIs (Ok (Some e)) step at all at' rest = (step ≡ Ok (Some (e, rest))) × (at + length all ≡ at' + length rest)
 NextIs (Err Read) step at all at' rest = (rest ≡ all) × (at' ≡ at)

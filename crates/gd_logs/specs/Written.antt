@@ -21,7 +21,7 @@ pub record BreaksRule (h : Header) (events : List Event) (e : Event) (why : LogW
   pub sound : IsSound e
   pub broken : turn_fault h.n events e ≡ Some why
 
--- the fault of an event that isn't the next one, where so many bytes stand from its first byte on
+-- the fault of an event that isn't the next one, with `left` bytes from its first byte on
 abbrev pub refusal : LogWhy → ℕ → LogMisread
 refusal why left = record { why = why; left = left_of why left }
 

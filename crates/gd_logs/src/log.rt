@@ -1,4 +1,4 @@
-//! A whole log.
+//! Reading a whole log.
 
 ghost use Rattle.std.specs.Prelude.{◌≡◌, ◌≤◌, length, IfOk, IsSome, IsTrue};
 ghost use Rattle.gd_base.specs.declared.ranges.TheConstants.{SESSION_EVENTS};

@@ -8,11 +8,11 @@ ghost use Rattle.gd_logs.specs.Steps.{HeaderIs};
 ghost use Rattle.gd_logs.specs.Reader.{answer_of, IsNext, StartIs};
 
 use crate::ahead::ReadAhead;
-use crate::pieces::HEADER;
 use crate::record::{field_fault, read_record};
 use crate::stopped::{LogFault, Stopped, stop_of};
 use crate::turns::Turns;
 use gd_events::Event;
+use gd_grammar::HEADER_BYTES;
 use gd_outside::Source;
 use gd_wire::{Bytes, LogHeader};
 use std::marker::Model;
@@ -63,7 +63,7 @@ impl LogReader {
             (result ≡ Err LogFault.Read) }
     {
         let mut ahead = ReadAhead::new();
-        ahead.fill(source, HEADER)?;
+        ahead.fill(source, HEADER_BYTES)?;
         let (header, count) = parse_header(ahead.as_slice())?;
         ahead.skip(count);
         let reader = LogReader {
@@ -126,7 +126,7 @@ impl LogReader {
     }
 }
 
-/// The header at the front of these bytes, and how many of them it takes.
+/// The header that these bytes begin with, and how many of them it takes.
 fn parse_header(bytes: &[u8]) -> Result<(LogHeader, usize), LogFault>
     ensures { HeaderIs result bytes.now }
 {

@@ -63,7 +63,7 @@ fn turn_fault(first: u64, why: LogWhy) -> LogFault
     }
 }
 
-/// Reads the record at the front of these bytes, which stand at `place` of the log, and moves `place` behind it.
+/// Reads the record that these bytes, at `place` of the log, begin with, and moves `place` behind it.
 /// None is the end of the log.
 fn parse_record(
     n: u8,

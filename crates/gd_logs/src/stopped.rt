@@ -37,6 +37,7 @@ pub enum Stopped {
     Gate,
     /// At the end of the source, in a gate's place.
     EndOfBytes,
+    /// At a failed read, or at a fault of the bytes.
     Fault(LogFault),
 }
 

@@ -1,3 +1,5 @@
+//! Which event of each site is the next one.
+
 ghost use Rattle.std.specs.Prelude.{◌≡◌, ◌≤◌, [], ◌∷◌, ◌++◌, List, sum, OnOk, OnErr};
 ghost use Rattle.gd_base.specs.declared.ranges.TheConstants.{SITES};
 ghost use Rattle.gd_events.specs.Events.{Event};

