@@ -97,7 +97,8 @@ fn meets(id: Stamp, part: Part, other: Stamp, other_part: Part) -> bool
 /// Whether both are one part, or one of them is the whole.
 fn parts_meet(part: Part, other: Part) -> bool
     ensures { result
-        ≡ (is_same_part part other || (is_same_part part Part.Whole || is_same_part other Part.Whole)) }
+        ≡ (is_same_part part other
+        || (is_same_part part Part.Whole || is_same_part other Part.Whole)) }
 {
     is_same_part(part, other) || is_same_part(part, Part::Whole) || is_same_part(other, Part::Whole)
 }

@@ -10,14 +10,15 @@ use Rattle.gd_base.specs.declared.member.Member.{Member}
 use Rattle.gd_base.specs.declared.style.Style.TheVariants.{Stroke, Fill, Width}
 use Rattle.gd_base.proofs.StampLemmas.{is_same-true, is_same-refl, is_same-comm, is_before-trans}
 use Rattle.gd_events.specs.declared.op.Op.{Op}
-use Rattle.gd_events.specs.declared.op.Op.TheVariants.{Create, Delete, Move, Resize, Restyle, Retext, Group, Ungroup, Raise}
+use Rattle.gd_events.specs.declared.op.Op.TheVariants.{Restyle, Raise}
 use Rattle.gd_model.specs.declared.content.Content.{Content}
-use Rattle.gd_model.specs.declared.content.Content.TheVariants.{ToPlace, ToSize, ToStroke, ToFill, ToWidth, ToText, ToFlag, ToRank}
+use Rattle.gd_model.specs.declared.content.Content.TheVariants.{ToPlace, ToRank}
 use Rattle.gd_model.specs.declared.object.Link.{Link}
 use Rattle.gd_model.specs.declared.object.Object.{Object}
 use Rattle.gd_model.specs.declared.object.Body.{Body}
-use Rattle.gd_model.specs.Objects.{body, ranked, new_group, new_shape, fits, put, put_body, set, set_body, linked_body}
+use Rattle.gd_model.specs.Objects.{body, ranked, new_group, fits, put, put_body, set, set_body, linked_body}
 use Rattle.gd_drawing.proofs.Linking.{linked}
+use Rattle.gd_model.specs.declared.form.Form.{Form}
 use Rattle.gd_model.specs.declared.form.Form.TheVariants.{Sets, Creates, Deletes, Groups}
 use Rattle.gd_model.specs.Forms.{form}
 use Rattle.gd_model.specs.Drawing.{Drawing, has_id, link_given, at_id, without, to_top, draw}
@@ -329,21 +330,30 @@ module _ (s : Stamp) (b : Board) (es : Entries) (stands : Stands b es) (low : al
   pub raise_step : (id : Stamp) → Step s (board_with s (Sets id (ToRank (top s))) b) (to_top id (without_ranks es))
   raise_step id = raise_by id (map_of.get b id) refl
 
-  -- each of the nine operations, by its form
-  pub step_form : (op : Op) → Step s (board_with s (form s op) b) (draw s (form s op) (without_ranks es))
-  step_form (Create kind x y w h label) = create_step (new_shape kind x y w h label)
-  step_form (Delete id) = delete_step id
-  step_form (Move id x y) = set_step id (ToPlace x y) refl
-  step_form (Resize id w h) = set_step id (ToSize w h) refl
-  step_form (Restyle id (Stroke colour)) = set_step id (ToStroke colour) refl
-  step_form (Restyle id (Fill colour)) = set_step id (ToFill colour) refl
-  step_form (Restyle id (Width width)) = set_step id (ToWidth width) refl
-  step_form (Retext id label) = set_step id (ToText label) refl
-  step_form (Group members) = group_step members
-  step_form (Ungroup id) = set_step id (ToFlag true) refl
-  step_form (Raise id) = raise_step id
+  -- a form gives no rank but the one on top
+  abbrev GivesTop : Form → Type 0
+  GivesTop (Sets id (ToRank rank)) = rank ≡ top s
+  GivesTop f = Unit {0}
 
-  -- each of the nine operations
+  sets_step : (id : Stamp) (c : Content) → GivesTop (Sets id c) → Step s (board_with s (Sets id c) b) (draw s (Sets id c) (without_ranks es))
+  sets_step id (ToRank rank) is = subst (λ r. Step s (board_with s (Sets id (ToRank r)) b) (to_top id (without_ranks es))) (sym is) (raise_step id)
+  sets_step id c is = set_step id c refl
+
+  form_step : (f : Form) → GivesTop f → Step s (board_with s f b) (draw s f (without_ranks es))
+  form_step (Sets id c) is = sets_step id c is
+  form_step (Creates new) is = create_step new
+  form_step (Deletes id) is = delete_step id
+  form_step (Groups members) is = group_step members
+
+  -- nor does any operation
+  gives_top : (op : Op) → GivesTop (form s op)
+  gives_top (Raise id) = refl
+  gives_top (Restyle id (Stroke colour)) = tt
+  gives_top (Restyle id (Fill colour)) = tt
+  gives_top (Restyle id (Width width)) = tt
+  gives_top op = tt
+
+  -- each operation, by its form
   pub step : (op : Op) → Step s (apply s op b) (draw s (form s op) (without_ranks es))
   unfolding apply
-  step op = step_form op
+  step op = form_step (form s op) (gives_top op)

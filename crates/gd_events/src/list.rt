@@ -98,7 +98,9 @@ impl Model for Events {
 impl Events {
     /// Takes the first event. None exactly where none is left.
     pub fn next(&mut self) -> Option<Event>
-        ensures { MatchOption result ((self.old ≡ []) × (self.new ≡ [])) (λ e. self.old ≡ e ∷ self.new) }
+        ensures { MatchOption result
+            ((self.old ≡ []) × (self.new ≡ []))
+            (λ e. self.old ≡ e ∷ self.new) }
     {
         let listed = self.items.next()?;
         Some(Box::into_inner(listed.event))

@@ -15,7 +15,8 @@ ghost use Rattle.gd_grammar.specs.Spelling.{spelling};
 
 /// A sound event is read from its spelling, whatever follows.
 pub fn what_is_spelled_is_read()
-    ensures { (e : Event) (rest : List ℕ) → IsSound e → event_at (spelling e ++ rest) ≡ Ok (e, rest) }
+    ensures { (e : Event) (rest : List ℕ)
+        → IsSound e → event_at (spelling e ++ rest) ≡ Ok (e, rest) }
 {}
 
 /// What is read as an event is sound, and was spelled so.
@@ -52,7 +53,8 @@ pub fn what_is_spelled_is_read_as_a_frame()
 /// Where anything follows the bytes of a sound frame, that is the fault, at the first byte behind them.
 pub fn nothing_follows_a_frame()
     ensures { (f : Frame) (b : ℕ) (rest : List ℕ) → IsFrame f
-        → frame (frame_bytes f ++ b ∷ rest) ≡ Err (record { why = Trailing; left = length (b ∷ rest) }) }
+        → frame (frame_bytes f ++ b ∷ rest)
+            ≡ Err (record { why = Trailing; left = length (b ∷ rest) }) }
 {}
 
 /// What is read as a frame is sound, and was spelled so.

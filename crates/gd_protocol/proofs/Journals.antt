@@ -8,12 +8,12 @@ use Rattle.gd_events.specs.Sound.{IsSound}
 use Rattle.gd_logs.proofs.WrittenLemmas.{log-logged}
 use Rattle.gd_logs.specs.Written.{AreNext}
 use Rattle.gd_grammar.specs.LogBytes.{count_of, last_clock, log, logged, turn_fault}
-use Rattle.gd_reference.specs.PerSite.{is_site}
+use Rattle.gd_base.specs.Sites.{is_site}
 use Rattle.gd_reference.specs.SlowSite.{SlowSite, is_by, journal_header, made_by, resumed}
 use Rattle.gd_reference.specs.SlowRun.{replayed, replayed_as, replay_effects}
 use Rattle.gd_reference.specs.World.{Step, after}
 use Rattle.gd_protocol.proofs.Chains.{IsChain-back, last_clock-made_by, made_by-append}
-use Rattle.gd_protocol.proofs.Least.{is_site-bounds}
+use Rattle.gd_base.proofs.SiteLemmas.{is_site-bounds}
 use Rattle.gd_protocol.specs.Kept.{IsChain}
 use Rattle.gd_protocol.specs.Sites.{IsRun, IsWell}
 use Rattle.gd_protocol.proofs.Ranged.{sites_are_well_after}
@@ -54,6 +54,7 @@ pub journals_after : (sites session : ℕ) (steps : List Step) (s : ℕ) → IsR
 journals_after sites session steps s run inside = well_journal ((after sites session steps).at s) (sites_are_well_after sites session steps s run inside)
 
 pub well_begun : (slow : SlowSite) (first rest : List Event) → slow.held ≡ first ++ rest → IsWell slow → log (logged (journal_header slow) first) ≡ Ok (journal_header slow, first)
+unfolding resumed
 well_begun slow first rest is h = well_journal (resumed slow.me slow.sites slow.session first) (well_front slow first rest is h)
 
 pub well_replayed : (slow : SlowSite) → IsWell slow → replayed (logged (journal_header slow) slow.held) ≡ replay_effects slow.held

@@ -1,6 +1,6 @@
 -- What the effects of a node record, what they cost, and what its site holds then.
 use Rattle.std.proofs.Common.{◌≡◌, ℕ, zero, suc, ◌+◌, Bool, true, false, cond, ◌==◌, nat_le, List, [], ◌∷◌, ◌++◌, map, sum, Option, Some, None, Result, Ok, Err, refl, sym, ap, ◌∙◌, subst, arith}
-use Rattle.std.proofs.lemmas.List.{append-assoc, append-nil}
+use Rattle.std.proofs.lemmas.List.{append_assoc, append-nil}
 use Rattle.std.proofs.lemmas.List.Sums.{sum_by-append}
 use Rattle.gd_base.specs.declared.edit.Edit.{Edit}
 use Rattle.gd_base.specs.declared.offer.Offer.{Offer}
@@ -14,11 +14,12 @@ use Rattle.gd_grammar.specs.FrameBytes.{Frame, Misread, frame, frame_bytes}
 use Rattle.gd_grammar.specs.LogBytes.{Header, logged}
 use Rattle.gd_grammar.specs.Spelling.{spelling}
 use Rattle.gd_lines.specs.declared.command.Command.TheVariants as command
+use Rattle.gd_lines.specs.Replies.{reply_text}
 use Rattle.gd_logs.proofs.WriterLemmas.{logged-more}
 use Rattle.gd_model.specs.Arrivals.{cost_of, costs_from}
 use Rattle.gd_outside.specs.Seen.{Entry, Packet, Pause, Failure}
 use Rattle.gd_reference.specs.Judging.{edit, edited, with_own}
-use Rattle.gd_reference.specs.NodeRun.{ReadLine, after_command, after_datagram, answers, end_of_poll, entries_after, is_quit, is_too_long, most_datagrams, of_command, of_datagram, of_poll, of_received, polled, received, site_after}
+use Rattle.gd_reference.specs.NodeRun.{ReadLine, after_command, after_datagram, answers, command_replies, end_of_poll, entries_after, is_quit, is_too_long, most_datagrams, of_command, of_datagram, of_poll, of_received, polled, received, site_after}
 use Rattle.gd_reference.specs.Offers.{after_offer, all_arrived, arrived, frame_for, offer, refusal, take_frame, unless_refused}
 use Rattle.gd_reference.specs.PerSite.{put}
 use Rattle.gd_reference.specs.Said.{says}
@@ -78,7 +79,7 @@ journal_of_records h old (Record bytes ∷ xs) (e ∷ es) p =
     ap (λ (b : List ℕ). journal_after (journal_with (logged h old) (Record b)) xs) p.0
     ∙ ap (λ (z : List ℕ). journal_after z xs) (logged-more h old e)
     ∙ journal_of_records h (old ++ e ∷ []) xs es p.1
-    ∙ ap (logged h) (append-assoc old (e ∷ []) es)
+    ∙ ap (logged h) (append_assoc old (e ∷ []) es)
 journal_of_records h old (Head bytes ∷ xs) es p = absurd p
 journal_of_records h old (Print bytes ∷ xs) es p = journal_of_records h old xs es p
 journal_of_records h old (Try to frame ∷ xs) es p = journal_of_records h old xs es p
@@ -97,7 +98,7 @@ costs_from-append : (old es fs : List Event) → costs_from old (es ++ fs) ≡ c
 costs_from-append old [] fs = ap (λ (l : List Event). costs_from l fs) (sym (append-nil old))
 costs_from-append old (e ∷ es) fs =
     ap (λ (l : List ℕ). cost_of old e ∷ l) (costs_from-append (old ++ e ∷ []) es fs
-    ∙ ap (λ (l : List Event). costs_from (old ++ e ∷ []) es ++ costs_from l fs) (append-assoc old (e ∷ []) es))
+    ∙ ap (λ (l : List Event). costs_from (old ++ e ∷ []) es ++ costs_from l fs) (append_assoc old (e ∷ []) es))
 
 sum-then : (old es fs : List Event) → sum (costs_from old (es ++ fs)) ≡ sum (costs_from old es) + sum (costs_from (old ++ es) fs)
 sum-then old es fs = ap sum (costs_from-append old es fs) ∙ sum_by-append (λ (n : ℕ). n) (costs_from old es) (costs_from (old ++ es) fs)
@@ -106,7 +107,7 @@ grows-then : (a b c : List Event) (xs ys : List Effect) → Grows a b xs → Gro
 grows-then a b c xs ys p q =
     record {
       added = p.added ++ q.added;
-      held = q.held ∙ ap (λ (l : List Event). l ++ q.added) p.held ∙ append-assoc a p.added q.added;
+      held = q.held ∙ ap (λ (l : List Event). l ++ q.added) p.held ∙ append_assoc a p.added q.added;
       records = records-then xs ys p.added q.added p.records q.records;
       costs =
           let both = sum_by-append works xs ys in
@@ -218,9 +219,10 @@ grows-poll : (slow : SlowSite) (entries : List Entry) → Grows slow.held (polle
 grows-poll slow entries =
     let p = polled slow entries in
     let end = says (end_of_poll p.failed p.count) ∷ [] in
-    grows-then slow.held p.site.held p.site.held (of_received most_datagrams slow entries) (tries p.site ++ end)
-    (grows-received most_datagrams 0 slow entries)
-    (grows-not p.site.held (tries p.site ++ end) (quiet-then (tries p.site) end (quiet-tries p.site 0 p.site.sites) (record { none = refl; free = refl })))
+    grows-then slow.held p.site.held p.site.held (of_received most_datagrams slow entries ++ tries p.site) end
+    (grows-then slow.held p.site.held p.site.held (of_received most_datagrams slow entries) (tries p.site)
+    (grows-received most_datagrams 0 slow entries) (grows-not p.site.held (tries p.site) (quiet-tries p.site 0 p.site.sites)))
+    (grows-not p.site.held end (record { none = refl; free = refl }))
 
 grows-note : (slow : SlowSite) (note : Note) (lines : List (List ℕ)) → Grows slow.held (noted slow note).held (map Print lines)
 grows-note slow note lines = go (nat_le most_notes (slow.notes slow.me).number)
@@ -232,11 +234,11 @@ grows-note slow note lines = go (nat_le most_notes (slow.notes slow.me).number)
 grows-command : (slow : SlowSite) (entries : List Entry) (c : ReadLine) → Grows slow.held (after_command slow entries c).held (of_command slow entries c)
 unfolding after_line
 grows-command slow entries (Ok (command.Edit wish)) = grows-edit slow wish
-grows-command slow entries (Ok (command.Name name)) = grows-note slow (renamed (slow.notes slow.me) name) _
-grows-command slow entries (Ok (command.Focus focus)) = grows-note slow (refocused (slow.notes slow.me) focus) _
-grows-command slow entries (Ok command.Show) = grows-says slow.held _
-grows-command slow entries (Ok command.Status) = grows-says slow.held _
-grows-command slow entries (Ok command.Who) = grows-says slow.held _
+grows-command slow entries (Ok (command.Name name)) = grows-note slow (renamed (slow.notes slow.me) name) (map reply_text (command_replies slow (command.Name name)))
+grows-command slow entries (Ok (command.Focus focus)) = grows-note slow (refocused (slow.notes slow.me) focus) (map reply_text (command_replies slow (command.Focus focus)))
+grows-command slow entries (Ok command.Show) = grows-says slow.held (map reply_text (command_replies slow command.Show))
+grows-command slow entries (Ok command.Status) = grows-says slow.held (map reply_text (command_replies slow command.Status))
+grows-command slow entries (Ok command.Who) = grows-says slow.held (map reply_text (command_replies slow command.Who))
 grows-command slow entries (Ok command.Poll) = grows-poll slow entries
 grows-command slow entries (Ok command.Quit) = grows-says slow.held []
 grows-command slow entries (Ok command.Blank) = grows-says slow.held []

@@ -7,7 +7,7 @@ use Rattle.gd_grammar.specs.LogBytes.{Header, header_bytes, logged}
 use Rattle.gd_model.specs.Arrivals.{costs_from}
 use Rattle.gd_outside.specs.Seen.{Entry}
 use Rattle.gd_reference.specs.NodeRun.{IsEntry, IsRead, ReadLine, node_after, node_effects}
-use Rattle.gd_reference.specs.PerSite.{is_site}
+use Rattle.gd_base.specs.Sites.{is_site}
 use Rattle.gd_reference.specs.SlowSite.{SlowSite, journal_header, new_site}
 use Rattle.gd_reference.specs.World.{IsSession}
 

@@ -8,10 +8,12 @@
 -- Otherwise it becomes an event of the site, with the next clock and the next number. A move is given where the object is to
 -- be shown, so what stands above the object is taken off. A group's members stand by rising id, each with what stands above
 -- it as its shift, so grouping moves nothing.
-use Rattle.std.specs.Prelude.{◌≡◌, ℕ, ℤ, ◌+◌, ◌-◌, ◌-ℤ◌, ◌^◌, ◌≤◌, Bool, true, not, ◌&&◌, List, [], ◌∷◌, ◌++◌, length, map, Option, Some, None, option_map, is_none, Result, Ok, Err, nat_le, if◌then◌else◌}
-use Rattle.std.specs.List.{list_all, AllByRecursion}
-use Rattle.gd_base.specs.Ranges.{place_limit, size_limit, is_within, is_style}
-use Rattle.gd_base.specs.Stamps.{Stamp, is_same, is_before}
+use Rattle.std.specs.Prelude.{ℕ, ℤ, ◌+◌, ◌-◌, ◌-ℤ◌, Bool, true, not, ◌&&◌, List, [], ◌∷◌, ◌++◌, length, map, Option, Some, None, option_map, is_none, Result, Ok, Err, nat_le, if◌then◌else◌}
+use Rattle.std.specs.List.{list_all}
+use Rattle.gd_base.specs.Ranges.{place_limit, is_within}
+use Rattle.gd_base.specs.Insertions.{inserted_by}
+use Rattle.gd_base.specs.Stamps.{Stamp, is_same}
+use Rattle.gd_base.specs.declared.ranges.TheConstants.{CLOCK_LIMIT, EVENTS_OF_A_SITE}
 use Rattle.gd_base.specs.declared.edit.Edit.{Edit}
 use Rattle.gd_base.specs.declared.edit.Edit.TheVariants as wish
 use Rattle.gd_base.specs.declared.member.Member.{Member}
@@ -86,15 +88,10 @@ is_free t = is_none t.1.above.parent
 abbrev pub member_at : Stamp × Target → Member
 member_at t = record { id = t.0; dx = t.1.above.dx; dy = t.1.above.dy }
 
--- a member put in front of the first with a greater id
-unfoldable pub placed : Member → List Member → List Member
-placed m [] = m ∷ []
-placed m (n ∷ ns) = if is_before m.id n.id then m ∷ n ∷ ns else n ∷ placed m ns
-
 -- the members by rising id
 unfoldable pub by_id : List Member → List Member
 by_id [] = []
-by_id (m ∷ ms) = placed m (by_id ms)
+by_id (m ∷ ms) = inserted_by (λ n. n.id) (by_id ms) m
 
 abbrev pub grouped : List (Stamp × Target) → Result Op EditRefusal
 grouped ts =
@@ -126,10 +123,10 @@ unfoldable pub judged : List Event → Edit → Result Op EditRefusal
 judged held edit = judged_over (target (picture held)) edit
 
 abbrev pub greatest_stamp_clock : ℕ
-greatest_stamp_clock = 2 ^ 48 - 1
+greatest_stamp_clock = CLOCK_LIMIT - 1
 
 abbrev pub most_own_events : ℕ
-most_own_events = 65535
+most_own_events = EVENTS_OF_A_SITE
 
 -- the event that an operation becomes at a site of that number, with that clock, that has made so many events
 abbrev pub next_event : ℕ → ℕ → ℕ → Op → Event

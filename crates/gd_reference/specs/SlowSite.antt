@@ -1,12 +1,13 @@
--- The slow site: one member of a session, which keeps no drawing and no buffer.
+-- The reference site, which is slow: one member of a session, which keeps no drawing and no buffer.
 --
 -- It holds the events that it accepted, in the order in which it accepted them. Of each other site it keeps a sure clock:
 -- what it doesn't hold of that site's events lies above it. It keeps how many of its own events each other site has
 -- acknowledged, and the newest note of each site. All else follows: its clock is the greatest clock of the held events,
 -- its line is the least of its clock and of all sure clocks, what it keeps is the held events above the line, and its
 -- outbox is those of its own events that some other site hasn't acknowledged.
-use Rattle.std.specs.Prelude.{ℕ, max, Bool, List, [], ◌∷◌, length, take, drop, None, ◌==◌, nat_lt}
+use Rattle.std.specs.Prelude.{ℕ, max, Bool, List, [], ◌∷◌, length, take, drop, ◌==◌, nat_lt}
 use Rattle.std.specs.List.{filter}
+use Rattle.gd_base.specs.Notes.{no_note}
 use Rattle.gd_base.specs.declared.note.Note.{Note}
 use Rattle.gd_base.specs.declared.site_status.SiteStatus.{SiteStatus}
 use Rattle.gd_events.specs.Events.{Event}
@@ -22,9 +23,6 @@ pub record SlowSite : Type 0 where
   pub sure : ℕ → ℕ
   pub acked : ℕ → ℕ
   pub notes : ℕ → Note
-
-abbrev pub no_note : Note
-no_note = record { number = 0; name = None; focus = None }
 
 abbrev pub new_site : ℕ → ℕ → ℕ → SlowSite
 new_site me sites session =
@@ -65,7 +63,7 @@ unfoldable pub greatest_clock : List Event → ℕ
 greatest_clock [] = 0
 greatest_clock (e ∷ es) = max e.stamp.clock (greatest_clock es)
 
--- ---- of a slow site
+-- ---- of a reference site
 
 -- how many events of a site it holds
 abbrev pub count : SlowSite → ℕ → ℕ

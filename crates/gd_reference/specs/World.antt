@@ -9,11 +9,13 @@
 use Rattle.std.specs.Prelude.{◌≡◌, ℕ, ◌+◌, ◌≤◌, ◌<◌, ◌^◌, true, not, ◌&&◌, List, [], ◌∷◌, ◌++◌, length, take, drop, Option, Some, None, slice_get, ◌==◌, nat_le, if◌then◌else◌, Contains}
 use Rattle.gd_base.specs.Labels.{is_name}
 use Rattle.gd_base.specs.Stamps.{Stamp}
+use Rattle.gd_base.specs.declared.ranges.TheConstants.{SITES}
 use Rattle.gd_base.specs.declared.edit.Edit.{Edit}
 use Rattle.gd_base.specs.declared.note.Note.{Note}
 use Rattle.gd_events.specs.Events.{Event}
 use Rattle.gd_grammar.specs.FrameBytes.{Frame, IsFocus}
-use Rattle.gd_reference.specs.PerSite.{put, is_site}
+use Rattle.gd_base.specs.Sites.{is_site}
+use Rattle.gd_reference.specs.PerSite.{put}
 use Rattle.gd_reference.specs.SlowSite.{SlowSite, new_site, resumed, own}
 use Rattle.gd_reference.specs.Offers.{take_frame, frame_for}
 use Rattle.gd_lines.specs.InRange.{IsEdit}
@@ -122,7 +124,7 @@ HoldsAll w s = (t : ℕ) (e : Event) → Contains (own (w.at t)) e → Contains 
 
 -- 1 to 16 sites, and a session of four bytes
 abbrev pub IsSession : ℕ → ℕ → Type 0
-IsSession sites session = (1 ≤ sites) × (sites ≤ 16) × (session < 2 ^ 32)
+IsSession sites session = (1 ≤ sites) × (sites ≤ SITES) × (session < 2 ^ 32)
 
 abbrev pub IsLine : Line → Type 0
 IsLine (Edits edit) = IsEdit edit

@@ -23,7 +23,7 @@ pub(crate) fn above(canvas: &Canvas, id: Stamp, link: Option<Link>) -> Option<Ab
     above_within(canvas, id, link, OBJECTS)
 }
 
-/// The same along at most so many links.
+/// The same along at most `most` links.
 fn above_within(canvas: &Canvas, id: Stamp, link: Option<Link>, most: u32) -> Option<Above>
     requires { most ≤ SESSION_EVENTS }
     ensures above { result ≡ above_in most (listed (board_of canvas.now)) id link }

@@ -20,7 +20,6 @@ pub(crate) fn ids(alloc: Global, canvas: &Canvas) -> Result<BTreeSet<Stamp>, All
     Ok(ids)
 }
 
-/// The id of the object of that slot, where it has one.
 fn id_at(canvas: &Canvas, place: usize) -> Option<Stamp>
     ensures { result ≡ option_map (λ p. p.0) (object_at canvas.now place) }
 {

@@ -21,7 +21,6 @@ pub(crate) fn levels(alloc: Global, canvas: &Canvas) -> Result<BTreeSet<Level>, 
     Ok(levels)
 }
 
-/// The level of the object of that slot, where it has one.
 fn level_at(canvas: &Canvas, place: usize) -> Option<Level>
     ensures { result ≡ level_of (object_at canvas.now place) }
 {

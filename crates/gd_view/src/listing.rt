@@ -34,7 +34,6 @@ pub(crate) fn shown_items(alloc: Global, canvas: &Canvas) -> Result<Vec<Item>, A
     Ok(items)
 }
 
-/// Puts an item last, where there is one.
 fn put_last(items: &mut Vec<Item>, item: Option<Item>) -> Result<(), AllocError>
     ensures { OnOk result (items.new.items ≡ items.old.items ++ option_to_list item) }
 {
@@ -44,19 +43,16 @@ fn put_last(items: &mut Vec<Item>, item: Option<Item>) -> Result<(), AllocError>
     Ok(())
 }
 
-/// The item of that id, where it is shown.
 fn item_of(canvas: &Canvas, table: &Known, id: Stamp) -> Option<Item>
     requires { AreKnown (listed (board_of canvas.now)) table.now }
     ensures { result
-        ≡ item_of (listed (board_of canvas.now)) id (option_map body (map_of.get (board_of canvas.now) id)) }
+        ≡ item_of (listed (board_of canvas.now)) id
+        (option_map body (map_of.get (board_of canvas.now) id)) }
 {
-    match canvas.get(id) {
-        Some(object) => item(canvas, table, id, object),
-        None => None,
-    }
+    let object = canvas.get(id)?;
+    item(canvas, table, id, object)
 }
 
-/// The item of an object, where it is shown.
 fn item(canvas: &Canvas, table: &Known, id: Stamp, object: &Object) -> Option<Item>
     requires sum { known table.now id ≡ above (listed (board_of canvas.now)) id object.now.link }
     requires within { IfSome (known table.now id) (λ a. Within SESSION_EVENTS a) }
@@ -69,7 +65,6 @@ fn item(canvas: &Canvas, table: &Known, id: Stamp, object: &Object) -> Option<It
     Some(item_by(id, object, &sum))
 }
 
-/// The item of an object, by what stands above it.
 fn item_by(id: Stamp, object: &Object, above: &Above) -> Item
     requires { Within SESSION_EVENTS above.now }
     ensures { result ≡ item_at id (body object.now) above.now }
@@ -84,7 +79,6 @@ fn item_by(id: Stamp, object: &Object, above: &Above) -> Item
     }
 }
 
-/// What an item has of a shape.
 fn shape_of(object: &Object) -> Option<ShapeItem>
     ensures { result ≡ shape_of object.now.kind (body object.now) }
 {

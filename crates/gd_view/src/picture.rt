@@ -1,5 +1,6 @@
 ghost use Rattle.std.specs.Prelude.{◌≡◌, ◌≤◌, IfOk};
 ghost use Rattle.std.specs.FinMap as map_of;
+ghost use Rattle.gd_base.specs.declared.ranges.TheConstants.{SESSION_EVENTS};
 ghost use Rattle.gd_model.specs.Board.{listed};
 ghost use Rattle.gd_model.specs.Shown.{items};
 ghost use Rattle.gd_canvas.specs.Slots.{board_of};
@@ -19,7 +20,6 @@ pub struct Picture {
 
 impl Model for Picture {
     ghost use Rattle.std.specs.Prelude.{List};
-    ghost use Rattle.gd_base.specs.declared.ranges.TheConstants.{SESSION_EVENTS};
     ghost use Rattle.gd_base.specs.declared.item.Item.{Item};
 
     ghost Value = { List Item };

@@ -5,9 +5,9 @@ ghost use Rattle.std.specs.FinMap as map_of;
 ghost use Rattle.gd_base.specs.declared.ranges.TheConstants.{SESSION_EVENTS};
 ghost use Rattle.gd_model.specs.Objects.{body};
 ghost use Rattle.gd_model.specs.Board.{listed};
-ghost use Rattle.gd_model.specs.Shown.{is_gone};
+ghost use Rattle.gd_model.specs.Shown.{is_gone, shown_as};
 ghost use Rattle.gd_canvas.specs.Slots.{board_of};
-ghost use Rattle.gd_view.specs.Seen.{shown_at, seen_as, seen, has_no_parent};
+ghost use Rattle.gd_view.specs.Seen.{shown_at, seen, has_no_parent};
 ghost use Rattle.gd_view.specs.Chains.{sum_limit, Within};
 
 use crate::chains::above;
@@ -21,10 +21,8 @@ pub fn shown(canvas: &Canvas, id: Stamp) -> Option<Shown>
     requires { map_of.len (board_of canvas.now) ≤ SESSION_EVENTS }
     ensures { result ≡ seen (listed (board_of canvas.now)) id }
 {
-    match canvas.get(id) {
-        Some(object) => shown_as(canvas, id, object),
-        None => None,
-    }
+    let object = canvas.get(id)?;
+    shown_as(canvas, id, object)
 }
 
 /// Whether an object is shown, and stands in no group.
@@ -40,7 +38,7 @@ pub fn is_top(canvas: &Canvas, id: Stamp) -> bool
 
 fn shown_as(canvas: &Canvas, id: Stamp, object: &Object) -> Option<Shown>
     requires { length (listed (board_of canvas.now)) ≤ SESSION_EVENTS }
-    ensures { result ≡ seen_as (listed (board_of canvas.now)) id (body object.now) }
+    ensures { result ≡ shown_as shown_at (listed (board_of canvas.now)) id (body object.now) }
 {
     if is_gone(object) {
         return None;
@@ -49,7 +47,6 @@ fn shown_as(canvas: &Canvas, id: Stamp, object: &Object) -> Option<Shown>
     Some(shown_at(object, &above))
 }
 
-/// The object with what stands above it.
 fn shown_at(object: &Object, above: &Above) -> Shown
     requires { Within SESSION_EVENTS above.now }
     ensures { result ≡ shown_at (body object.now) above.now }
@@ -64,7 +61,6 @@ fn shown_at(object: &Object, above: &Above) -> Shown
     }
 }
 
-/// Where an object is shown.
 pub(crate) fn place_at(object: &Object, above: &Above) -> Place
     requires { Within SESSION_EVENTS above.now }
     ensures { result

@@ -46,9 +46,7 @@ fn sum_at(canvas: &Canvas, table: &Known, id: Stamp, turn: u32) -> Option<Above>
     ensures above { result ≡ above_at (listed (board_of canvas.now)) id }
     ensures within { IfSome result (λ a. Within (1 + turn) a) }
 {
-    let Some(object) = canvas.get(id) else {
-        return None;
-    };
+    let object = canvas.get(id)?;
     let Some(link) = object.link else {
         return Some(Above {
             parent: None,
@@ -63,18 +61,15 @@ fn sum_at(canvas: &Canvas, table: &Known, id: Stamp, turn: u32) -> Option<Above>
 fn sum_by(canvas: &Canvas, table: &Known, id: Stamp, link: &Link, turn: u32) -> Option<Above>
     requires few { turn ≤ SESSION_EVENTS }
     requires greater { IsTrue (is_before id link.now.parent)
-        → known table.now link.now.parent ≡ above_at (listed (board_of canvas.now)) link.now.parent }
+        → known table.now link.now.parent
+        ≡ above_at (listed (board_of canvas.now)) link.now.parent }
     requires within { IfSome (known table.now link.now.parent) (λ a. Within turn a) }
     ensures above { result ≡ above (listed (board_of canvas.now)) id (Some link.now) }
     ensures within { IfSome result (λ a. Within (1 + turn) a) }
 {
-    let Some(group) = group_at(canvas, id, link) else {
-        return None;
-    };
-    match table.get(link.parent) {
-        Some(sum) => Some(through(&sum, link, group, turn)),
-        None => None,
-    }
+    let group = group_at(canvas, id, link)?;
+    let sum = table.get(link.parent)?;
+    Some(through(&sum, link, group, turn))
 }
 
 /// What stands above a group's member, by what stands above the group.

@@ -16,7 +16,7 @@ struct Links {
     next: Vec<Option<usize>>,
 }
 
-/// From the last item to the first: the one that was the first of its group until then is its next.
+/// Goes from the last item to the first and pushes each in front of its group's list, so the former first is its next.
 fn link_up(alloc: Global, items: &[Item]) -> Result<Links, AllocError>
     ensures first { IfOk result (λ l. (q : Option stamps.Stamp)
         → first_in l.firsts q ≡ first_from 0 q items.now) }
@@ -32,7 +32,6 @@ fn link_up(alloc: Global, items: &[Item]) -> Result<Links, AllocError>
     Ok(Links { firsts, next })
 }
 
-/// Puts a place on the stack, where there is one.
 fn open(stack: &mut Vec<usize>, place: Option<usize>) -> Result<(), AllocError>
     ensures { OnOk result (stack.new.items ≡ stack.old.items ++ option_to_list place) }
 {

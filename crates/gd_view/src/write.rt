@@ -12,7 +12,8 @@ use gd_words::ReplyText;
 ///
 /// `WriteFault` where a write failed, with some lines written and a prefix of the next one; no other end comes.
 pub fn write_text<K: Sink>(picture: &Picture, output: &mut K) -> Result<(), End>
-    ensures does { Prints (K.seen output.old) (map Print (lines picture.now)) result (K.seen output.new) }
+    ensures does { Prints (K.seen output.old) (map Print (lines picture.now))
+        result (K.seen output.new) }
     ensures end { (e : End) → result ≡ Err e → e ≡ End.WriteFault }
 {
     let items = picture.as_slice();

@@ -37,7 +37,8 @@ impl LogHeader {
     /// None exactly where the site isn't from 1 to `n`, or `n` is above `SITES`.
     pub fn new(session: u32, site: u8, n: u8) -> Option<Self>
         ensures value { IfSome result (λ h. h ≡ record { session = session; site = site; n = n }) }
-        ensures ranges { IsSome result ↔ IsHeader (record { session = session; site = site; n = n }) }
+        ensures ranges { IsSome result
+            ↔ IsHeader (record { session = session; site = site; n = n }) }
     {
         if site < 1 || site > n || n > SITES {
             return None;
@@ -70,7 +71,7 @@ impl LogHeader {
 
 impl<'a> Bytes<'a> {
     /// Reads the header at the front, of 11 bytes: GDOL, the version 1, the session, the site and the number of sites.
-    /// The first fault is the answer: `Short` at the end of all bytes where a field isn't whole, `Magic` or `Version`
+    /// The first fault is returned: `Short` at the end of all bytes where a field isn't whole, `Magic` or `Version`
     /// at another magic or version, and `Field` at a site that isn't from 1 to 16, or at a number of sites that isn't
     /// from the site to 16.
     #[tactic(auto, unfolding(gd_grammar::specs::LogBytes::header_at))]

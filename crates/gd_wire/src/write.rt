@@ -3,6 +3,7 @@ ghost use Rattle.std.specs.Prelude.{◌≡◌, ◌≤◌, ◌<◌, ◌+◌, ◌*
 ghost use Rattle.std.specs.Int.{bytes_high_first};
 ghost use Rattle.gd_grammar.specs.Spelling.{shape_byte, style_bytes, member_bytes, members_bytes, op_bytes, spelling};
 ghost use Rattle.gd_grammar.specs.FieldBytes.{stamp_bytes, word_bytes, signed_bytes, label_bytes};
+ghost use Rattle.gd_grammar.specs.declared.sizes.TheConstants.{EVENT_BYTES};
 
 use crate::buffer::EventBytes;
 use crate::style::NO_FILL;
@@ -23,7 +24,7 @@ pub fn write_event(event: &Event, out: &mut EventBytes)
 impl EventBytes {
     pub(crate) fn put_clock(&mut self, clock: u64)
         requires fits { clock < 2 ^ 48 }
-        requires room { length self.old + 6 ≤ 491 }
+        requires room { length self.old + 6 ≤ EVENT_BYTES }
         ensures bytes { self.new ≡ self.old ++ bytes_high_first 6 clock }
         ensures grown { length self.new ≡ length self.old + 6 }
     {
@@ -33,7 +34,7 @@ impl EventBytes {
     }
 
     pub(crate) fn put_stamp(&mut self, stamp: Stamp)
-        requires { length self.old + 7 ≤ 491 }
+        requires { length self.old + 7 ≤ EVENT_BYTES }
         ensures bytes { self.new ≡ self.old ++ stamp_bytes stamp }
         ensures grown { length self.new ≡ length self.old + 7 }
     {
@@ -43,7 +44,7 @@ impl EventBytes {
 
     /// A number of two bytes.
     pub(crate) fn put_number(&mut self, number: u16)
-        requires { length self.old + 2 ≤ 491 }
+        requires { length self.old + 2 ≤ EVENT_BYTES }
         ensures bytes { self.new ≡ self.old ++ bytes_high_first 2 number }
         ensures grown { length self.new ≡ length self.old + 2 }
     {
@@ -54,7 +55,7 @@ impl EventBytes {
 
     /// A number of four bytes.
     pub(crate) fn put_word(&mut self, word: u32)
-        requires { length self.old + 4 ≤ 491 }
+        requires { length self.old + 4 ≤ EVENT_BYTES }
         ensures bytes { self.new ≡ self.old ++ word_bytes word }
         ensures grown { length self.new ≡ length self.old + 4 }
     {
@@ -64,7 +65,7 @@ impl EventBytes {
     }
 
     fn put_signed(&mut self, value: i32)
-        requires { length self.old + 4 ≤ 491 }
+        requires { length self.old + 4 ≤ EVENT_BYTES }
         ensures bytes { self.new ≡ self.old ++ signed_bytes value }
         ensures grown { length self.new ≡ length self.old + 4 }
     {
@@ -74,7 +75,7 @@ impl EventBytes {
     }
 
     fn put_shape(&mut self, shape: Shape)
-        requires { length self.old < 491 }
+        requires { length self.old < EVENT_BYTES }
         ensures bytes { self.new ≡ self.old ++ shape_byte shape ∷ [] }
         ensures grown { length self.new ≡ length self.old + 1 }
     {
@@ -88,7 +89,7 @@ impl EventBytes {
 
     /// A label, behind its length.
     fn put_label(&mut self, label: &Label)
-        requires { length self.old + 65 ≤ 491 }
+        requires { length self.old + 65 ≤ EVENT_BYTES }
         ensures { self.new ≡ self.old ++ label_bytes label.now }
     {
         self.put_text(label.as_str());
@@ -97,7 +98,7 @@ impl EventBytes {
     /// A text, behind its length.
     pub(crate) fn put_text(&mut self, text: &str)
         requires few { length text.now < 256 }
-        requires room { length self.old + 1 + length text.now ≤ 491 }
+        requires room { length self.old + 1 + length text.now ≤ EVENT_BYTES }
         ensures { self.new ≡ self.old ++ label_bytes text.now }
     {
         let text = text.as_bytes();
@@ -107,7 +108,7 @@ impl EventBytes {
 
     /// One part of a shape's look: which one, and its value.
     fn put_style(&mut self, style: Style)
-        requires { length self.old + 5 ≤ 491 }
+        requires { length self.old + 5 ≤ EVENT_BYTES }
         ensures { self.new ≡ self.old ++ style_bytes style }
     {
         match style {
@@ -131,7 +132,7 @@ impl EventBytes {
     }
 
     fn put_member(&mut self, member: &Member)
-        requires { length self.old + 15 ≤ 491 }
+        requires { length self.old + 15 ≤ EVENT_BYTES }
         ensures bytes { self.new ≡ self.old ++ member_bytes member.now }
         ensures grown { length self.new ≡ length self.old + 15 }
     {
@@ -141,7 +142,7 @@ impl EventBytes {
     }
 
     fn put_members(&mut self, members: &[Member])
-        requires { length self.old + 15 * length members.now ≤ 491 }
+        requires { length self.old + 15 * length members.now ≤ EVENT_BYTES }
         ensures { self.new ≡ self.old ++ members_bytes members.now }
     {
         'members: for member in members {

@@ -5,4 +5,4 @@ use Rattle.gd_view.proofs.SumLemmas.{at_some}
 use Rattle.gd_view.proofs.listing.item_of.Goals as goal
 
 pub item-requires-clause-sum : goal.item-requires-clause-sum
-item-requires-clause-sum c = c.requires.are c.args.id ∙ sym (at_some (board_of c.args.canvas.now) c.args.id c.in-Some.object.now (ap option_copied (sym c.in-Some.is) ∙ c.get.ensures))
+item-requires-clause-sum c = c.requires.are c.args.id ∙ sym (at_some (board_of c.args.canvas.now) c.args.id c.in_ok-object.object.now (ap option_copied (sym c.in_ok-object.was) ∙ c.get.ensures))

@@ -6,16 +6,17 @@ use Rattle.gd_canvas.specs.Slots.{board_of}
 use Rattle.gd_view.proofs.SumLemmas.{at_none, at_some}
 use Rattle.gd_view.proofs.sums.sum_at.Goals as goal
 
-pub returns-in_default-clause-above : goal.returns-in_default-clause-above
-returns-in_default-clause-above c = at_none (board_of c.args.canvas.now) c.args.id (ap option_copied (sym c.in_default.is) ∙ c.get.ensures)
+pub returns-in_err-object-clause-above : goal.returns-in_err-object-clause-above
+returns-in_err-object-clause-above c =
+    c.from_residual.ensures ∙ at_none (board_of c.args.canvas.now) c.args.id (ap option_copied (sym c.in_err-object.was) ∙ c.get.ensures)
 
-pub returns-in_default-link-clause-above : goal.returns-in_default-link-clause-above
-returns-in_default-link-clause-above c =
-    ap (above (listed (board_of c.args.canvas.now)) c.args.id) (sym c.in_default-link.is)
-    ∙ at_some (board_of c.args.canvas.now) c.args.id c.in-Some.object.now (ap option_copied (sym c.in-Some.is) ∙ c.get.ensures)
+pub returns-in_default-clause-above : goal.returns-in_default-clause-above
+returns-in_default-clause-above c =
+    ap (above (listed (board_of c.args.canvas.now)) c.args.id) (sym c.in_default.is)
+    ∙ at_some (board_of c.args.canvas.now) c.args.id c.in_ok-object.object.now (ap option_copied (sym c.in_ok-object.was) ∙ c.get.ensures)
 
 pub returns-clause-above : goal.returns-clause-above
 returns-clause-above c =
     c.sum_by.ensures.above
-    ∙ ap (above (listed (board_of c.args.canvas.now)) c.args.id) (sym c.in-Some-link.is)
-    ∙ at_some (board_of c.args.canvas.now) c.args.id c.in-Some.object.now (ap option_copied (sym c.in-Some.is) ∙ c.get.ensures)
+    ∙ ap (above (listed (board_of c.args.canvas.now)) c.args.id) (sym c.in-Some.is)
+    ∙ at_some (board_of c.args.canvas.now) c.args.id c.in_ok-object.object.now (ap option_copied (sym c.in_ok-object.was) ∙ c.get.ensures)

@@ -8,17 +8,18 @@ use Rattle.gd_view.specs.Sums.{known}
 use Rattle.gd_view.proofs.SumLemmas.{sum_some}
 use Rattle.gd_view.proofs.sums.sum_by.Goals as goal
 
-pub returns-in-Some-get-clause-above : goal.returns-in-Some-get-clause-above
-returns-in-Some-get-clause-above c =
+pub returns-in_err-sum-clause-above : goal.returns-in_err-sum-clause-above
+returns-in_err-sum-clause-above c =
     let l = c.args.link.now in
-    let g = body c.in-Some.group.now in
-    ap Some c.through.ensures.sum
-    ∙ ap (λ y. option_map (above_by l g) y) (sym c.in-Some-get.is ∙ c.get.ensures)
-    ∙ sum_some (listed (board_of c.args.canvas.now)) c.args.id l g (known c.args.table.now l.parent) (ap (λ x. option_map body (option_copied x)) (sym c.in-Some.is) ∙ c.group_at.ensures) c.requires.greater
+    let g = body c.in_ok-group.group.now in
+    c.from_residual-in_err-sum.ensures
+    ∙ ap (option_map (above_by l g)) (sym c.in_err-sum.was ∙ c.get.ensures)
+    ∙ sum_some (listed (board_of c.args.canvas.now)) c.args.id l g (known c.args.table.now l.parent) (ap (λ x. option_map body (option_copied x)) (sym c.in_ok-group.was) ∙ c.group_at.ensures) c.requires.greater
 
-pub returns-in-None-clause-above : goal.returns-in-None-clause-above
-returns-in-None-clause-above c =
+pub returns-clause-above : goal.returns-clause-above
+returns-clause-above c =
     let l = c.args.link.now in
-    let g = body c.in-Some.group.now in
-    ap (λ y. option_map (above_by l g) y) (sym c.in-None.is ∙ c.get.ensures)
-    ∙ sum_some (listed (board_of c.args.canvas.now)) c.args.id l g (known c.args.table.now l.parent) (ap (λ x. option_map body (option_copied x)) (sym c.in-Some.is) ∙ c.group_at.ensures) c.requires.greater
+    let g = body c.in_ok-group.group.now in
+    ap Some c.through.ensures.sum
+    ∙ ap (option_map (above_by l g)) (sym c.in_ok-sum.was ∙ c.get.ensures)
+    ∙ sum_some (listed (board_of c.args.canvas.now)) c.args.id l g (known c.args.table.now l.parent) (ap (λ x. option_map body (option_copied x)) (sym c.in_ok-group.was) ∙ c.group_at.ensures) c.requires.greater

@@ -1,0 +1,84 @@
+-- How much the arrival of events undoes, and what it comes to one event after another.
+use Rattle.std.proofs.Common.{◌≡◌, ℕ, ◌+◌, ◌*◌, ◌≤◌, Bool, true, false, cond, List, [], ◌∷◌, ◌++◌, length, refl, sym, ap, ◌∙◌, append_assoc, arith}
+use Rattle.std.proofs.lemmas.List.{append-nil, length-map}
+use Rattle.gd_base.specs.Stamps.{Stamp, is_before}
+use Rattle.gd_events.specs.Events.{Event}
+use Rattle.gd_repair.specs.Repair.{Stamped, Outcome, outcome, outcome_by, closure_from, closure, is_free}
+use Rattle.gd_repair.specs.Repair.Outcome.{applied, dropped, reworked}
+use Rattle.gd_history.specs.Entries.{stamp_of, stamps_of}
+use Rattle.gd_history.specs.Histories.{arrival_of}
+use Rattle.gd_history.specs.Orders.{later_than}
+use Rattle.gd_history.specs.declared.arrival.Arrival.{Arrival}
+use Rattle.gd_history.specs.declared.arrival.Arrival.TheVariants.{Applied, Dropped, Reworked}
+use Rattle.gd_model.specs.Arrivals.{outcome_of}
+use Rattle.gd_log.specs.declared.tally.Tally.{Tally}
+use Rattle.gd_log.specs.Arriving.{no_tally, undone_in, tallied, tally_from, tally}
+
+-- ---- no more is undone than stands behind
+
+shorter_closure : {E : Type 0} (t : Bool) (f : E) (xs ys fs : List E) → length xs ≤ length fs → length ys ≤ length fs → length (cond t xs (f ∷ ys)) ≤ length (f ∷ fs)
+shorter_closure true f xs ys fs h k = omega arith
+shorter_closure false f xs ys fs h k = omega arith
+
+length-closure : {E : Type 0} (independent : E → E → Bool) (e : E) (cs fs : List E) → length (closure_from independent e cs fs) ≤ length fs
+length-closure independent e cs [] = omega arith
+length-closure independent e cs (f ∷ fs) =
+    shorter_closure (is_free independent (e ∷ cs) f) f (closure_from independent e cs fs) (closure_from independent e (cs ++ f ∷ []) fs) fs
+    (length-closure independent e cs fs) (length-closure independent e (cs ++ f ∷ []) fs)
+
+module _ {O : Type 0} (independent covers : Stamped O → Stamped O → Bool) (e : Stamped O) where
+  undone_where : (t : Bool) (c : Stamped O) (cs : List (Stamped O)) (n : ℕ) → length (c ∷ cs) ≤ n → undone_in (arrival_of (cond t (dropped c) (reworked (c ∷ cs)))) ≤ n
+  undone_where true c cs n h = omega arith
+  undone_where false c cs n h = omega (arith, h, length-map (c ∷ cs) stamp_of)
+
+  undone_by : (cs : List (Stamped O)) (n : ℕ) → length cs ≤ n → undone_in (arrival_of (outcome_by covers e cs)) ≤ n
+  undone_by [] n h = omega arith
+  undone_by (c ∷ cs) n h = undone_where (covers c e) c cs n h
+
+  pub undone_most : (fs : List (Stamped O)) → undone_in (arrival_of (outcome independent covers e fs)) ≤ length fs
+  undone_most fs = undone_by (closure independent e fs) (length fs) (length-closure independent e [] fs)
+
+shorter_later : {O : Type 0} (t : Bool) (f : Stamped O) (rest fs : List (Stamped O)) → length rest ≤ length fs → length (cond t (f ∷ rest) rest) ≤ length (f ∷ fs)
+shorter_later true f rest fs h = omega arith
+shorter_later false f rest fs h = omega arith
+
+pub length-later : {O : Type 0} (s : Stamp) (fs : List (Stamped O)) → length (later_than s fs) ≤ length fs
+length-later s [] = omega arith
+length-later s (f ∷ fs) = shorter_later (is_before s f.stamp) f (later_than s fs) fs (length-later s fs)
+
+-- ---- one event more
+
+tally-push : (t : Tally) (held es : List Event) (e : Event) → tally_from t held (es ++ e ∷ []) ≡ tallied (tally_from t held es) (arrival_of (outcome_of (held ++ es) e))
+unfolding tally_from
+tally-push t held [] e = ap (λ h. tallied t (arrival_of (outcome_of h e))) (sym (append-nil held))
+tally-push t held (f ∷ fs) e =
+    tally-push (tallied t (arrival_of (outcome_of held f))) (held ++ f ∷ []) fs e
+    ∙ ap (λ h. tallied (tally_from (tallied t (arrival_of (outcome_of held f))) (held ++ f ∷ []) fs) (arrival_of (outcome_of h e))) (append_assoc held (f ∷ []) fs)
+
+-- what came of these events, all of them counted, with no more undone than can be
+pub record Tallied (done : List Event) (t : Tally) : Type 0 where
+  pub is : t ≡ tally done
+  pub counted : t.applied + t.dropped + t.reworked ≡ length done
+  pub undone : t.undone ≤ 1048560 * length done
+
+pub tallied_none : Tallied [] no_tally
+unfolding tally_from
+tallied_none = record { is = refl; counted = omega arith; undone = omega arith }
+
+counts-one : (t : Tally) (a : Arrival) → (tallied t a).applied + (tallied t a).dropped + (tallied t a).reworked ≡ t.applied + t.dropped + t.reworked + 1
+counts-one t Applied = omega arith
+counts-one t (Dropped by) = omega arith
+counts-one t (Reworked undone) = omega arith
+
+undoes-one : (t : Tally) (a : Arrival) → (tallied t a).undone ≡ t.undone + undone_in a
+undoes-one t Applied = omega arith
+undoes-one t (Dropped by) = omega arith
+undoes-one t (Reworked undone) = refl
+
+pub tallied_more : (done : List Event) (t new : Tally) (e : Event) (a : Arrival) → Tallied done t → a ≡ arrival_of (outcome_of done e) → undone_in a ≤ 1048560
+    → new ≡ tallied t a → length (done ++ e ∷ []) ≡ length done + 1 → Tallied (done ++ e ∷ []) new
+tallied_more done t new e a h is most one long = record {
+  is = one ∙ (λ i. tallied (h.is i) (is i)) ∙ sym (tally-push no_tally [] done e);
+  counted = omega (arith, ap (λ (x : Tally). x.applied + x.dropped + x.reworked) one, counts-one t a, h.counted, long);
+  undone = omega (arith, ap (λ (x : Tally). x.undone) one, undoes-one t a, h.undone, most, long);
+}
