@@ -19,8 +19,8 @@ pub fn what_breaks_a_rule_is_found()
         → IsRuled h events → BreaksRule h events e why
         → log (logged h (events ++ e ∷ more))
         ≡ Err (refusal why (length (spelling e ++ (gated_bytes more ++ 0 ∷ [])))) }
-    ensures whatever_follows { (h : Header) (events : List Event) (e : Event) (why : LogWhy) (rest : List ℕ)
-        → IsRuled h events → BreaksRule h events e why
+    ensures whatever_follows { (h : Header) (events : List Event) (e : Event) (why : LogWhy)
+        (rest : List ℕ) → IsRuled h events → BreaksRule h events e why
         → log (header_bytes h ++ gated_bytes events ++ gate ∷ (spelling e ++ rest))
         ≡ Err (refusal why (length (spelling e ++ rest))) }
 {}

@@ -71,14 +71,16 @@ impl LogWriter {
             → told (J.seen journal.new).contents
             ≡ with_record (told (J.seen journal.old).contents) (spelling event.now)) }
         ensures logged { OnOk result (IsSome (J.seen journal.new).contents
-            → (h : Header) (events : List EventValue) → told (J.seen journal.old).contents ≡ logged h events
+            → (h : Header) (events : List EventValue)
+            → told (J.seen journal.old).contents ≡ logged h events
             → told (J.seen journal.new).contents ≡ logged h (events ++ event.now ∷ [])) }
         ensures log { OnOk result (IsSome (J.seen journal.new).contents
             → IsLogAt self.new (told (J.seen journal.new).contents)) }
         ensures place { OnOk result (self.new ≡ self.old + 1 + length (spelling event.now)) }
         ensures few { OnOk result (self.new ≤ self.old + RECORD) }
         ensures torn { OnErr result (IsSome (J.seen journal.new).contents
-            → (h : Header) (events : List EventValue) → IsLogOf h events (told (J.seen journal.old).contents)
+            → (h : Header) (events : List EventValue)
+            → IsLogOf h events (told (J.seen journal.old).contents)
             → IsWithOrWithout (told (J.seen journal.old).contents) (spelling event.now)
             (told (J.seen journal.new).contents)) }
         ensures err { OnErr result (self.new ≡ self.old) }

@@ -1,53 +1,45 @@
-//! The program: its words, standard input and standard output, and the run that they are handed to.
+//! The program: hands the command line and the standard streams to `run`.
 #![tactic(auto)]
 
-ghost use Rattle.std.specs.Prelude.{◌≡◌, ◌<◌};
+ghost use Rattle.std.specs.Prelude.{◌≡◌, ◌<◌, ◌⊎◌, false};
+ghost use Rattle.std.specs.Process.{exit_status};
+ghost use Rattle.gd_outside.specs.Causes.{Rose};
+ghost use Rattle.gd_outside.specs.Statuses.{status_number};
+ghost use Rattle.gd_outside.specs.Told.{told};
+ghost use Rattle.gd_reference.specs.SlowRun.{is_replay, slow_end};
+ghost use Rattle.groupdesign.specs.Exits.{words_status};
+ghost use Rattle.groupdesign.specs.Runs.{IsRunTold};
 
 mod running;
 mod standard;
 #[cfg(test)]
 mod tests;
+mod words;
 
 use gd_base::Steps;
-use gd_outside::{Status, Word, WordList};
+use gd_outside::{Sink, Source, Status, WordList};
 use running::run;
 use standard::input::StandardInput;
 use standard::output::StandardOutput;
-use std::alloc::AllocError;
+use std::alloc::Global;
+use std::io;
 use std::marker::Brand;
 use std::process::ExitCode;
 use std::sync::ledger::{Blank, Ledger};
-use std::{env, io};
+use words::{WordsFault, words_of};
 
-/// The exit status where the call for the words failed for another cause than memory.
+/// The exit status where the words of the command line can't be had, for another cause than memory: one is no UTF-8.
 const NO_WORDS: u8 = 13;
 
 fn main(rt: HostRuntime) -> ExitCode {
-    let args = match env::args(&rt) {
-        Ok(args) => args,
-        Err(e) if e.kind() == io::ErrorKind::OutOfMemory => return exit(Status::NoMemory),
-        Err(_) => return ExitCode::from(NO_WORDS),
-    };
-    let mut words = WordList::new(rt.alloc());
-    for arg in args.skip(1) {
-        if add_word(&rt, &mut words, arg.as_str()).is_err() {
-            return exit(Status::NoMemory);
-        }
+    match words_of(&rt) {
+        Ok(words) => carry_out::<Brand>(&rt, &words, Blank::new(1)),
+        Err(fault) => exit_without_words(fault),
     }
-    exit(carry_out::<Brand>(&rt, &words, Blank::new(1)))
-}
-
-fn exit(status: Status) -> ExitCode {
-    ExitCode::from(status.number())
-}
-
-fn add_word(rt: &impl AllocGlobal, words: &mut WordList, text: &str) -> Result<(), AllocError> {
-    let word = Word::new(rt.alloc(), text)?;
-    words.push(word)
 }
 
 /// Runs over standard input and output. Nobody reads the steps.
-fn carry_out<L: Ledger>(rt: &HostRuntime, words: &WordList, blank: Blank) -> Status
+fn carry_out<L: Ledger>(rt: &HostRuntime, words: &WordList, blank: Blank) -> ExitCode
     requires name { blank.name ≡ L.name }
     requires parts { blank.parts ≡ L.parts }
     requires some { 0 < blank.parts }
@@ -55,5 +47,42 @@ fn carry_out<L: Ledger>(rt: &HostRuntime, words: &WordList, blank: Blank) -> Sta
     let mut input = StandardInput::new(rt.reader());
     let mut output = StandardOutput::new(io::writer(rt));
     let mut steps = Steps::<L>::new(blank);
-    run(rt.alloc(), words, &mut input, &mut output, &mut steps)
+    ended(rt.alloc(), words, &mut input, &mut output, &mut steps)
+}
+
+/// The exit code of the run that the words name.
+fn ended<S: Source, K: Sink, L: Ledger>(
+    alloc: Global,
+    words: &WordList,
+    input: &mut S,
+    output: &mut K,
+    steps: &mut Steps<L>,
+) -> ExitCode
+    // Where the input tells what it has left and no call failed, the run is carried out, unless memory runs out.
+    ensures complete { IsRunTold words.now (S.seen input.new)
+        → ¬ Rose (S.seen input.old).faults (S.seen input.new).faults
+        → ¬ Rose (K.seen output.old).faults (K.seen output.new).faults
+        → (exit_status result ≡ status_number (slow_end words.now (told (S.seen input.old).left)))
+        ⊎ (exit_status result ≡ status_number Status.NoMemory) }
+    ensures usage { is_replay words.now ≡ false
+        → (exit_status result ≡ status_number Status.Usage) ⊎
+        (exit_status result ≡ status_number Status.WriteFault) }
+{
+    exit(run(alloc, words, input, output, steps))
+}
+
+fn exit(status: Status) -> ExitCode
+    ensures { exit_status result ≡ status_number status }
+{
+    ExitCode::from(status.number())
+}
+
+/// The exit code of a program that has no words to run by.
+fn exit_without_words(fault: WordsFault) -> ExitCode
+    ensures { exit_status result ≡ words_status fault }
+{
+    match fault {
+        WordsFault::Memory => exit(Status::NoMemory),
+        WordsFault::Call => ExitCode::from(NO_WORDS),
+    }
 }

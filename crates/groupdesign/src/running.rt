@@ -1,27 +1,28 @@
-//! The run that the words name, over objects that tell their content or don't.
+//! `run`: carries out the command that the words name, over any source and sink.
 
-ghost use Rattle.std.specs.Prelude.{◌≡◌, ◌≤◌, ℕ, ◌+◌, [], ◌∷◌, ◌⊎◌, Bool, true, false, IsSome};
+ghost use Rattle.std.specs.Prelude.{◌≡◌, ◌≤◌, ◌+◌, [], ◌∷◌, ◌⊎◌, false, Err};
 ghost use Rattle.gd_outside.specs.Causes.{Rose};
-ghost use Rattle.gd_outside.specs.Seen.{SeenSource, SeenJournal, SeenLink};
+ghost use Rattle.gd_outside.specs.Seen.{SeenJournal, SeenLink};
 ghost use Rattle.gd_outside.specs.Told.{told};
 ghost use Rattle.gd_effects.specs.Effects.{Print, cost};
 ghost use Rattle.gd_reference.specs.SlowRun.{is_replay, slow_effects, slow_end};
 ghost use Rattle.gd_lines.specs.Replies.{usage_line};
 ghost use Rattle.gd_effects.specs.Outside.{outside};
-ghost use Rattle.gd_effects.specs.Endings.{EndsAs, IsUncut};
-ghost use Rattle.groupdesign.specs.Runs.{IsRunEnd};
+ghost use Rattle.gd_effects.specs.Prints.{Prints};
+ghost use Rattle.gd_effects.specs.Endings.{EndsAs, IsUncut, no_effects};
+ghost use Rattle.groupdesign.specs.Runs.{IsRunEnd, IsRunTold};
 
 use gd_base::Steps;
 use gd_effects::{print, status_of};
 use gd_log::replay;
-use gd_outside::{Sink, Source, Status, WordList};
+use gd_outside::{End, Sink, Source, Status, WordList};
 use gd_words::{AsText, Reply};
 use std::alloc::Global;
 use std::sync::ledger::Ledger;
 
 /// Carries out the command that the words name: `replay` alone, so far.
 ///
-/// `Usage` after the usage line, where the words aren't the one word `replay`; else what `replay` answers. The steps rise
+/// `Usage` after the usage line, where the words aren't the one word `replay`; else what `replay` returns. The steps rise
 /// by what the late and other arrivals of a log cost.
 pub fn run<S: Source, K: Sink, L: Ledger>(
     alloc: Global,
@@ -31,28 +32,39 @@ pub fn run<S: Source, K: Sink, L: Ledger>(
     steps: &mut Steps<L>,
 ) -> Status
     // What was done is the slow run's, and so is the status, where nothing cuts the run short; a fault has its cause.
-    ensures ends { (journal : SeenJournal) (link : SeenLink) → EndsAs
-        (slow_effects words.now (told (S.seen input.old).left)) (slow_end words.now (told (S.seen input.old).left)) result
+    ensures ends { (journal : SeenJournal) (link : SeenLink)
+        → EndsAs (IsRunTold words.now (S.seen input.new))
+        (slow_effects words.now (told (S.seen input.old).left)) no_effects
+        (slow_end words.now (told (S.seen input.old).left)) result
         (outside (S.seen input.old) (K.seen output.old) journal link steps.old)
         (outside (S.seen input.new) (K.seen output.new) journal link steps.new) }
     ensures kinds { IsRunEnd result }
-    // Where no call failed, the run is carried out, unless memory runs out.
-    ensures complete { IsSome (S.seen input.new).left → ¬ Rose (S.seen input.old).faults (S.seen input.new).faults → ¬ Rose (K.seen output.old).faults (K.seen output.new).faults
-        → (result ≡ slow_end words.now (told (S.seen input.old).left)) ⊎ (result ≡ Status.NoMemory) }
-    // A failed read and want of memory come before anything is printed.
-    ensures silent { (result ≡ Status.ReadFault) ⊎ (result ≡ Status.NoMemory) → K.seen output.new ≡ K.seen output.old }
+    // Where the input tells what it has left and no call failed, the run is carried out, unless memory runs out.
+    ensures complete { IsRunTold words.now (S.seen input.new)
+        → ¬ Rose (S.seen input.old).faults (S.seen input.new).faults
+        → ¬ Rose (K.seen output.old).faults (K.seen output.new).faults
+        → (result ≡ slow_end words.now (told (S.seen input.old).left)) ⊎
+        (result ≡ Status.NoMemory) }
+    // After a failed read, and where memory ran out, nothing was printed; after a failed read no step was taken.
+    ensures silent { (result ≡ Status.ReadFault) ⊎ (result ≡ Status.NoMemory)
+        → K.seen output.new ≡ K.seen output.old }
+    ensures unread { result ≡ Status.ReadFault → steps.new ≡ steps.old }
     // The steps rose by what the slow run owes, where nothing cut it short, and by no more in any case.
-    ensures steps { IsSome (S.seen input.new).left → IsUncut result → steps.new ≡ steps.old + cost (slow_effects words.now (told (S.seen input.old).left)) }
-    ensures most_steps { IsSome (S.seen input.new).left → steps.new ≤ steps.old + cost (slow_effects words.now (told (S.seen input.old).left)) }
-    // Words that name no command are refused, and only these; then the input isn't touched.
-    ensures usage { is_replay words.now ≡ false → (result ≡ Status.Usage) ⊎ (result ≡ Status.WriteFault) }
+    ensures steps { IsRunTold words.now (S.seen input.new) → IsUncut result
+        → steps.new ≡ steps.old + cost (slow_effects words.now (told (S.seen input.old).left)) }
+    ensures most_steps { IsRunTold words.now (S.seen input.new)
+        → steps.new ≤ steps.old + cost (slow_effects words.now (told (S.seen input.old).left)) }
+    // Words that name no command are refused, and only these; then the input isn't touched, and no step is taken.
+    ensures usage { is_replay words.now ≡ false
+        → (result ≡ Status.Usage) ⊎ (result ≡ Status.WriteFault) }
     ensures usage_only { result ≡ Status.Usage → is_replay words.now ≡ false }
     ensures untouched { is_replay words.now ≡ false → S.seen input.new ≡ S.seen input.old }
+    ensures idle { is_replay words.now ≡ false → steps.new ≡ steps.old }
 {
     if names_replay(words) {
         replay(alloc, input, output, steps)
     } else {
-        refuse_words(output)
+        status_of(refuse_words(output), Status::Usage)
     }
 }
 
@@ -65,12 +77,11 @@ fn names_replay(words: &WordList) -> bool
     }
 }
 
-/// Prints how the program is called.
-fn refuse_words<K: Sink>(output: &mut K) -> Status
-    ensures ends { (input : SeenSource) (journal : SeenJournal) (link : SeenLink) (steps : ℕ)
-        → EndsAs (Print usage_line ∷ []) Status.Usage result (outside input (K.seen output.old) journal link steps) (outside input (K.seen output.new) journal link steps) }
-    ensures kinds { (result ≡ Status.Usage) ⊎ (result ≡ Status.WriteFault) }
+/// Prints how the program is called. No early end comes but `WriteFault`.
+fn refuse_words<K: Sink>(output: &mut K) -> Result<(), End>
+    ensures does { Prints (K.seen output.old) (Print usage_line ∷ []) result (K.seen output.new) }
+    ensures end { (e : End) → result ≡ Err e → e ≡ End.WriteFault }
 {
     let line = Reply::Usage.text();
-    status_of(print(output, line.as_slice()), Status::Usage)
+    print(output, line.as_slice())
 }

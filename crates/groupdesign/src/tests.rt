@@ -1,4 +1,5 @@
-//! Rows worked by hand, cuts and faults, each through `run` over objects in memory; late events on the history of a drawing;
+//! Rows worked by hand, cuts and faults, each through `run` over objects in memory; standard input and output over readers and
+//! writers of their own; late events on the history of a drawing;
 //! and how each two operations bear on each other.
 
 ghost use Rattle.std.specs.Prelude.{◌≡◌, ◌<◌};
@@ -15,6 +16,7 @@ mod labels;
 mod logs;
 mod pairs;
 mod rows;
+mod standard;
 mod texts;
 
 use crate::running::run;
