@@ -145,7 +145,7 @@ present_before s b es stands h id o e =
 not_before_itself : (s : Stamp) → is_before s s ≡ true → ⊥
 not_before_itself s e = let apart : is_same s s ≡ false = is_before-apart s s e in let same : is_same s s ≡ true = is_same-refl s in cc
 
--- the id s is absent, by what the board answers at s
+-- the id s is absent, by what the board returns at s
 absent_by : (s : Stamp) (b : Board) (es : Entries) → Stands b es → all_before s es ≡ true → (x : Option Object) → map_of.get b s ≡ x → x ≡ None
 absent_by s b es stands h None e = refl
 absent_by s b es stands h (Some o) e = absurd (not_before_itself s (present_before s b es stands h s o e).1)

@@ -1,4 +1,4 @@
--- The drawing of a board answers what the board answers, without ranks.
+-- The drawing of a board returns what the board returns, without ranks.
 use Rattle.std.proofs.Common.{◌≡◌, Bool, true, false, cond, ◌&&◌, List, [], ◌∷◌, Option, None, Some, refl, sym, ap, ◌∙◌}
 use Rattle.std.specs.Prelude.{option_map}
 use Rattle.std.specs.FinMap as map_of

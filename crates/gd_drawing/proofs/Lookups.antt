@@ -1,4 +1,4 @@
--- What a board answers after an event, as a function of what it answered before.
+-- What a board returns after an event, as a function of what it returned before.
 use Rattle.std.proofs.Common.{◌≡◌, Bool, true, false, cond, List, [], ◌∷◌, Option, None, Some, refl, sym, ap, ◌∙◌}
 use Rattle.std.specs.Prelude.{is_some, option_map, unwrap_or}
 use Rattle.std.specs.FinMap as map_of
@@ -105,6 +105,6 @@ pub get-apply : (s : Stamp) (op : Op) (b : Board) (q : Stamp) → map_of.get (ap
 unfolding apply
 get-apply s op b q = get-board_with s (form s op) b q
 
--- boards that answer alike are equal
+-- boards that return the same are equal
 pub same_board : (b c : Board) → ((q : Stamp) → map_of.get b q ≡ map_of.get c q) → b ≡ c
 same_board b c alike = map_of.same_map stamp_cmp-total stamp_cmp-IsAntisymmetric b c alike

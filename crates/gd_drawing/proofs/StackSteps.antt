@@ -69,7 +69,7 @@ rank-where : (c : Content) (o : Object) (b : Bool) → keeps_rank c ≡ true →
 rank-where c o true e = rank-put c o e
 rank-where c o false e = refl
 
--- what is answered at a rank after a content went into the object of that id
+-- what is found at a rank after a content went into the object of that id
 set_cell : (c : Content) (rank : Rank) (same : Bool) (x : Option Object) → keeps_rank c ≡ true
     → option_map (λ y. cond same (set_body c y) y) (at_rank rank x) ≡ at_rank rank (cond same (option_map (set c) x) x)
 set_cell c rank false x e = same_body (at_rank rank x)
@@ -78,7 +78,7 @@ set_cell c rank true (Some o) e =
     elim (is_same_rank rank o.rank) as (λ t. option_map (set_body c) (cond t (Some (body o)) None) ≡ cond t (Some (set_body c (body o))) None) [ true ↦ refl | false ↦ refl ]
     ∙ (λ i. cond (is_same_rank rank (sym (rank-where c o (fits c o.kind) e) i)) (Some (sym (body-where c o (fits c o.kind)) i)) None)
 
--- what is answered at a rank after an object was linked
+-- what is found at a rank after an object was linked
 linked_cell : (link : Option Link) (rank : Rank) (x : Option Object) → option_map (linked_body link) (at_rank rank x) ≡ at_rank rank (option_map (linked link) x)
 linked_cell link rank None = refl
 linked_cell None rank (Some o) =
@@ -107,7 +107,7 @@ module _ (s : Stamp) (b : Board) (es : Entries) (stands : Stands b es) (low : al
         later = λ t l. all_before-mapped t f es ∙ all_before-more s t es l low;
       }
 
-  -- what is answered at a rank where one object more stands at the level of the event
+  -- what is found at a rank where one object more stands at the level of the event
   new_cell : (v : Body) (r : Rank) (same_rank same_id : Bool) (y : Option Body) (z : Option Object) → is_same_rank r (top s) ≡ same_rank → y ≡ at_rank r z → (same_id ≡ true → z ≡ None)
       → cond (same_rank && same_id) (Some v) y ≡ at_rank r (cond same_id (Some (ranked v s)) z)
   new_cell v r true true y z e h none = ap (λ t. cond t (Some v) None) (sym e)
@@ -119,7 +119,7 @@ module _ (s : Stamp) (b : Board) (es : Entries) (stands : Stands b es) (low : al
   here_none : map_of.find level_cmp (level (top s) s) es ≡ None
   here_none = stands.found (top s) s ∙ ap (at_rank (top s)) (absent s b es stands low)
 
-  -- nor does the board answer at the event's stamp
+  -- nor does the board return anything at the event's stamp
   id_none : (k : Stamp) (h : Option Object → Option Object) → h None ≡ None → is_same k s ≡ true → h (map_of.get b k) ≡ None
   id_none k h e same = ap (λ i. h (map_of.get b i)) (is_same-true k s same) ∙ ap h (absent s b es stands low) ∙ e
 
@@ -207,7 +207,7 @@ module _ (s : Stamp) (b : Board) (es : Entries) (stands : Stands b es) (low : al
   unfolding rest
   rest_drawn id = drawn-where (λ i. not (is_same id i)) es
 
-  -- what is answered at a rank where the object of that id is gone
+  -- what is found at a rank where the object of that id is gone
   gone_cell : (same : Bool) (r : Rank) (x : Option Object) → cond (not same) (at_rank r x) None ≡ at_rank r (cond same None x)
   gone_cell true r x = refl
   gone_cell false r x = refl
@@ -244,12 +244,12 @@ module _ (s : Stamp) (b : Board) (es : Entries) (stands : Stands b es) (low : al
   unfolding alone
   alone_drawn id = drawn-where (λ i. is_same id i) es
 
-  -- nothing is answered of an absent id
+  -- nothing is found of an absent id
   none_cell : (same : Bool) (r : Rank) (x : Option Object) → (same ≡ true → x ≡ None) → cond same (at_rank r x) None ≡ None
   none_cell true r x h = ap (at_rank r) (h refl)
   none_cell false r x h = refl
 
-  -- what is answered of one object
+  -- what is found of one object
   one_cell : (same_rank same : Bool) (r : Rank) (o : Object) (x : Option Object) → is_same_rank r o.rank ≡ same_rank → (same ≡ true → x ≡ Some o)
       → cond same (at_rank r x) None ≡ cond (same_rank && same) (Some (body o)) None
   one_cell true true r o x e h = ap (at_rank r) (h refl) ∙ ap (λ t. cond t (Some (body o)) None) e
@@ -257,7 +257,7 @@ module _ (s : Stamp) (b : Board) (es : Entries) (stands : Stands b es) (low : al
   one_cell true false r o x e h = refl
   one_cell false false r o x e h = refl
 
-  -- what the board answers at the same id
+  -- what the board returns at the same id
   is_at : (id : Stamp) (x : Option Object) → map_of.get b id ≡ x → (k : Stamp) → is_same k id ≡ true → map_of.get b k ≡ x
   is_at id x e k same = ap (map_of.get b) (is_same-true k id same) ∙ e
 
@@ -274,12 +274,12 @@ module _ (s : Stamp) (b : Board) (es : Entries) (stands : Stands b es) (low : al
       ∙ one_cell (is_same_rank l.rank o.rank) (is_same l.id id) l.rank o (map_of.get b l.id) refl (is_at id (Some o) e l.id)
       ∙ ap (λ t. cond t (Some (body o)) None) (sym (level_test l.rank l.id o.rank id)))
 
-  -- what is answered at a rank after a raise of an absent id
+  -- what is found at a rank after a raise of an absent id
   stay_cell : (same : Bool) (r : Rank) (x : Option Object) → (same ≡ true → x ≡ None) → cond (not same) (at_rank r x) None ≡ at_rank r (cond same (option_map (set (ToRank (top s))) x) x)
   stay_cell true r x h = ap (λ y. at_rank r (option_map (set (ToRank (top s))) y)) (sym (h refl))
   stay_cell false r x h = refl
 
-  -- what is answered at a rank after a raise of an object
+  -- what is found at a rank after a raise of an object
   top_cell : (same_rank same : Bool) (r : Rank) (o : Object) (x : Option Object) → is_same_rank r (top s) ≡ same_rank → (same ≡ true → x ≡ Some o)
       → cond (same_rank && same) (Some (body o)) (cond (not same) (at_rank r x) None) ≡ at_rank r (cond same (option_map (set (ToRank (top s))) x) x)
   top_cell true true r o x e h = ap (λ t. cond t (Some (body o)) None) (sym e) ∙ ap (λ y. at_rank r (option_map (set (ToRank (top s))) y)) (sym (h refl))
@@ -291,7 +291,7 @@ module _ (s : Stamp) (b : Board) (es : Entries) (stands : Stands b es) (low : al
   not_in_rest : (id : Stamp) → map_of.find level_cmp (level (top s) id) (rest id) ≡ None
   not_in_rest id = rest_found id (top s) id ∙ ap (λ t. cond (not t) (at_rank (top s) (map_of.get b id)) None) (is_same-refl id)
 
-  -- a raise, by what the board answers at the id
+  -- a raise, by what the board returns at the id
   raise_by : (id : Stamp) (x : Option Object) → map_of.get b id ≡ x → Step s (board_with s (Sets id (ToRank (top s))) b) (to_top id (without_ranks es))
   raise_by id None e =
       record {

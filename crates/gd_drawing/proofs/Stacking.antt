@@ -89,7 +89,7 @@ pub of_t : (b : Bool) → T b → b ≡ true
 of_t true h = refl
 of_t false h = absurd h
 
--- ---- what the stack of a board answers
+-- ---- what the stack of a board returns
 
 -- the object's body, where that is its rank
 abbrev pub at_rank : Rank → Option Object → Option Body
@@ -119,7 +119,7 @@ find-levels (e ∷ es) h rank id =
     ∙ level_step (is_same_rank rank e.1.rank) (is_same id e.0) e.1 rank (map_of.find stamp_cmp id es) refl
     (λ t. not_found id es (subst (λ i. T (below_all stamp_cmp i es)) (sym (is_same-true id e.0 t)) (t_first _ _ h)))
 
--- the stack of a board answers with the object of that id, where it has that rank
+-- the stack of a board returns with the object of that id, where it has that rank
 pub get-stack : (b : Board) (rank : Rank) (id : Stamp) → map_of.get (stack b) (level rank id) ≡ at_rank rank (map_of.get b id)
 unfolding stack
 get-stack b rank id =

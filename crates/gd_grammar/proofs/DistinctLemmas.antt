@@ -97,7 +97,7 @@ record-above n seen bytes x e = by (in_log (event_at bytes)) e where
       turn-above n seen x.0 (ap (λ (z : Event × List ℕ). turn_fault n seen z.0) (sym parts.1) ∙ parts.0)
   by (Err f) q = absurd cc
 
--- what a step answers
+-- what a step returns
 abbrev Step : Type 0
 Step = Result (Option (Event × List ℕ)) LogMisread
 
@@ -120,14 +120,14 @@ step-above n seen (b ∷ bytes) x e = behind-above (eqb b gate) n seen bytes x e
 
 -- ---- the steps of the log
 
--- the events that are the answer are these
+-- the events that are returned are these
 distinct-end : (seen events : List Event) (r : Result (List Event) LogMisread) → r ≡ Ok seen → r ≡ Ok events → are_distinct seen ≡ true → are_distinct events ≡ true
 distinct-end seen events r q e apart =
     let all : Ok seen ≡ r = sym q in
     let same : seen ≡ events = cc in
     ap are_distinct (sym same) ∙ apart
 
--- by what one step answers, where all further ones keep the stamps distinct
+-- by what one step returns, where all further ones keep the stamps distinct
 distinct-step : (k n : ℕ) (seen events : List Event) (bytes : List ℕ) (s : Step) → step_at n seen bytes ≡ s → are_distinct seen ≡ true → events_at (suc k) n seen bytes ≡ Ok events
     → ((x : Event × List ℕ) → last_clock x.0.stamp.site seen < x.0.stamp.clock → events_at k n (seen ++ x.0 ∷ []) x.1 ≡ Ok events → are_distinct events ≡ true) → are_distinct events ≡ true
 distinct-step k n seen events bytes (Ok None) q apart e further = distinct-end seen events _ (events-none k n seen bytes q) e apart

@@ -54,7 +54,7 @@ pub fn what_is_spelled_is_read_as_a_frame()
 pub fn nothing_follows_a_frame()
     ensures { (f : Frame) (b : ℕ) (rest : List ℕ) → IsFrame f
         → frame (frame_bytes f ++ b ∷ rest)
-            ≡ Err (record { why = Trailing; left = length (b ∷ rest) }) }
+        ≡ Err (record { why = Trailing; left = length (b ∷ rest) }) }
 {}
 
 /// What is read as a frame is sound, and was spelled so.

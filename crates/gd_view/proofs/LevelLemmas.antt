@@ -44,7 +44,7 @@ slot_levels (e ∷ es) = entry_of e.0 e.1 (slot_levels es)
 abbrev pub item_at_level : Board → Level → Option Item
 item_at_level b q = item_of (listed b) q.id (option_map body (map_of.get b q.id))
 
--- ---- what the gathered levels answer
+-- ---- what the gathered levels return
 
 -- an id without a slot has no object
 pub apart_none : (id : Stamp) (es : Slots) → AllByRecursion (λ y. is_same id y ≡ false) (ids es) → map_of.get (board_of es) id ≡ None
