@@ -31,15 +31,8 @@ is_in_range (Raise id) = true
 
 -- a group has at least 2 members
 abbrev pub has_members : Op → Bool
-has_members (Create kind x y w h label) = true
-has_members (Delete id) = true
-has_members (Move id x y) = true
-has_members (Resize id w h) = true
-has_members (Restyle id style) = true
-has_members (Retext id label) = true
 has_members (Group members) = nat_le 2 (length members)
-has_members (Ungroup id) = true
-has_members (Raise id) = true
+has_members other = true
 
 abbrev pub is_member_before : Stamp → Member → Bool
 is_member_before stamp m = is_before m.id stamp
@@ -68,15 +61,8 @@ rise_above last (m ∷ ms) = is_above last m.id && rise_above (Some m.id) ms
 
 -- the ids of a group's members rise strictly
 abbrev pub has_rising_members : Op → Bool
-has_rising_members (Create kind x y w h label) = true
-has_rising_members (Delete id) = true
-has_rising_members (Move id x y) = true
-has_rising_members (Resize id w h) = true
-has_rising_members (Restyle id style) = true
-has_rising_members (Retext id label) = true
 has_rising_members (Group members) = rise_above None members
-has_rising_members (Ungroup id) = true
-has_rising_members (Raise id) = true
+has_rising_members other = true
 
 -- the first rule that the event breaks, if it breaks one
 abbrev pub event_fault : Event → Option EventFault

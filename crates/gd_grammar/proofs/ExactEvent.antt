@@ -8,20 +8,20 @@ use Rattle.gd_events.specs.declared.op.Op.TheVariants.{Create, Delete, Move, Res
 use Rattle.gd_events.specs.Events.{Event}
 use Rattle.gd_events.specs.Sound.{IsSound}
 use Rattle.gd_grammar.specs.Reading.{Reads}
-use Rattle.gd_grammar.specs.EventBytes.{create_at, delete_at, move_at, resize_at, restyle_at, retext_at, group_at, ungroup_at, raise_at, op_at, event_at}
+use Rattle.gd_grammar.specs.EventBytes.{create_at, lone_at, move_at, resize_at, restyle_at, retext_at, group_at, op_at, event_at}
 use Rattle.gd_grammar.specs.Fields.{byte_at, stamp_at, number_at}
 use Rattle.gd_grammar.specs.Spelling.{style_bytes, members_bytes, op_bytes, spelling}
-use Rattle.gd_grammar.specs.FieldBytes.{AreBytes, signed_bytes, label_bytes}
+use Rattle.gd_grammar.specs.FieldBytes.{AreBytes, stamp_bytes, signed_bytes, label_bytes}
 use Rattle.gd_grammar.proofs.Steady.{read_of}
 use Rattle.gd_grammar.proofs.SteadyFields.{Steady-event}
 use Rattle.gd_grammar.proofs.Exact.{Took, Exact, Runs, joined, spelt, step, taking, done, ok_is, on_tag}
-use Rattle.gd_grammar.proofs.SoundFields.{IsOp, HasSoundFields, sound-fields, fields-sound}
+use Rattle.gd_grammar.proofs.SoundFields.{IsId, IsOp, HasSoundFields, sound-fields, fields-sound}
 use Rattle.gd_grammar.proofs.ExactFields.{exact_byte, exact_stamp, exact_number, exact_id, exact_shape, exact_label, exact_style, exact_place, exact_size, exact_count, exact_members, tag_is, no_tag}
 
 -- ---- operations
 
 op-written : (stamp : Stamp) (op : Op) (rest : List ℕ) → IsOp stamp op → op_at stamp (op_bytes op ++ rest) ≡ Ok (op, rest)
-unfolding op_at byte_at create_at delete_at move_at resize_at restyle_at retext_at group_at ungroup_at raise_at
+unfolding op_at byte_at create_at move_at resize_at restyle_at retext_at group_at lone_at
 op-written stamp (Create kind x y w h label) rest s =
     rw (
       exact_shape.written kind (signed_bytes x ++ signed_bytes y ++ signed_bytes w ++ signed_bytes h ++ label_bytes label ++ rest) tt,
@@ -64,11 +64,13 @@ create-taken stamp whole bytes z are tag e =
       text = joined (joined (joined (joined (joined (joined tag kind.text) x.text) y.text) w.text) h.text) label.text;
     })))))))
 
-delete-taken : (stamp : Stamp) → Tagged stamp 2 (delete_at stamp)
-unfolding delete_at
-delete-taken stamp whole bytes z are tag e =
+-- of an operation of an id alone
+lone-taken : (stamp : Stamp) (tag : ℕ) (op : Stamp → Op) → ((id : Stamp) → op_bytes (op id) ≡ tag ∷ stamp_bytes id) → ((id : Stamp) → IsId stamp id → IsOp stamp (op id))
+    → Tagged stamp tag (lone_at op stamp)
+unfolding lone_at
+lone-taken stamp tag op text is whole bytes z are tagged e =
     taking (exact_id stamp) bytes are _ z e (λ id.
-    done _ z id.on (record { sound = id.sound; text = joined tag id.text }))
+    done _ z id.on (record { sound = is id.value id.sound; text = spelt (joined tagged id.text) (sym (text id.value)) }))
 
 move-taken : (stamp : Stamp) → Tagged stamp 3 (move_at stamp)
 unfolding move_at
@@ -110,18 +112,6 @@ group-taken stamp whole bytes z are tag e =
       text = spelt (joined (joined tag count.text) members.text) (ap (λ (n : ℕ). 7 ∷ n ∷ members_bytes members.value) (sym members.sound.long));
     })))
 
-ungroup-taken : (stamp : Stamp) → Tagged stamp 8 (ungroup_at stamp)
-unfolding ungroup_at
-ungroup-taken stamp whole bytes z are tag e =
-    taking (exact_id stamp) bytes are _ z e (λ id.
-    done _ z id.on (record { sound = id.sound; text = joined tag id.text }))
-
-raise-taken : (stamp : Stamp) → Tagged stamp 9 (raise_at stamp)
-unfolding raise_at
-raise-taken stamp whole bytes z are tag e =
-    taking (exact_id stamp) bytes are _ z e (λ id.
-    done _ z id.on (record { sound = id.sound; text = joined tag id.text }))
-
 exact_op : (stamp : Stamp) → Exact (op_at stamp) (IsOp stamp) op_bytes
 unfolding op_at
 exact_op stamp = record {
@@ -129,14 +119,14 @@ exact_op stamp = record {
   taken = λ bytes z are e.
       let tag = step exact_byte bytes are _ z e in
       on_tag tag.value 1 _ _ z tag.on (λ is. create-taken stamp bytes tag.rest z tag.left (tag_is _ 1 tag.text is)) (λ e2.
-      on_tag tag.value 2 _ _ z e2 (λ is. delete-taken stamp bytes tag.rest z tag.left (tag_is _ 2 tag.text is)) (λ e3.
+      on_tag tag.value 2 _ _ z e2 (λ is. lone-taken stamp 2 Delete (λ id. refl) (λ id s. s) bytes tag.rest z tag.left (tag_is _ 2 tag.text is)) (λ e3.
       on_tag tag.value 3 _ _ z e3 (λ is. move-taken stamp bytes tag.rest z tag.left (tag_is _ 3 tag.text is)) (λ e4.
       on_tag tag.value 4 _ _ z e4 (λ is. resize-taken stamp bytes tag.rest z tag.left (tag_is _ 4 tag.text is)) (λ e5.
       on_tag tag.value 5 _ _ z e5 (λ is. restyle-taken stamp bytes tag.rest z tag.left (tag_is _ 5 tag.text is)) (λ e6.
       on_tag tag.value 6 _ _ z e6 (λ is. retext-taken stamp bytes tag.rest z tag.left (tag_is _ 6 tag.text is)) (λ e7.
       on_tag tag.value 7 _ _ z e7 (λ is. group-taken stamp bytes tag.rest z tag.left (tag_is _ 7 tag.text is)) (λ e8.
-      on_tag tag.value 8 _ _ z e8 (λ is. ungroup-taken stamp bytes tag.rest z tag.left (tag_is _ 8 tag.text is)) (λ e9.
-      on_tag tag.value 9 _ _ z e9 (λ is. raise-taken stamp bytes tag.rest z tag.left (tag_is _ 9 tag.text is)) (λ none. no_tag _ z none)))))))));
+      on_tag tag.value 8 _ _ z e8 (λ is. lone-taken stamp 8 Ungroup (λ id. refl) (λ id s. s) bytes tag.rest z tag.left (tag_is _ 8 tag.text is)) (λ e9.
+      on_tag tag.value 9 _ _ z e9 (λ is. lone-taken stamp 9 Raise (λ id. refl) (λ id s. s) bytes tag.rest z tag.left (tag_is _ 9 tag.text is)) (λ none. no_tag _ z none)))))))));
 }
 
 -- ---- events

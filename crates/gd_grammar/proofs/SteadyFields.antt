@@ -12,11 +12,12 @@ use Rattle.gd_base.specs.declared.shape.Shape.TheVariants.{Rect, Ellipse, Line, 
 use Rattle.gd_base.specs.declared.style.Style.TheVariants.{Stroke, Fill, Width}
 use Rattle.gd_base.specs.Stamps.{Stamp, is_before}
 use Rattle.gd_base.specs.Labels.{most_label, is_plain}
+use Rattle.gd_events.specs.declared.op.Op.{Op}
 use Rattle.gd_events.specs.declared.op.Op.TheVariants.{Create, Delete, Move, Resize, Restyle, Retext, Group, Ungroup, Raise}
 use Rattle.gd_events.specs.Sound.{is_above}
 use Rattle.gd_base.specs.Results.{◌>>=◌}
 use Rattle.gd_grammar.specs.Reading.{Reads, fault_at, short, bytes_at, ranged}
-use Rattle.gd_grammar.specs.EventBytes.{shape_at, label_at, colour_at, fill_at, width_at, stroke_style_at, fill_style_at, width_style_at, style_at, create_at, delete_at, move_at, resize_at, restyle_at, retext_at, member_count_at, member_id_at, member_at, members_at, group_at, ungroup_at, raise_at, op_at, event_at}
+use Rattle.gd_grammar.specs.EventBytes.{shape_at, label_at, colour_at, fill_at, width_at, stroke_style_at, fill_style_at, width_style_at, style_at, create_at, lone_at, move_at, resize_at, restyle_at, retext_at, member_count_at, member_id_at, member_at, members_at, group_at, op_at, event_at}
 use Rattle.gd_grammar.specs.Fields.{byte_at, clock_at, site_at, stamp_at, id_at, number_at, signed_at, word_at, label_within}
 use Rattle.gd_base.specs.Ranges.{place_limit, size_limit, is_within, is_colour, is_width}
 use Rattle.gd_grammar.specs.LogBytes.{magic, magic_at, version_at, session_at, sites_at, header_at}
@@ -152,13 +153,9 @@ Steady-create = Steady-then 1 81 shape_at (λ kind _ b0. signed_at place_limit b
     (Steady-then 4 65 (signed_at size_limit) (λ h _ b4. label_at b4 >>= λ label. Ok (Create kind x y w h label.0, label.1)) (Steady-signed size_limit) (λ h. behind 65 _
     (Steady-then 65 0 label_at (λ label _ b5. Ok (Create kind x y w h label, b5)) Steady-label (λ label. done 0 _)))))))))))
 
-pub Steady-delete : (stamp : Stamp) → Steady 7 (delete_at stamp)
-unfolding delete_at
-Steady-delete stamp = Steady-then 7 0 (id_at stamp) (λ id _ rest. Ok (Delete id, rest)) (Steady-id stamp) (λ id. done 0 _)
-
-pub Steady-raise : (stamp : Stamp) → Steady 7 (raise_at stamp)
-unfolding raise_at
-Steady-raise stamp = Steady-then 7 0 (id_at stamp) (λ id _ rest. Ok (Raise id, rest)) (Steady-id stamp) (λ id. done 0 _)
+pub Steady-lone : (op : Stamp → Op) (stamp : Stamp) → Steady 7 (lone_at op stamp)
+unfolding lone_at
+Steady-lone op stamp = Steady-then 7 0 (id_at stamp) (λ id _ rest. Ok (op id, rest)) (Steady-id stamp) (λ id. done 0 _)
 
 pub Steady-move : (stamp : Stamp) → Steady 15 (move_at stamp)
 unfolding move_at
@@ -215,18 +212,14 @@ Steady-group stamp = Steady-then-where (λ count. count ≤ 32) 1 480 member_cou
     (Steady-weaken (15 * count + 0) 480 _ (omega arith)
     (Steady-then (15 * count) 0 (members_at count stamp None) (λ members _ b1. Ok (Group members, b1)) (Steady-members count stamp None) (λ members. done 0 _))))
 
-pub Steady-ungroup : (stamp : Stamp) → Steady 7 (ungroup_at stamp)
-unfolding ungroup_at
-Steady-ungroup stamp = Steady-then 7 0 (id_at stamp) (λ id _ rest. Ok (Ungroup id, rest)) (Steady-id stamp) (λ id. done 0 _)
-
 -- ---- operations and events
 
 pub Steady-op : (stamp : Stamp) → Steady 482 (op_at stamp)
 unfolding op_at
-Steady-op stamp = Steady-then 1 481 byte_at (λ tag bytes rest. cond (tag == 1) (create_at rest) (cond (tag == 2) (delete_at stamp rest) (cond (tag == 3) (move_at stamp rest) (cond (tag == 4) (resize_at stamp rest) (cond (tag == 5) (restyle_at stamp rest) (cond (tag == 6) (retext_at stamp rest) (cond (tag == 7) (group_at stamp rest) (cond (tag == 8) (ungroup_at stamp rest) (cond (tag == 9) (raise_at stamp rest) (Err (fault_at Field bytes))))))))))) Steady-byte
-    (λ tag. either (tag == 1) (λ _. behind 481 _ (Steady-weaken 82 481 _ (omega arith) Steady-create)) (λ _. either (tag == 2) (λ _. behind 481 _ (Steady-weaken 7 481 _ (omega arith) (Steady-delete stamp))) (λ _. either (tag == 3) (λ _. behind 481 _ (Steady-weaken 15 481 _ (omega arith) (Steady-move stamp)))
+Steady-op stamp = Steady-then 1 481 byte_at (λ tag bytes rest. cond (tag == 1) (create_at rest) (cond (tag == 2) (lone_at Delete stamp rest) (cond (tag == 3) (move_at stamp rest) (cond (tag == 4) (resize_at stamp rest) (cond (tag == 5) (restyle_at stamp rest) (cond (tag == 6) (retext_at stamp rest) (cond (tag == 7) (group_at stamp rest) (cond (tag == 8) (lone_at Ungroup stamp rest) (cond (tag == 9) (lone_at Raise stamp rest) (Err (fault_at Field bytes))))))))))) Steady-byte
+    (λ tag. either (tag == 1) (λ _. behind 481 _ (Steady-weaken 82 481 _ (omega arith) Steady-create)) (λ _. either (tag == 2) (λ _. behind 481 _ (Steady-weaken 7 481 _ (omega arith) (Steady-lone Delete stamp))) (λ _. either (tag == 3) (λ _. behind 481 _ (Steady-weaken 15 481 _ (omega arith) (Steady-move stamp)))
     (λ _. either (tag == 4) (λ _. behind 481 _ (Steady-weaken 15 481 _ (omega arith) (Steady-resize stamp))) (λ _. either (tag == 5) (λ _. behind 481 _ (Steady-weaken 12 481 _ (omega arith) (Steady-restyle stamp))) (λ _. either (tag == 6) (λ _. behind 481 _ (Steady-weaken 72 481 _ (omega arith) (Steady-retext stamp)))
-    (λ _. either (tag == 7) (λ _. behind 481 _ (Steady-group stamp)) (λ _. either (tag == 8) (λ _. behind 481 _ (Steady-weaken 7 481 _ (omega arith) (Steady-ungroup stamp))) (λ _. either (tag == 9) (λ _. behind 481 _ (Steady-weaken 7 481 _ (omega arith) (Steady-raise stamp))) (λ _. fault_there 481 Field field_ne))))))))))
+    (λ _. either (tag == 7) (λ _. behind 481 _ (Steady-group stamp)) (λ _. either (tag == 8) (λ _. behind 481 _ (Steady-weaken 7 481 _ (omega arith) (Steady-lone Ungroup stamp))) (λ _. either (tag == 9) (λ _. behind 481 _ (Steady-weaken 7 481 _ (omega arith) (Steady-lone Raise stamp))) (λ _. fault_there 481 Field field_ne))))))))))
 
 pub Steady-event : Steady 491 event_at
 unfolding event_at

@@ -82,10 +82,11 @@ create_at bytes = do
   label ← label_at h.1
   Ok (Create kind.0 x.0 y.0 w.0 h.0 label.0, label.1)
 
-unfoldable pub delete_at : Stamp → List ℕ → Reads Op
-delete_at stamp bytes = do
+-- an operation of an id alone
+unfoldable pub lone_at : (Stamp → Op) → Stamp → List ℕ → Reads Op
+lone_at op stamp bytes = do
   id ← id_at stamp bytes
-  Ok (Delete id.0, id.1)
+  Ok (op id.0, id.1)
 
 unfoldable pub move_at : Stamp → List ℕ → Reads Op
 move_at stamp bytes = do
@@ -142,29 +143,19 @@ group_at stamp bytes = do
   members ← members_at count.0 stamp None count.1
   Ok (Group members.0, members.1)
 
-unfoldable pub ungroup_at : Stamp → List ℕ → Reads Op
-ungroup_at stamp bytes = do
-  id ← id_at stamp bytes
-  Ok (Ungroup id.0, id.1)
-
-unfoldable pub raise_at : Stamp → List ℕ → Reads Op
-raise_at stamp bytes = do
-  id ← id_at stamp bytes
-  Ok (Raise id.0, id.1)
-
 -- a tag, and the body by the tag
 unfoldable pub op_at : Stamp → List ℕ → Reads Op
 op_at stamp bytes = do
   tag ← byte_at bytes
   if tag.0 == 1 then create_at tag.1
-      else if tag.0 == 2 then delete_at stamp tag.1
+      else if tag.0 == 2 then lone_at Delete stamp tag.1
       else if tag.0 == 3 then move_at stamp tag.1
       else if tag.0 == 4 then resize_at stamp tag.1
       else if tag.0 == 5 then restyle_at stamp tag.1
       else if tag.0 == 6 then retext_at stamp tag.1
       else if tag.0 == 7 then group_at stamp tag.1
-      else if tag.0 == 8 then ungroup_at stamp tag.1
-      else if tag.0 == 9 then raise_at stamp tag.1
+      else if tag.0 == 8 then lone_at Ungroup stamp tag.1
+      else if tag.0 == 9 then lone_at Raise stamp tag.1
       else Err (fault_at Field bytes)
 
 unfoldable pub event_at : List ℕ → Reads Event
