@@ -8,14 +8,11 @@ use Rattle.gd_model.specs.declared.form.Form.{Form}
 use Rattle.gd_model.specs.declared.form.Form.TheVariants.{Sets, Creates, Deletes}
 use Rattle.gd_model.specs.Forms.{form}
 use Rattle.gd_model.specs.Relations.{Touch, link_touch, meets, misses, touches, independent, covers_by}
-use Rattle.gd_canvas.specs.Aims.{aim_of, first_touch, members_of, aim_covers}
+use Rattle.gd_canvas.specs.Aims.{aim_of, touch_of, members_of, aim_covers}
 
 all-mapped : {A B : Type 0} (p : B → Bool) (f : A → B) (xs : List A) → list_all (λ x. p (f x)) xs ≡ list_all p (map f xs)
 all-mapped p f [] = refl
 all-mapped p f (x ∷ xs) = ap (λ b. p (f x) && b) (all-mapped p f xs)
-
-abbrev touch_of : Stamp → Op → Touch
-touch_of stamp op = first_touch (aim_of stamp (form stamp op))
 
 -- an operation touches its first touch and the links of its members
 touches-parts : (stamp : Stamp) (op : Op) → touches stamp op ≡ touch_of stamp op ∷ map link_touch (members_of op)

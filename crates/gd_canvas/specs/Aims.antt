@@ -7,6 +7,7 @@ use Rattle.gd_events.specs.declared.op.Op.TheVariants.{Group}
 use Rattle.gd_model.specs.declared.content.Part.TheVariants as part
 use Rattle.gd_model.specs.declared.form.Form.{Form}
 use Rattle.gd_model.specs.declared.form.Form.TheVariants.{Sets, Creates, Deletes, Groups}
+use Rattle.gd_model.specs.Forms.{form}
 use Rattle.gd_model.specs.Objects.{part_of, is_same_part}
 use Rattle.gd_model.specs.Relations.{Touch}
 use Rattle.gd_canvas.specs.declared.forms.Aim.{Aim}
@@ -25,6 +26,10 @@ first_touch (aim.Sets id p) = (id, p)
 first_touch (aim.Creates id) = (id, part.Whole)
 first_touch (aim.Deletes id) = (id, part.Whole)
 first_touch (aim.Groups id) = (id, part.Whole)
+
+-- the same of an operation at that stamp
+abbrev pub touch_of : Stamp → Op → Touch
+touch_of stamp op = first_touch (aim_of stamp (form stamp op))
 
 -- the members of a new group
 abbrev pub members_of : Op → List Member

@@ -1,12 +1,12 @@
-//! Operations by their four forms, as the definitions go by them. An operation is an arm here in each of two functions, and
-//! nothing elsewhere in this crate.
+//! Operations by their four forms, as the definitions go by them. An operation is an arm here in each of three functions,
+//! and nothing elsewhere in this crate.
 ghost use Rattle.std.specs.Prelude.{◌≡◌};
 ghost use Rattle.gd_model.specs.Forms.{form, styled};
 ghost use Rattle.gd_model.specs.Objects.{part_of};
-ghost use Rattle.gd_canvas.specs.Aims.{aim_of, first_touch, members_of};
+ghost use Rattle.gd_canvas.specs.Aims.{aim_of, touch_of};
 
 use crate::new_objects;
-use gd_base::{Member, Stamp, Style};
+use gd_base::{Stamp, Style};
 use gd_events::Op;
 use gd_model::{Content, Form, Part, Rank};
 
@@ -61,29 +61,28 @@ pub fn aim_of(stamp: Stamp, op: &Op) -> Aim
     }
 }
 
-/// The members of a new group. No other operation has any.
-pub fn members_of(op: &Op) -> &[Member]
-    ensures { result.now ≡ members_of op.now }
+/// The object that an operation at that stamp names or makes.
+pub fn object_of(stamp: Stamp, op: &Op) -> Stamp
+    ensures { result ≡ (touch_of stamp op.now).0 }
 {
     match op {
-        Op::Group { members } => members.as_slice(),
-        _ => &[],
+        Op::Create { .. } | Op::Group { .. } => stamp,
+        Op::Delete { id }
+        | Op::Move { id, .. }
+        | Op::Resize { id, .. }
+        | Op::Restyle { id, .. }
+        | Op::Retext { id, .. }
+        | Op::Ungroup { id }
+        | Op::Raise { id } => *id,
     }
 }
 
-pub fn object_of(aim: &Aim) -> Stamp
-    ensures { result ≡ (first_touch aim.now).0 }
+/// The part of that object that it touches.
+pub fn part_of(stamp: Stamp, op: &Op) -> Part
+    ensures { result ≡ (touch_of stamp op.now).1 }
 {
-    match aim {
-        Aim::Sets(id, _) | Aim::Creates(id) | Aim::Deletes(id) | Aim::Groups(id) => *id,
-    }
-}
-
-pub fn part_of(aim: &Aim) -> Part
-    ensures { result ≡ (first_touch aim.now).1 }
-{
-    match aim {
-        Aim::Sets(_, part) => *part,
+    match aim_of(stamp, op) {
+        Aim::Sets(_, part) => part,
         Aim::Creates(_) | Aim::Deletes(_) | Aim::Groups(_) => Part::Whole,
     }
 }

@@ -4,10 +4,10 @@ ghost use Rattle.std.specs.Prelude.{◌≡◌, ◌||◌, not};
 ghost use Rattle.std.specs.List.{list_all};
 ghost use Rattle.gd_model.specs.Objects.{is_same_part};
 ghost use Rattle.gd_model.specs.Relations.{link_touch, meets, misses, touches, independent, covers};
-ghost use Rattle.gd_canvas.specs.Aims.{first_touch, members_of, aim_covers};
+ghost use Rattle.gd_canvas.specs.Aims.{touch_of, members_of, aim_covers};
 
 use crate::contents::part_number;
-use crate::forms::{Aim, aim_of, members_of, object_of, part_of};
+use crate::forms::{Aim, aim_of, object_of, part_of};
 use gd_base::Stamp;
 use gd_events::Op;
 use gd_model::Part;
@@ -17,12 +17,10 @@ use gd_model::Part;
 pub fn independent(s: Stamp, e: &Op, t: Stamp, f: &Op) -> bool
     ensures { result ≡ independent s e.now t f.now }
 {
-    let aim = aim_of(s, e);
-    let other = aim_of(t, f);
-    if first_meets(&aim, &other) {
+    if first_meets(s, e, t, f) {
         return false;
     }
-    if !misses_links(object_of(&aim), part_of(&aim), f) {
+    if !first_misses_links(s, e, f) {
         return false;
     }
     links_miss(e, t, f)
@@ -54,27 +52,41 @@ fn aim_covers(later: &Aim, earlier: &Aim) -> bool
 }
 
 /// Whether the first touches meet.
-fn first_meets(aim: &Aim, other: &Aim) -> bool
-    ensures { result ≡ meets (first_touch aim.now) (first_touch other.now) }
+fn first_meets(s: Stamp, e: &Op, t: Stamp, f: &Op) -> bool
+    ensures { result ≡ meets (touch_of s e.now) (touch_of t f.now) }
 {
-    object_of(aim).is_same(object_of(other)) && parts_meet(part_of(aim), part_of(other))
+    object_of(s, e).is_same(object_of(t, f)) && parts_meet(part_of(s, e), part_of(t, f))
 }
 
 /// Whether the touch meets none of `f`'s.
 fn misses(id: Stamp, part: Part, t: Stamp, f: &Op) -> bool
     ensures { result ≡ misses (touches t f.now) (id, part) }
 {
-    let other = aim_of(t, f);
-    !meets(id, part, object_of(&other), part_of(&other)) && misses_links(id, part, f)
+    !meets(id, part, object_of(t, f), part_of(t, f)) && misses_links(id, part, f)
+}
+
+/// Whether the first touch of `e` meets no link of the members of `f`.
+fn first_misses_links(s: Stamp, e: &Op, f: &Op) -> bool
+    ensures { result
+        ≡ list_all (λ m. not (meets (touch_of s e.now) (link_touch m))) (members_of f.now) }
+{
+    match f {
+        Op::Group { .. } => misses_links(object_of(s, e), part_of(s, e), f),
+        _ => true,
+    }
 }
 
 /// Whether the touch meets no link of a group's members.
 fn misses_links(id: Stamp, part: Part, f: &Op) -> bool
     ensures { result ≡ list_all (λ m. not (meets (id, part) (link_touch m))) (members_of f.now) }
 {
-    members_of(f)
-        .iter()
-        .all(|member| !meets(id, part, member.id, Part::Link))
+    match f {
+        Op::Group { members } => members
+            .as_slice()
+            .iter()
+            .all(|member| !meets(id, part, member.id, Part::Link)),
+        _ => true,
+    }
 }
 
 /// Whether no link of a group's members is met by a touch of `f`.
@@ -82,9 +94,13 @@ fn links_miss(e: &Op, t: Stamp, f: &Op) -> bool
     ensures { result
         ≡ list_all (λ m. misses (touches t f.now) (link_touch m)) (members_of e.now) }
 {
-    members_of(e)
-        .iter()
-        .all(|member| misses(member.id, Part::Link, t, f))
+    match e {
+        Op::Group { members } => members
+            .as_slice()
+            .iter()
+            .all(|member| misses(member.id, Part::Link, t, f)),
+        _ => true,
+    }
 }
 
 /// Whether both touches are of one object, and of parts that meet.
