@@ -21,6 +21,8 @@ pub enum Aim {
 }
 
 /// The form of an operation at that stamp. Labels and members are copied.
+// Inlined, a form is never put together: it has room for a whole group.
+#[inline(always)]
 pub fn form_of(stamp: Stamp, op: &Op) -> Form
     ensures { result ≡ form stamp op.now }
 {
