@@ -1,5 +1,5 @@
 //! Operations by their four forms, as the definitions go by them. An operation is an arm here in each of three functions,
-//! and nothing elsewhere in this crate.
+//! and one where it is applied.
 ghost use Rattle.std.specs.Prelude.{◌≡◌};
 ghost use Rattle.gd_model.specs.Forms.{form, styled};
 ghost use Rattle.gd_model.specs.Objects.{part_of};
@@ -21,8 +21,6 @@ pub enum Aim {
 }
 
 /// The form of an operation at that stamp. Labels and members are copied.
-// Inlined, a form is never put together: it has room for a whole group.
-#[inline(always)]
 pub fn form_of(stamp: Stamp, op: &Op) -> Form
     ensures { result ≡ form stamp op.now }
 {
@@ -90,7 +88,7 @@ pub fn part_of(stamp: Stamp, op: &Op) -> Part
 }
 
 /// What a restyle sets.
-fn styled(style: Style) -> Content
+pub fn styled(style: Style) -> Content
     ensures { result ≡ styled style }
 {
     match style {
