@@ -164,29 +164,20 @@ op-fields stamp (Group members) typed k = record {
 op-fields stamp (Ungroup id) typed k = record { is_stamp = typed; before = k.before }
 op-fields stamp (Raise id) typed k = record { is_stamp = typed; before = k.before }
 
-op-typed : (stamp : Stamp) (op : Op) → IsOp stamp op → IsWellTyped op
-op-typed stamp (Create kind x y w h label) s = s.label
-op-typed stamp (Delete id) s = s.is_stamp
-op-typed stamp (Move id x y) s = s.0.is_stamp
-op-typed stamp (Resize id w h) s = s.0.is_stamp
-op-typed stamp (Restyle id style) s = s.0.is_stamp
-op-typed stamp (Retext id label) s = (s.0.is_stamp, s.1)
-op-typed stamp (Group members) s = (leb-true (length members) 32 (and_parts (nat_le 2 (length members)) (nat_le (length members) 32) s.count).1, (members-keep stamp None members s.members).stamped)
-op-typed stamp (Ungroup id) s = s.is_stamp
-op-typed stamp (Raise id) s = s.is_stamp
-
-op-keeps : (stamp : Stamp) (op : Op) → IsOp stamp op → KeepsRules stamp op
-op-keeps stamp (Create kind x y w h label) s = record { ranges = and_from _ _ s.left.within (and_from _ _ s.top.within (and_from _ _ s.width.within s.height.within)); members = refl; before = refl; rising = refl }
-op-keeps stamp (Delete id) s = record { ranges = refl; members = refl; before = s.before; rising = refl }
-op-keeps stamp (Move id x y) s = record { ranges = and_from _ _ s.1.within s.2.within; members = refl; before = s.0.before; rising = refl }
-op-keeps stamp (Resize id w h) s = record { ranges = and_from _ _ s.1.within s.2.within; members = refl; before = s.0.before; rising = refl }
-op-keeps stamp (Restyle id style) s = record { ranges = s.1.within; members = refl; before = s.0.before; rising = refl }
-op-keeps stamp (Retext id label) s = record { ranges = refl; members = refl; before = s.0.before; rising = refl }
-op-keeps stamp (Group members) s =
+op-back : (stamp : Stamp) (op : Op) → IsOp stamp op → IsWellTyped op × KeepsRules stamp op
+op-back stamp (Create kind x y w h label) s =
+    (s.label, record { ranges = and_from _ _ s.left.within (and_from _ _ s.top.within (and_from _ _ s.width.within s.height.within)); members = refl; before = refl; rising = refl })
+op-back stamp (Delete id) s = (s.is_stamp, record { ranges = refl; members = refl; before = s.before; rising = refl })
+op-back stamp (Move id x y) s = (s.0.is_stamp, record { ranges = and_from _ _ s.1.within s.2.within; members = refl; before = s.0.before; rising = refl })
+op-back stamp (Resize id w h) s = (s.0.is_stamp, record { ranges = and_from _ _ s.1.within s.2.within; members = refl; before = s.0.before; rising = refl })
+op-back stamp (Restyle id style) s = (s.0.is_stamp, record { ranges = s.1.within; members = refl; before = s.0.before; rising = refl })
+op-back stamp (Retext id label) s = ((s.0.is_stamp, s.1), record { ranges = refl; members = refl; before = s.0.before; rising = refl })
+op-back stamp (Group members) s =
     let k = members-keep stamp None members s.members in
-    record { ranges = k.shifts; members = (and_parts (nat_le 2 (length members)) (nat_le (length members) 32) s.count).0; before = k.before; rising = k.rising }
-op-keeps stamp (Ungroup id) s = record { ranges = refl; members = refl; before = s.before; rising = refl }
-op-keeps stamp (Raise id) s = record { ranges = refl; members = refl; before = s.before; rising = refl }
+    let count = and_parts (nat_le 2 (length members)) (nat_le (length members) 32) s.count in
+    ((leb-true (length members) 32 count.1, k.stamped), record { ranges = k.shifts; members = count.0; before = k.before; rising = k.rising })
+op-back stamp (Ungroup id) s = (s.is_stamp, record { ranges = refl; members = refl; before = s.before; rising = refl })
+op-back stamp (Raise id) s = (s.is_stamp, record { ranges = refl; members = refl; before = s.before; rising = refl })
 
 -- ---- events
 
@@ -231,12 +222,13 @@ sound-fields e s =
 -- and an event of sound fields is sound
 pub fields-sound : (e : Event) → HasSoundFields e → IsSound e
 fields-sound e s =
-    let k = op-keeps e.stamp e.op s.op in
+    let back = op-back e.stamp e.op s.op in
+    let k = back.1 in
     let some : 0 < e.number = ltb-true 0 e.number s.number.above in
     record {
       stamp = s.stamp;
       number_fits = omega (arith, s.number.below);
-      op = op-typed e.stamp e.op s.op;
+      op = back.0;
       rules = no-fault (e.number == 0) (is_in_range e.op) (has_members e.op) (names_before e.stamp e.op) (has_rising_members e.op)
           (record { seq = ne_eqb e.number 0 (λ h. omega (arith, h, some)); range = k.ranges; count = k.members; future = k.before; order = k.rising });
     }
