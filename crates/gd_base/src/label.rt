@@ -1,4 +1,4 @@
-ghost use Rattle.std.specs.Prelude.{◌≡◌, MatchResult};
+ghost use Rattle.std.specs.Prelude.{◌≡◌, [], MatchResult};
 ghost use Rattle.gd_base.specs.Labels.{IsLabel, IsLabelFault, has_control};
 
 use arrayvec::ArrayString;
@@ -30,6 +30,15 @@ impl Model for Label {
     ghost view = { λ l. l.text.bytes };
 
     ghost invariant = { λ l. IsLabel l.text.bytes };
+}
+
+impl Default for Label {
+    ghost is_default = { λ label. label ≡ [] };
+
+    /// The label of no bytes.
+    fn default() -> Self {
+        Label { text: ArrayString::new() }
+    }
 }
 
 impl Label {

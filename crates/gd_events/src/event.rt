@@ -1,4 +1,4 @@
-ghost use Rattle.std.specs.Prelude.{◌≡◌, ◌≤◌, Some, None, MatchResult, pos, nat_abs, []};
+ghost use Rattle.std.specs.Prelude.{◌≡◌, ◌≤◌, Some, None, MatchResult, pos, nat_abs};
 ghost use Rattle.std.specs.List.{list_all};
 ghost use Rattle.gd_base.specs.Ranges.{is_within};
 ghost use Rattle.gd_events.specs.Events.{first_event};
@@ -134,18 +134,9 @@ impl Default for Event {
             y: 0,
             w: 0,
             h: 0,
-            label: no_label(),
+            label: Label::default(),
         };
         Event::sound(Stamp::default(), 1, op)
-    }
-}
-
-fn no_label() -> Label
-    ensures { result ≡ [] }
-{
-    match Label::new("") {
-        Ok(label) => label,
-        Err(_) => unreachable!(),
     }
 }
 

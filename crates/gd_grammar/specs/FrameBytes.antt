@@ -19,6 +19,7 @@ use Rattle.gd_events.specs.Events.{Event}
 use Rattle.gd_events.specs.Sound.{IsSound}
 use Rattle.gd_grammar.specs.declared.frame.Head.{Head}
 use Rattle.gd_grammar.specs.declared.frame.Last.{Last}
+use Rattle.gd_grammar.specs.declared.sizes.TheConstants.{FRAME_EVENTS}
 use Rattle.gd_grammar.specs.Reading.{Reads, fault_at, bytes_at, ranged, many_at, AllFollow}
 use Rattle.gd_grammar.specs.Fields.{byte_at, site_at, word_at}
 use Rattle.gd_grammar.specs.FieldBytes.{stamp_bytes, word_bytes, each_bytes}
@@ -104,7 +105,7 @@ note_at bytes = do
   Ok (record { number = number.0; name = name.0; focus = focus.0 }, name.1)
 
 abbrev pub most_frame_events : ℕ
-most_frame_events = 8
+most_frame_events = FRAME_EVENTS
 
 unfoldable pub event_count_at : List ℕ → Reads ℕ
 event_count_at bytes = do

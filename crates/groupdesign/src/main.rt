@@ -26,10 +26,7 @@ use std::io;
 use std::marker::Brand;
 use std::process::ExitCode;
 use std::sync::ledger::{Blank, Ledger};
-use words::{WordsFault, words_of};
-
-/// The exit status where the words of the command line can't be had, for another cause than memory: one is no UTF-8.
-const NO_WORDS: u8 = 13;
+use words::{NO_WORDS, WordsFault, words_of};
 
 fn main(rt: HostRuntime) -> ExitCode {
     match words_of(&rt) {

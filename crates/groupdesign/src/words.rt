@@ -7,6 +7,9 @@ use std::alloc::{AllocError, Global};
 use std::env;
 use std::io::ErrorKind;
 
+/// The exit status where the words of the command line can't be had, for another cause than memory: one is no UTF-8.
+pub const NO_WORDS: u8 = 13;
+
 /// Why the words aren't there.
 #[derive(Clone, Copy, Debug, PartialEq, Eq)]
 pub enum WordsFault {
