@@ -7,12 +7,12 @@ use Rattle.gd_base.specs.Labels.{IsLabel}
 use Rattle.gd_base.specs.Members.{AreStamped}
 use Rattle.gd_base.specs.Ranges.{place_limit, size_limit, is_within, is_style}
 use Rattle.gd_base.specs.declared.member.Member.{Member}
-use Rattle.gd_base.specs.declared.ranges.TheConstants.{EVENTS_OF_A_SITE, MOST_MEMBERS}
+use Rattle.gd_base.specs.declared.ranges.TheConstants.{MOST_MEMBERS}
 use Rattle.gd_events.specs.declared.op.Op.{Op}
 use Rattle.gd_events.specs.declared.op.Op.TheVariants.{Create, Delete, Move, Resize, Restyle, Retext, Group, Ungroup, Raise}
 use Rattle.gd_events.specs.declared.event.EventFault.{EventFault}
 use Rattle.gd_events.specs.declared.event.EventFault.TheVariants.{Seq, Range, MemberCount, FutureId, MemberOrder}
-use Rattle.gd_events.specs.Events.{Event}
+use Rattle.gd_events.specs.Events.{Event, IsSoundWith}
 
 abbrev pub is_shift_in_range : Member → Bool
 is_shift_in_range m = is_within place_limit m.dx && is_within place_limit m.dy
@@ -64,15 +64,18 @@ abbrev pub has_rising_members : Op → Bool
 has_rising_members (Group members) = rise_above None members
 has_rising_members other = true
 
+-- the first rule that the operation of an event with that stamp breaks, if it breaks one
+abbrev pub op_fault : Stamp → Op → Option EventFault
+op_fault stamp op =
+    if not (is_in_range op) then Some Range
+    else if not (has_members op) then Some MemberCount
+    else if not (names_before stamp op) then Some FutureId
+    else if not (has_rising_members op) then Some MemberOrder
+    else None
+
 -- the first rule that the event breaks, if it breaks one
 abbrev pub event_fault : Event → Option EventFault
-event_fault e =
-    if e.number == 0 then Some Seq
-    else if not (is_in_range e.op) then Some Range
-    else if not (has_members e.op) then Some MemberCount
-    else if not (names_before e.stamp e.op) then Some FutureId
-    else if not (has_rising_members e.op) then Some MemberOrder
-    else None
+event_fault e = if e.number == 0 then Some Seq else op_fault e.stamp e.op
 
 -- the ids, the label and the number of members of the operation are what their types say
 abbrev pub IsWellTyped : Op → Type 0
@@ -86,8 +89,10 @@ IsWellTyped (Group members) = (length members ≤ MOST_MEMBERS) × AreStamped me
 IsWellTyped (Ungroup id) = IsStamp id
 IsWellTyped (Raise id) = IsStamp id
 
-pub record IsSound (e : Event) : Type 0 where
-  pub stamp : IsStamp e.stamp
-  pub number_fits : e.number ≤ EVENTS_OF_A_SITE
-  pub op : IsWellTyped e.op
-  pub rules : event_fault e ≡ None
+-- an operation that an event with that stamp may have
+pub record IsOp (stamp : Stamp) (op : Op) : Type 0 where
+  pub typed : IsWellTyped op
+  pub rules : op_fault stamp op ≡ None
+
+abbrev pub IsSound : Event → Type 0
+IsSound e = IsSoundWith IsOp e

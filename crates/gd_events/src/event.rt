@@ -1,12 +1,13 @@
 ghost use Rattle.std.specs.Prelude.{◌≡◌, ◌≤◌, Some, None, MatchResult, pos, nat_abs};
 ghost use Rattle.std.specs.List.{list_all};
 ghost use Rattle.gd_base.specs.Ranges.{is_within};
-ghost use Rattle.gd_events.specs.Events.{first_event};
+ghost use Rattle.gd_events.specs.Events.{IsSoundWith, first_event};
 ghost use Rattle.gd_events.specs.Sound.{event_fault, IsSound};
 ghost use Rattle.gd_events.specs.Sound.{is_shift_in_range, is_in_range, has_members};
 ghost use Rattle.gd_events.specs.Sound.{is_member_before, names_before, is_above, rise_above, has_rising_members};
 
 use crate::op::Op;
+use crate::operation::Operation;
 use gd_base::{Label, Member, PLACE_LIMIT, SIZE_LIMIT, Shape, Stamp};
 use std::marker::Model;
 use thiserror::Error;
@@ -28,24 +29,63 @@ pub enum EventFault {
 
 /// What a site's user did: a stamp, the number among that site's events, from 1, and the operation. It is always sound.
 #[derive(Drop)]
-pub struct Event {
+pub struct Event<O: Operation = Op> {
     stamp: Stamp,
     number: u16,
-    op: Op,
+    op: O,
 }
 
-impl Model for Event {
-    ghost use Rattle.gd_events.specs.Events.{Event as EventValue};
-    ghost use Rattle.gd_events.specs.Sound.{IsSound};
+impl<O: Operation> Model for Event<O> {
+    ghost use Rattle.gd_events.specs.Events.{EventValue, IsSoundWith};
 
-    ghost Value = { EventValue };
+    ghost Value = { EventValue O };
 
     ghost view = { λ e. record { stamp = e.stamp; number = e.number; op = e.op } };
 
-    ghost invariant = { λ e. IsSound (record { stamp = e.stamp; number = e.number; op = e.op }) };
+    ghost invariant = { λ e. IsSoundWith O.IsOp (record { stamp = e.stamp; number = e.number; op = e.op }) };
 }
 
-impl Event {
+impl<O: Operation> Event<O> {
+    /// An event of an operation that one with that stamp may have. Nothing is judged again.
+    pub fn sound(stamp: Stamp, number: u16, op: O) -> Self
+        requires above { 1 ≤ number }
+        requires op { O.IsOp stamp op }
+        ensures { result ≡ record { stamp = stamp; number = number; op = op } }
+    {
+        Event { stamp, number, op }
+    }
+
+    pub fn stamp(&self) -> Stamp
+        ensures { result ≡ self.now.stamp }
+    {
+        self.stamp
+    }
+
+    /// Its number among the events of its site, from 1.
+    pub fn number(&self) -> u16
+        ensures { result ≡ self.now.number }
+    {
+        self.number
+    }
+
+    pub fn op(&self) -> &O
+        ensures op { result.now ≡ self.now.op }
+        ensures sound { IsSoundWith O.IsOp self.now }
+    {
+        &self.op
+    }
+
+    /// Its stamp and its operation, which is moved.
+    pub fn into_parts(self) -> (Stamp, O)
+        ensures stamp { result.0 ≡ self.stamp }
+        ensures op { result.1 ≡ self.op }
+        ensures sound { IsSoundWith O.IsOp self }
+    {
+        (self.stamp, self.op)
+    }
+}
+
+impl Event<Op> {
     /// The first of `Seq`, `Range`, `MemberCount`, `FutureId` and `MemberOrder` that applies is the fault.
     pub fn new(stamp: Stamp, seq: u16, op: Op) -> Result<Self, EventFault>
         ensures { MatchResult result
@@ -72,43 +112,6 @@ impl Event {
             number: seq,
             op,
         })
-    }
-
-    /// The event of parts that are known to make a sound one. Nothing is judged again.
-    pub fn sound(stamp: Stamp, number: u16, op: Op) -> Self
-        requires { IsSound (record { stamp = stamp; number = number; op = op }) }
-        ensures { result ≡ record { stamp = stamp; number = number; op = op } }
-    {
-        Event { stamp, number, op }
-    }
-
-    pub fn stamp(&self) -> Stamp
-        ensures { result ≡ self.now.stamp }
-    {
-        self.stamp
-    }
-
-    /// Its number among the events of its site, from 1.
-    pub fn number(&self) -> u16
-        ensures { result ≡ self.now.number }
-    {
-        self.number
-    }
-
-    pub fn op(&self) -> &Op
-        ensures op { result.now ≡ self.now.op }
-        ensures sound { IsSound self.now }
-    {
-        &self.op
-    }
-
-    /// Its stamp and its operation, which is moved.
-    pub fn into_parts(self) -> (Stamp, Op)
-        ensures stamp { result.0 ≡ self.stamp }
-        ensures op { result.1 ≡ self.op }
-        ensures sound { IsSound self }
-    {
-        (self.stamp, self.op)
     }
 
     pub fn copy(&self) -> Self

@@ -1,5 +1,6 @@
 ghost use Rattle.std.specs.Prelude.{◌≡◌};
 
+use crate::operation::Operation;
 use gd_base::{Label, Members, Shape, Stamp, Style};
 
 /// An operation on a drawing. In a sound event places and shifts are from `-PLACE_LIMIT` to `PLACE_LIMIT`, and sizes from
@@ -51,6 +52,12 @@ pub enum Op {
     Raise {
         id: Stamp,
     },
+}
+
+impl Operation for Op {
+    ghost use Rattle.gd_events.specs.Sound.{IsOp as is_op};
+
+    ghost IsOp = { is_op };
 }
 
 impl Op {
