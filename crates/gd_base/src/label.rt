@@ -8,16 +8,16 @@ use thiserror::Error;
 /// Why a text is no label.
 #[derive(Clone, Copy, Debug, PartialEq, Eq, Error)]
 pub enum LabelFault {
-    #[error("the text has more than 64 bytes")]
+    #[error("the text has more than 200 bytes")]
     TooLong,
     #[error("the text has a control character")]
     Control,
 }
 
-/// A text of at most 64 bytes without control characters, which contracts see as its bytes.
+/// A text of at most 200 bytes without control characters, which contracts see as its bytes.
 #[derive(Drop)]
 pub struct Label {
-    text: ArrayString<64>,
+    text: ArrayString<200>,
 }
 
 impl Model for Label {
@@ -42,7 +42,7 @@ impl Default for Label {
 }
 
 impl Label {
-    /// `TooLong` exactly above 64 bytes, else `Control` exactly where a character of U+0000 to U+001F or of U+007F to
+    /// `TooLong` exactly above 200 bytes, else `Control` exactly where a character of U+0000 to U+001F or of U+007F to
     /// U+009F stands.
     pub fn new(text: &str) -> Result<Self, LabelFault>
         ensures { MatchResult result

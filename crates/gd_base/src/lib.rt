@@ -1,5 +1,5 @@
 //! What every crate speaks of: stamps, labels, names, notes, shapes, styles, items, short lists, edits, offers, faults and
-//! refusals, and steps.
+//! refusals, versions, and steps.
 #![tactic(auto)]
 
 mod edit;
@@ -19,6 +19,7 @@ mod site_status;
 mod stamp;
 mod steps;
 mod style;
+mod version;
 
 pub use edit::Edit;
 pub use fault::{FieldFault, FieldWhy, LogWhy, WireFault, WireWhy};
@@ -40,3 +41,4 @@ pub use site_status::SiteStatus;
 pub use stamp::Stamp;
 pub use steps::Steps;
 pub use style::Style;
+pub use version::Version;

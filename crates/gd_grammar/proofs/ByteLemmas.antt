@@ -7,7 +7,7 @@ use Rattle.std.specs.Str.{is_utf8, encode_utf8_all, all_scalars}
 use Rattle.std.specs.Char.{encode_utf8}
 use Rattle.std.proofs.lemmas.Bool.{leb-true, ltb-true, and_parts}
 use Rattle.std.proofs.lemmas.Str.{IsUtf8-from_is_utf8}
-use Rattle.gd_base.specs.Labels.{IsLabel, has_control, is_plain, is_space, most_name}
+use Rattle.gd_base.specs.Labels.{has_control, is_plain, is_space, most_name}
 use Rattle.gd_base.specs.Stamps.{Stamp, IsStamp}
 use Rattle.gd_base.specs.declared.member.Member.{Member}
 use Rattle.gd_base.specs.declared.shape.Shape.{Shape}
@@ -20,10 +20,15 @@ use Rattle.gd_events.specs.Events.{Event}
 use Rattle.gd_events.specs.Sound.{IsSound}
 use Rattle.gd_grammar.specs.Reading.{AllFollow}
 use Rattle.gd_grammar.specs.FieldBytes.{AreBytes, stamp_bytes, word_bytes, signed_bytes, label_bytes, each_bytes}
-use Rattle.gd_grammar.specs.Spelling.{shape_byte, style_bytes, member_bytes, op_bytes, spelling}
+use Rattle.gd_grammar.specs.Spelling.{shape_byte, style_bytes, member_bytes, op_bytes}
+use Rattle.gd_base.specs.declared.version.Version.{Version}
+use Rattle.gd_base.specs.declared.version.Version.TheVariants.{Two}
+use Rattle.gd_grammar.specs.EventBytes.{most_label_in}
+use Rattle.gd_grammar.specs.Drawings.{spelling}
 use Rattle.gd_grammar.specs.FrameBytes.{Frame, IsHead, IsFocus, IsNameOrNone, IsFrame, head_bytes, focus_bytes, name_bytes, note_bytes, frame_bytes, frame_magic, most_frame_events}
 use Rattle.gd_grammar.specs.declared.frame.Head.{Head}
-use Rattle.gd_grammar.proofs.SoundFields.{IsId, IsMember, IsOp, sound-fields}
+use Rattle.gd_grammar.proofs.SoundFields.{IsId, IsText, IsMember, HasFields, label-few, sound-fields}
+use Rattle.gd_grammar.proofs.DrawingKind.{two-spelled}
 
 -- ---- lists of bytes
 
@@ -98,8 +103,8 @@ text-are text plain =
     let utf8 = IsUtf8-from_is_utf8 text (and_parts (is_utf8 text) (not (has_control text)) plain).0 in
     subst Bytes utf8.1.1 (characters-are utf8.0 utf8.1.0)
 
-label-are : (text : List ℕ) → IsLabel text → Bytes (label_bytes text)
-label-are text label = one-more (length text) text (omega (arith, label.fits)) (text-are text label.plain)
+label-are : (version : Version) (text : List ℕ) → IsText (most_label_in version) text → Bytes (label_bytes text)
+label-are version text label = one-more (length text) text (omega (arith, label.fits, label-few version)) (text-are text label.plain)
 
 -- ---- events
 
@@ -130,25 +135,25 @@ lone tag stamp id few s = one-more tag (stamp_bytes id) few (stamp-are id s.is_s
 few-members : (count : ℕ) → (nat_le 2 count && nat_le count 32) ≡ true → count < 256
 few-members count h = let few = leb-true count 32 (and_parts (nat_le 2 count) (nat_le count 32) h).1 in omega (arith, few)
 
-op-are : (stamp : Stamp) (op : Op) → IsOp stamp op → Bytes (op_bytes op)
-op-are stamp (Create kind x y w h label) s =
+op-are : (version : Version) (stamp : Stamp) (op : Op) → HasFields version stamp op → Bytes (op_bytes op)
+op-are version stamp (Create kind x y w h label) s =
     one-more 1 _ (omega arith) (one-more (shape_byte kind) _ (shape-is kind)
-    (both (signed_bytes x) _ (four-are _) (both (signed_bytes y) _ (four-are _) (both (signed_bytes w) _ (four-are _) (both (signed_bytes h) (label_bytes label) (four-are _) (label-are label s.label))))))
-op-are stamp (Delete id) s = lone 2 stamp id (omega arith) s
-op-are stamp (Move id x y) s = tagged 3 stamp id _ (omega arith) s.0 (pair-are x y)
-op-are stamp (Resize id w h) s = tagged 4 stamp id _ (omega arith) s.0 (pair-are w h)
-op-are stamp (Restyle id style) s = tagged 5 stamp id _ (omega arith) s.0 (style-are style)
-op-are stamp (Retext id label) s = tagged 6 stamp id _ (omega arith) s.0 (label-are label s.1)
-op-are stamp (Group members) s =
+    (both (signed_bytes x) _ (four-are _) (both (signed_bytes y) _ (four-are _) (both (signed_bytes w) _ (four-are _) (both (signed_bytes h) (label_bytes label) (four-are _) (label-are version label s.label))))))
+op-are version stamp (Delete id) s = lone 2 stamp id (omega arith) s
+op-are version stamp (Move id x y) s = tagged 3 stamp id _ (omega arith) s.0 (pair-are x y)
+op-are version stamp (Resize id w h) s = tagged 4 stamp id _ (omega arith) s.0 (pair-are w h)
+op-are version stamp (Restyle id style) s = tagged 5 stamp id _ (omega arith) s.0 (style-are style)
+op-are version stamp (Retext id label) s = tagged 6 stamp id _ (omega arith) s.0 (label-are version label s.1)
+op-are version stamp (Group members) s =
     one-more 7 _ (omega arith) (one-more (length members) _ (few-members (length members) s.count)
     (each (IsMember stamp) (λ m. Some m.id) member_bytes (member-are stamp) None members s.members))
-op-are stamp (Ungroup id) s = lone 8 stamp id (omega arith) s
-op-are stamp (Raise id) s = lone 9 stamp id (omega arith) s
+op-are version stamp (Ungroup id) s = lone 8 stamp id (omega arith) s
+op-are version stamp (Raise id) s = lone 9 stamp id (omega arith) s
 
 event-are : (e : Event) → IsSound e → Bytes (spelling e)
 event-are e sound =
-    let s = sound-fields e sound in
-    both (stamp_bytes e.stamp) _ (stamp-are e.stamp s.stamp) (both (bytes_high_first 2 e.number) (op_bytes e.op) (two-are e.number) (op-are e.stamp e.op s.op))
+    let fields = sound-fields Two e.stamp e.op (record { is_op = sound.op; spelled = two-spelled e.op }) in
+    both (stamp_bytes e.stamp) _ (stamp-are e.stamp sound.stamp) (both (bytes_high_first 2 e.number) (op_bytes e.op) (two-are e.number) (op-are Two e.stamp e.op fields))
 
 pub spelling-are : (e : Event) → IsSound e → AreBytes (spelling e)
 spelling-are e sound = (event-are e sound).are
@@ -157,7 +162,7 @@ spelling-are e sound = (event-are e sound).are
 
 head-are : (head : Head) → IsHead head → Bytes (head_bytes head)
 head-are head s =
-    both (word_bytes frame_magic) _ (four-are frame_magic) (one-more 1 _ (omega arith) (both (word_bytes head.session) _ (four-are _)
+    both (word_bytes frame_magic) _ (four-are frame_magic) (one-more 2 _ (omega arith) (both (word_bytes head.session) _ (four-are _)
     (one-more head.from _ (omega (arith, s.from.1)) (one-more head.to _ (omega (arith, s.to.1))
     (both (bytes_high_first 2 head.ack) _ (two-are _) (both (bytes_high_first 2 head.count) _ (two-are _) (six-are _)))))))
 

@@ -15,21 +15,23 @@ use Rattle.gd_base.specs.declared.style.Style.{Style}
 use Rattle.gd_base.specs.declared.style.Style.TheVariants.{Stroke, Fill, Width}
 use Rattle.gd_base.specs.Stamps.{Stamp, IsStamp, is_before}
 use Rattle.gd_base.specs.Sites.{is_site, IsSite}
-use Rattle.gd_base.specs.declared.ranges.TheConstants.{SITES}
+use Rattle.gd_base.specs.declared.ranges.TheConstants.{EVENTS_OF_A_SITE, SITES}
 use Rattle.gd_base.proofs.SiteLemmas.{is_site-bounds, is_site-within}
-use Rattle.gd_base.specs.Labels.{IsLabel, most_label, is_plain}
+use Rattle.gd_base.specs.Labels.{is_plain}
 use Rattle.gd_base.specs.Ranges.{place_limit, size_limit, is_within, is_colour, is_width, is_style}
 use Rattle.gd_events.specs.Sound.{is_above}
 use Rattle.gd_base.specs.Results.{◌>>=◌}
 use Rattle.gd_grammar.specs.Reading.{Reads, bytes_at, ranged}
-use Rattle.gd_grammar.specs.EventBytes.{shape_at, label_at, colour_at, fill_at, width_at, stroke_style_at, fill_style_at, width_style_at, style_at, member_count_at, member_id_at, member_at, members_at}
+use Rattle.gd_grammar.specs.EventBytes.{most_label_in, shape_at, label_at, colour_at, fill_at, width_at, stroke_style_at, fill_style_at, width_style_at, style_at, member_count_at, member_id_at, member_at, members_at}
 use Rattle.gd_grammar.specs.Fields.{byte_at, clock_at, site_at, stamp_at, id_at, number_at, signed_at, word_at, label_within}
 use Rattle.gd_grammar.specs.Spelling.{shape_byte, style_bytes, member_bytes, members_bytes}
 use Rattle.gd_grammar.specs.FieldBytes.{AreBytes, stamp_bytes, word_bytes, signed_bytes, label_bytes}
+use Rattle.gd_base.specs.declared.version.Version.{Version}
+use Rattle.gd_grammar.specs.Exact.{Took, Exact, Runs}
 use Rattle.gd_grammar.proofs.Steady.{read_of, passed}
-use Rattle.gd_grammar.proofs.Exact.{Took, Exact, Runs, joined, spelt, step, taking, done, took_as, else_ok, on_tag, exact_field, exact_bytes}
+use Rattle.gd_grammar.proofs.Exact.{joined, spelt, step, taking, done, took_as, else_ok, on_tag, exact_field, exact_bytes}
 use Rattle.gd_grammar.proofs.Many.{SoMany, exact_many}
-use Rattle.gd_grammar.proofs.SoundFields.{IsWithin, IsId, IsLook, IsMember, IsNumber, is_member_count}
+use Rattle.gd_grammar.proofs.SoundFields.{IsWithin, IsId, IsText, IsLook, IsMember, IsNumber, is_member_count}
 
 -- ---- numbers
 
@@ -116,6 +118,13 @@ exact_place = exact_signed place_limit (omega arith)
 pub exact_size : Exact (signed_at size_limit) (IsWithin size_limit) signed_bytes
 exact_size = exact_signed size_limit (omega arith)
 
+-- a number of an event, from 1 on
+pub number-is : (n : ℕ) → 1 ≤ n → n ≤ EVENTS_OF_A_SITE → IsNumber n
+number-is n above fits = record { above = lt-ltb 0 n (omega (arith, above)); below = omega (arith, fits) }
+
+pub is-number : (n : ℕ) → IsNumber n → (1 ≤ n) × (n ≤ EVENTS_OF_A_SITE)
+is-number n s = (omega (arith, ltb-true 0 n s.above), omega (arith, s.below))
+
 -- ---- stamps
 
 pub exact_stamp : Exact stamp_at IsStamp stamp_bytes
@@ -174,11 +183,6 @@ exact_text len = exact_field (exact_bytes len) (λ text. text) (λ text. text) i
     (λ text s. (s.0, refl, s.1))
     (λ text long are t. ((long, t), refl))
 
--- a text of at most so many bytes without control characters
-pub record IsText (most : ℕ) (text : List ℕ) : Type 0 where
-  pub fits : length text ≤ most
-  pub plain : is_plain text ≡ true
-
 pub exact_label_within : (most : ℕ) → Exact (label_within most) (IsText most) label_bytes
 unfolding label_within
 exact_label_within most = record {
@@ -192,14 +196,9 @@ exact_label_within most = record {
       record { sound = record { fits = rw text.sound.0 (ltb-false _ _ fits.0); plain = text.sound.1 }; text = spelt (joined len.text text.text) (ap (λ n. n ∷ z.0) (sym text.sound.0)) });
 }
 
--- the label of an event has at most 64 bytes
-pub exact_label : Exact label_at IsLabel label_bytes
-exact_label = record {
-  written = λ text rest s. (exact_label_within most_label).written text rest (record { fits = s.fits; plain = s.plain });
-  taken = λ bytes z are e.
-      let text = (exact_label_within most_label).taken bytes z are e in
-      record { sound = record { fits = text.sound.fits; plain = text.sound.plain }; text = text.text };
-}
+pub exact_label : (version : Version) → Exact (label_at version) (IsText (most_label_in version)) label_bytes
+unfolding label_at
+exact_label version = exact_label_within (most_label_in version)
 
 -- ---- styles
 

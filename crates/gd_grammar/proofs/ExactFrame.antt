@@ -19,14 +19,15 @@ use Rattle.gd_base.specs.declared.fault.FieldWhy.TheVariants.{Magic, Version, Fi
 use Rattle.gd_base.specs.declared.fault.WireWhy.TheVariants.{Trailing}
 use Rattle.gd_events.specs.Events.{Event}
 use Rattle.gd_grammar.specs.Reading.{Reads, AllFollow}
-use Rattle.gd_grammar.specs.Spelling.{spelling}
+use Rattle.gd_grammar.specs.Drawings.{spelling}
+use Rattle.gd_grammar.specs.Exact.{Took, Exact, Runs}
 use Rattle.gd_grammar.specs.FieldBytes.{AreBytes, word_bytes, each_bytes}
 use Rattle.gd_grammar.specs.FrameBytes.{Frame, frame_magic, frame_magic_at, frame_version_at, half_at, six_at, head_at, focus_by, focus_at, name_text_at, name_at, note_at, most_frame_events, event_count_at, Misread, in_frame, last_of, is_next_in, next_event_at, frame_events_at, IsNext, whole, frame_at, frame, IsHead, IsFocus, IsNameOrNone, IsNote, AreInTurn, IsFrame, head_bytes, focus_bytes, name_bytes, note_bytes, events_bytes, frame_bytes}
 use Rattle.gd_grammar.specs.declared.frame.Head.{Head}
 use Rattle.gd_grammar.proofs.Steady.{bind_ok, passed}
-use Rattle.gd_grammar.proofs.Exact.{Took, Exact, Runs, joined, spelt, taking, done, took_as, else_ok, on_tag, exact_field, exact_bytes, result_of, ok_is}
+use Rattle.gd_grammar.proofs.Exact.{joined, spelt, taking, done, took_as, else_ok, on_tag, exact_field, exact_bytes, result_of, ok_is}
 use Rattle.gd_grammar.proofs.ExactFields.{exact_byte, exact_word, exact_site, clock-back, clock-there}
-use Rattle.gd_grammar.proofs.ExactEvent.{exact_event, spelling-length}
+use Rattle.gd_grammar.proofs.DrawingEvents.{exact_event, spelling-length}
 
 -- ---- the head
 
@@ -36,11 +37,11 @@ exact-magic = exact_field exact_word (λ m. m) (λ m. m) (λ m. m == frame_magic
     (λ m s. (rw s (omega arith), refl, rw s refl))
     (λ m s are t. (eqb-true m frame_magic t, refl))
 
-exact-version : Exact frame_version_at (λ v. v ≡ 1) (λ v. v ∷ [])
+exact-version : Exact frame_version_at (λ v. v ≡ 2) (λ v. v ∷ [])
 unfolding frame_version_at
-exact-version = exact_field exact_byte (λ v. v) (λ v. v) (λ v. v == 1) Version (λ v. v ≡ 1)
+exact-version = exact_field exact_byte (λ v. v) (λ v. v) (λ v. v == 2) Version (λ v. v ≡ 2)
     (λ v s. (tt, refl, rw s refl))
-    (λ v s are t. (eqb-true v 1 t, refl))
+    (λ v s are t. (eqb-true v 2 t, refl))
 
 exact-half : Exact half_at (λ n. n < 2 ^ 16) (λ n. bytes_high_first 2 n)
 unfolding half_at
@@ -67,8 +68,8 @@ exact-head = record {
   written = λ h rest s.
       let tail = bytes_high_first 2 h.ack ++ bytes_high_first 2 h.count ++ bytes_high_first 6 h.clock ++ rest in
       rw (
-        exact-magic.written frame_magic (1 ∷ word_bytes h.session ++ h.from ∷ h.to ∷ tail) refl,
-        exact-version.written 1 (word_bytes h.session ++ h.from ∷ h.to ∷ tail) refl,
+        exact-magic.written frame_magic (2 ∷ word_bytes h.session ++ h.from ∷ h.to ∷ tail) refl,
+        exact-version.written 2 (word_bytes h.session ++ h.from ∷ h.to ∷ tail) refl,
         exact_word.written h.session (h.from ∷ h.to ∷ tail) s.session,
         exact_site.written h.from (h.to ∷ tail) s.from,
         exact_site.written h.to tail s.to,

@@ -8,13 +8,15 @@ use Rattle.gd_base.specs.declared.note.Note.{Note}
 use Rattle.gd_events.specs.Events.{Event}
 use Rattle.gd_base.specs.Results.{◌>>=◌}
 use Rattle.gd_grammar.specs.Reading.{Reads, fault_at, bytes_at, ranged, many_at}
-use Rattle.gd_grammar.specs.EventBytes.{event_at}
+use Rattle.gd_grammar.specs.Drawings.{event_at}
 use Rattle.gd_grammar.specs.Fields.{byte_at, site_at, word_at}
 use Rattle.gd_grammar.specs.declared.frame.Last.{Last}
 use Rattle.gd_grammar.specs.FrameBytes.{Frame, Misread, frame_why, in_frame, frame_magic_at, frame_version_at, half_at, six_at, head_at, focus_by, focus_at, name_text_at, name_at, note_at, event_count_at, last_of, next_event_at, frame_events_at, whole, frame_at, frame, IsFrame, frame_bytes}
 use Rattle.gd_grammar.specs.declared.frame.Head.{Head}
-use Rattle.gd_grammar.proofs.Steady.{Steady, IsEnd-shorter, Steady-bytes, bind_err}
-use Rattle.gd_grammar.proofs.SteadyFields.{Steady-byte, Steady-word, Steady-site, Steady-event}
+use Rattle.gd_grammar.proofs.Steady.{IsEnd-shorter, Steady-bytes, bind_err}
+use Rattle.gd_grammar.proofs.SteadyFields.{Steady-byte, Steady-word, Steady-site}
+use Rattle.gd_grammar.specs.Steady.{Steady}
+use Rattle.gd_grammar.proofs.DrawingEvents.{Steady-event}
 use Rattle.gd_grammar.proofs.ExactFrame.{frame-written}
 
 -- ---- the parts

@@ -1,10 +1,10 @@
--- A sound event, said field by field, as reading meets the fields.
-use Rattle.std.proofs.Common.{◌≡◌, ℕ, ℤ, zero, suc, ◌<◌, ◌^◌, Bool, true, false, cond, List, [], ◌∷◌, length, Option, Some, None, refl, arith}
-use Rattle.std.specs.Prelude.{◌&&◌, not, nat_lt, nat_le, ◌==◌}
+-- A sound operation, said field by field, as reading meets the fields.
+use Rattle.std.proofs.Common.{◌≡◌, ℕ, ℤ, zero, suc, ◌<◌, ◌≤◌, ◌^◌, Bool, true, false, cond, List, [], ◌∷◌, length, Option, Some, None, refl, arith}
+use Rattle.std.specs.Prelude.{◌&&◌, not, nat_lt, nat_le}
 use Rattle.std.specs.List.{list_all}
-use Rattle.std.proofs.lemmas.Bool.{leb-true, le-leb, ltb-true, lt-ltb, ne_eqb, and_parts, and_from}
+use Rattle.std.proofs.lemmas.Bool.{leb-true, le-leb, and_parts, and_from}
 use Rattle.gd_base.specs.Stamps.{Stamp, IsStamp, is_before}
-use Rattle.gd_base.specs.Labels.{IsLabel}
+use Rattle.gd_base.specs.Labels.{IsLabel, is_plain, most_label}
 use Rattle.gd_base.specs.Members.{AreStamped}
 use Rattle.gd_base.specs.Ranges.{place_limit, size_limit, is_within, is_style}
 use Rattle.gd_base.specs.declared.member.Member.{Member}
@@ -12,11 +12,15 @@ use Rattle.gd_base.specs.declared.style.Style.{Style}
 use Rattle.gd_events.specs.declared.op.Op.{Op}
 use Rattle.gd_events.specs.declared.op.Op.TheVariants.{Create, Delete, Move, Resize, Restyle, Retext, Group, Ungroup, Raise}
 use Rattle.gd_events.specs.declared.event.EventFault.{EventFault}
-use Rattle.gd_events.specs.declared.event.EventFault.TheVariants.{Seq, Range, MemberCount, FutureId, MemberOrder}
-use Rattle.gd_events.specs.Events.{Event}
-use Rattle.gd_events.specs.Sound.{is_shift_in_range, is_in_range, has_members, is_member_before, names_before, is_above, rise_above, has_rising_members, IsWellTyped, IsSound}
+use Rattle.gd_events.specs.declared.event.EventFault.TheVariants.{Range, MemberCount, FutureId, MemberOrder}
+use Rattle.gd_events.specs.Sound.{is_shift_in_range, is_in_range, has_members, is_member_before, names_before, is_above, rise_above, has_rising_members, IsWellTyped, IsOp}
 use Rattle.gd_base.specs.declared.ranges.TheConstants.{MOST_MEMBERS}
+use Rattle.gd_base.specs.declared.version.Version.{Version}
+use Rattle.gd_base.specs.declared.version.Version.TheVariants.{One, Two}
 use Rattle.gd_grammar.specs.Reading.{AllFollow}
+use Rattle.gd_grammar.specs.EventBytes.{most_label_in}
+use Rattle.gd_grammar.specs.Drawings.{drawings, is_short, is_spelled}
+use Rattle.gd_grammar.specs.KindLaws.{OpFits}
 
 -- the operation breaks none of the rules of an event with that stamp
 pub record KeepsRules (stamp : Stamp) (op : Op) : Type 0 where
@@ -35,6 +39,11 @@ pub record IsWithin (limit : ℕ) (z : ℤ) : Type 0 where
 pub record IsId (stamp id : Stamp) : Type 0 where
   pub is_stamp : IsStamp id
   pub before : is_before id stamp ≡ true
+
+-- a text of at most so many bytes without control characters
+pub record IsText (most : ℕ) (text : List ℕ) : Type 0 where
+  pub fits : length text ≤ most
+  pub plain : is_plain text ≡ true
 
 -- a look in its range
 pub record IsLook (style : Style) : Type 0 where
@@ -60,36 +69,30 @@ pub record IsGroup (stamp : Stamp) (ms : List Member) : Type 0 where
   pub count : is_member_count (length ms) ≡ true
   pub members : AreMembers stamp None ms
 
--- the fields of a new shape
-pub record IsCreate (x y w h : ℤ) (text : List ℕ) : Type 0 where
+-- the fields of a new shape, with a label of at most so many bytes
+pub record IsCreate (most : ℕ) (x y w h : ℤ) (text : List ℕ) : Type 0 where
   pub left : IsWithin place_limit x
   pub top : IsWithin place_limit y
   pub width : IsWithin size_limit w
   pub height : IsWithin size_limit h
-  pub label : IsLabel text
+  pub label : IsText most text
 
--- the fields of an operation of the event with that stamp
-abbrev pub IsOp : Stamp → Op → Type 0
-IsOp stamp (Create kind x y w h label) = IsCreate x y w h label
-IsOp stamp (Delete id) = IsId stamp id
-IsOp stamp (Move id x y) = IsId stamp id × IsWithin place_limit x × IsWithin place_limit y
-IsOp stamp (Resize id w h) = IsId stamp id × IsWithin size_limit w × IsWithin size_limit h
-IsOp stamp (Restyle id style) = IsId stamp id × IsLook style
-IsOp stamp (Retext id label) = IsId stamp id × IsLabel label
-IsOp stamp (Group members) = IsGroup stamp members
-IsOp stamp (Ungroup id) = IsId stamp id
-IsOp stamp (Raise id) = IsId stamp id
+-- the fields of an operation of the event with that stamp, in that version
+abbrev pub HasFields : Version → Stamp → Op → Type 0
+HasFields version stamp (Create kind x y w h label) = IsCreate (most_label_in version) x y w h label
+HasFields version stamp (Delete id) = IsId stamp id
+HasFields version stamp (Move id x y) = IsId stamp id × IsWithin place_limit x × IsWithin place_limit y
+HasFields version stamp (Resize id w h) = IsId stamp id × IsWithin size_limit w × IsWithin size_limit h
+HasFields version stamp (Restyle id style) = IsId stamp id × IsLook style
+HasFields version stamp (Retext id label) = IsId stamp id × IsText (most_label_in version) label
+HasFields version stamp (Group members) = IsGroup stamp members
+HasFields version stamp (Ungroup id) = IsId stamp id
+HasFields version stamp (Raise id) = IsId stamp id
 
 -- a number from 1 to 65,535
 pub record IsNumber (number : ℕ) : Type 0 where
   pub above : nat_lt 0 number ≡ true
   pub below : number < 2 ^ 16
-
--- an event whose fields are sound
-pub record HasSoundFields (event : Event) : Type 0 where
-  pub stamp : IsStamp event.stamp
-  pub number : IsNumber event.number
-  pub op : IsOp event.stamp event.op
 
 -- ---- members
 
@@ -144,91 +147,102 @@ four a b c d h =
     let third = and_parts c d second.1 in
     (first.0, second.0, third.0, third.1)
 
-op-fields : (stamp : Stamp) (op : Op) → IsWellTyped op → KeepsRules stamp op → IsOp stamp op
-op-fields stamp (Create kind x y w h label) typed k =
+-- a label that isn't too long for the version
+label-text : (version : Version) (text : List ℕ) → IsLabel text → is_short version text ≡ true → IsText (most_label_in version) text
+label-text One text label short = record { fits = leb-true _ _ short; plain = label.plain }
+label-text Two text label short = record { fits = label.fits; plain = label.plain }
+
+pub label-few : (version : Version) → most_label_in version ≤ most_label
+label-few One = omega arith
+label-few Two = omega arith
+
+text-label : (version : Version) (text : List ℕ) → IsText (most_label_in version) text → IsLabel text
+text-label version text is = record { fits = omega (arith, is.fits, label-few version); plain = is.plain }
+
+text-short : (version : Version) (text : List ℕ) → IsText (most_label_in version) text → is_short version text ≡ true
+text-short One text is = le-leb _ _ is.fits
+text-short Two text is = refl
+
+op-fields : (version : Version) (stamp : Stamp) (op : Op) → IsWellTyped op → KeepsRules stamp op → is_spelled version op ≡ true → HasFields version stamp op
+op-fields version stamp (Create kind x y w h label) typed k short =
     let within = four _ _ _ _ k.ranges in
-    record { left = record { within = within.0 }; top = record { within = within.1 }; width = record { within = within.2 }; height = record { within = within.3 }; label = typed }
-op-fields stamp (Delete id) typed k = record { is_stamp = typed; before = k.before }
-op-fields stamp (Move id x y) typed k =
+    record { left = record { within = within.0 }; top = record { within = within.1 }; width = record { within = within.2 }; height = record { within = within.3 }; label = label-text version label typed short }
+op-fields version stamp (Delete id) typed k short = record { is_stamp = typed; before = k.before }
+op-fields version stamp (Move id x y) typed k short =
     let within = and_parts (is_within place_limit x) (is_within place_limit y) k.ranges in
     (record { is_stamp = typed; before = k.before }, record { within = within.0 }, record { within = within.1 })
-op-fields stamp (Resize id w h) typed k =
+op-fields version stamp (Resize id w h) typed k short =
     let within = and_parts (is_within size_limit w) (is_within size_limit h) k.ranges in
     (record { is_stamp = typed; before = k.before }, record { within = within.0 }, record { within = within.1 })
-op-fields stamp (Restyle id style) typed k = (record { is_stamp = typed; before = k.before }, record { within = k.ranges })
-op-fields stamp (Retext id label) typed k = (record { is_stamp = typed.0; before = k.before }, typed.1)
-op-fields stamp (Group members) typed k = record {
+op-fields version stamp (Restyle id style) typed k short = (record { is_stamp = typed; before = k.before }, record { within = k.ranges })
+op-fields version stamp (Retext id label) typed k short = (record { is_stamp = typed.0; before = k.before }, label-text version label typed.1 short)
+op-fields version stamp (Group members) typed k short = record {
   count = and_from _ _ k.members (le-leb (length members) 32 typed.0);
   members = members-are stamp None members (record { stamped = typed.1; shifts = k.ranges; before = k.before; rising = k.rising });
 }
-op-fields stamp (Ungroup id) typed k = record { is_stamp = typed; before = k.before }
-op-fields stamp (Raise id) typed k = record { is_stamp = typed; before = k.before }
+op-fields version stamp (Ungroup id) typed k short = record { is_stamp = typed; before = k.before }
+op-fields version stamp (Raise id) typed k short = record { is_stamp = typed; before = k.before }
 
-op-back : (stamp : Stamp) (op : Op) → IsOp stamp op → IsWellTyped op × KeepsRules stamp op
-op-back stamp (Create kind x y w h label) s =
-    (s.label, record { ranges = and_from _ _ s.left.within (and_from _ _ s.top.within (and_from _ _ s.width.within s.height.within)); members = refl; before = refl; rising = refl })
-op-back stamp (Delete id) s = (s.is_stamp, record { ranges = refl; members = refl; before = s.before; rising = refl })
-op-back stamp (Move id x y) s = (s.0.is_stamp, record { ranges = and_from _ _ s.1.within s.2.within; members = refl; before = s.0.before; rising = refl })
-op-back stamp (Resize id w h) s = (s.0.is_stamp, record { ranges = and_from _ _ s.1.within s.2.within; members = refl; before = s.0.before; rising = refl })
-op-back stamp (Restyle id style) s = (s.0.is_stamp, record { ranges = s.1.within; members = refl; before = s.0.before; rising = refl })
-op-back stamp (Retext id label) s = ((s.0.is_stamp, s.1), record { ranges = refl; members = refl; before = s.0.before; rising = refl })
-op-back stamp (Group members) s =
+-- what the fields of an operation say of it
+record IsBack (version : Version) (stamp : Stamp) (op : Op) : Type 0 where
+  typed : IsWellTyped op
+  keeps : KeepsRules stamp op
+  spelled : is_spelled version op ≡ true
+
+op-back : (version : Version) (stamp : Stamp) (op : Op) → HasFields version stamp op → IsBack version stamp op
+op-back version stamp (Create kind x y w h label) s =
+    record { typed = text-label version label s.label; spelled = text-short version label s.label; keeps = record { ranges = and_from _ _ s.left.within (and_from _ _ s.top.within (and_from _ _ s.width.within s.height.within)); members = refl; before = refl; rising = refl } }
+op-back version stamp (Delete id) s = record { typed = s.is_stamp; spelled = refl; keeps = record { ranges = refl; members = refl; before = s.before; rising = refl } }
+op-back version stamp (Move id x y) s = record { typed = s.0.is_stamp; spelled = refl; keeps = record { ranges = and_from _ _ s.1.within s.2.within; members = refl; before = s.0.before; rising = refl } }
+op-back version stamp (Resize id w h) s = record { typed = s.0.is_stamp; spelled = refl; keeps = record { ranges = and_from _ _ s.1.within s.2.within; members = refl; before = s.0.before; rising = refl } }
+op-back version stamp (Restyle id style) s = record { typed = s.0.is_stamp; spelled = refl; keeps = record { ranges = s.1.within; members = refl; before = s.0.before; rising = refl } }
+op-back version stamp (Retext id label) s = record { typed = (s.0.is_stamp, text-label version label s.1); spelled = text-short version label s.1; keeps = record { ranges = refl; members = refl; before = s.0.before; rising = refl } }
+op-back version stamp (Group members) s =
     let k = members-keep stamp None members s.members in
     let count = and_parts (nat_le 2 (length members)) (nat_le (length members) 32) s.count in
-    ((leb-true (length members) 32 count.1, k.stamped), record { ranges = k.shifts; members = count.0; before = k.before; rising = k.rising })
-op-back stamp (Ungroup id) s = (s.is_stamp, record { ranges = refl; members = refl; before = s.before; rising = refl })
-op-back stamp (Raise id) s = (s.is_stamp, record { ranges = refl; members = refl; before = s.before; rising = refl })
+    record { typed = (leb-true (length members) 32 count.1, k.stamped); spelled = refl; keeps = record { ranges = k.shifts; members = count.0; before = k.before; rising = k.rising } }
+op-back version stamp (Ungroup id) s = record { typed = s.is_stamp; spelled = refl; keeps = record { ranges = refl; members = refl; before = s.before; rising = refl } }
+op-back version stamp (Raise id) s = record { typed = s.is_stamp; spelled = refl; keeps = record { ranges = refl; members = refl; before = s.before; rising = refl } }
 
--- ---- events
+-- ---- the rules
 
--- the first of the rules that is broken, by the five tests
-abbrev first_fault : Bool → Bool → Bool → Bool → Bool → Option EventFault
-first_fault none inside many earlier rising =
-    cond none (Some Seq) (cond (not inside) (Some Range) (cond (not many) (Some MemberCount) (cond (not earlier) (Some FutureId) (cond (not rising) (Some MemberOrder) None))))
+-- the first of the rules that is broken, by the four tests
+abbrev first_fault : Bool → Bool → Bool → Bool → Option EventFault
+first_fault inside many earlier rising =
+    cond (not inside) (Some Range) (cond (not many) (Some MemberCount) (cond (not earlier) (Some FutureId) (cond (not rising) (Some MemberOrder) None)))
 
 -- none of them is broken
-record AllHold (none inside many earlier rising : Bool) : Type 0 where
-  seq : none ≡ false
+record AllHold (inside many earlier rising : Bool) : Type 0 where
   range : inside ≡ true
   count : many ≡ true
   future : earlier ≡ true
   order : rising ≡ true
 
-all-hold : (none inside many earlier rising : Bool) → first_fault none inside many earlier rising ≡ None → AllHold none inside many earlier rising
-all-hold false true true true true h = record { seq = refl; range = refl; count = refl; future = refl; order = refl }
-all-hold true inside many earlier rising h = absurd cc
-all-hold false false many earlier rising h = absurd cc
-all-hold false true false earlier rising h = absurd cc
-all-hold false true true false rising h = absurd cc
-all-hold false true true true false h = absurd cc
+all-hold : (inside many earlier rising : Bool) → first_fault inside many earlier rising ≡ None → AllHold inside many earlier rising
+all-hold true true true true h = record { range = refl; count = refl; future = refl; order = refl }
+all-hold false many earlier rising h = absurd cc
+all-hold true false earlier rising h = absurd cc
+all-hold true true false rising h = absurd cc
+all-hold true true true false h = absurd cc
 
-no-fault : (none inside many earlier rising : Bool) → AllHold none inside many earlier rising → first_fault none inside many earlier rising ≡ None
-no-fault none inside many earlier rising h = rw (h.seq, h.range, h.count, h.future, h.order) refl
+no-fault : (inside many earlier rising : Bool) → AllHold inside many earlier rising → first_fault inside many earlier rising ≡ None
+no-fault inside many earlier rising h = rw (h.range, h.count, h.future, h.order) refl
 
-some-number : (n : ℕ) → (n == 0) ≡ false → nat_lt 0 n ≡ true
-some-number zero h = absurd cc
-some-number (suc n) h = lt-ltb 0 (suc n) (omega arith)
+-- the fields of an operation that fits are sound
+pub sound-fields : (version : Version) (stamp : Stamp) (op : Op) → OpFits IsOp drawings version stamp op → HasFields version stamp op
+sound-fields version stamp op s =
+    let h = all-hold (is_in_range op) (has_members op) (names_before stamp op) (has_rising_members op) s.is_op.rules in
+    op-fields version stamp op s.is_op.typed (record { ranges = h.range; members = h.count; before = h.future; rising = h.order }) s.spelled
 
--- the fields of a sound event are sound
-pub sound-fields : (e : Event) → IsSound e → HasSoundFields e
-sound-fields e s =
-    let h = all-hold (e.number == 0) (is_in_range e.op) (has_members e.op) (names_before e.stamp e.op) (has_rising_members e.op) s.rules in
+-- and an operation of sound fields fits
+pub fields-sound : (version : Version) (stamp : Stamp) (op : Op) → HasFields version stamp op → OpFits IsOp drawings version stamp op
+fields-sound version stamp op s =
+    let back = op-back version stamp op s in
+    let k = back.keeps in
     record {
-      stamp = s.stamp;
-      number = record { above = some-number e.number h.seq; below = omega (arith, s.number_fits) };
-      op = op-fields e.stamp e.op s.op (record { ranges = h.range; members = h.count; before = h.future; rising = h.order });
-    }
-
--- and an event of sound fields is sound
-pub fields-sound : (e : Event) → HasSoundFields e → IsSound e
-fields-sound e s =
-    let back = op-back e.stamp e.op s.op in
-    let k = back.1 in
-    let some : 0 < e.number = ltb-true 0 e.number s.number.above in
-    record {
-      stamp = s.stamp;
-      number_fits = omega (arith, s.number.below);
-      op = back.0;
-      rules = no-fault (e.number == 0) (is_in_range e.op) (has_members e.op) (names_before e.stamp e.op) (has_rising_members e.op)
-          (record { seq = ne_eqb e.number 0 (λ h. omega (arith, h, some)); range = k.ranges; count = k.members; future = k.before; order = k.rising });
+      is_op = record {
+        typed = back.typed;
+        rules = no-fault (is_in_range op) (has_members op) (names_before stamp op) (has_rising_members op) (record { range = k.ranges; count = k.members; future = k.before; order = k.rising });
+      };
+      spelled = back.spelled;
     }

@@ -1,6 +1,6 @@
--- The bytes of an event of a drawing: its stamp, its number, a tag and the body by the tag. A member's id that isn't above
--- that of the member before it is MemberOrder at its first byte. That, and whether an id is before the event's stamp, is
--- judged before the fields behind the id.
+-- The bytes of an operation on a drawing: a tag, and the body by the tag. In version One a label has at most 64 bytes. A
+-- member's id that isn't above that of the member before it is MemberOrder at its first byte. That, and whether an id is
+-- before the event's stamp, is judged before the fields behind the id.
 use Rattle.std.specs.Prelude.{ℕ, Option, Some, None, List, Ok, Err, ◌&&◌, nat_le, ◌==◌, if◌then◌else◌}
 use Rattle.gd_base.specs.Stamps.{Stamp}
 use Rattle.gd_base.specs.Labels.{most_label}
@@ -13,12 +13,13 @@ use Rattle.gd_base.specs.declared.shape.Shape.{Shape}
 use Rattle.gd_base.specs.declared.shape.Shape.TheVariants.{Rect, Ellipse, Line, Text}
 use Rattle.gd_base.specs.declared.style.Style.{Style}
 use Rattle.gd_base.specs.declared.style.Style.TheVariants.{Stroke, Fill, Width}
+use Rattle.gd_base.specs.declared.version.Version.{Version}
+use Rattle.gd_base.specs.declared.version.Version.TheVariants.{One, Two}
 use Rattle.gd_events.specs.declared.op.Op.{Op}
 use Rattle.gd_events.specs.declared.op.Op.TheVariants.{Create, Delete, Move, Resize, Restyle, Retext, Group, Ungroup, Raise}
-use Rattle.gd_events.specs.Events.{Event}
 use Rattle.gd_events.specs.Sound.{is_above}
 use Rattle.gd_grammar.specs.Reading.{Reads, fault_at, ranged, many_at}
-use Rattle.gd_grammar.specs.Fields.{byte_at, stamp_at, id_at, number_at, signed_at, label_within, word_at}
+use Rattle.gd_grammar.specs.Fields.{byte_at, id_at, signed_at, label_within, word_at}
 
 unfoldable pub shape_at : List ℕ → Reads Shape
 shape_at bytes = do
@@ -29,8 +30,13 @@ shape_at bytes = do
       else if kind.0 == 4 then Ok (Text, kind.1)
       else Err (fault_at Field bytes)
 
-abbrev pub label_at : List ℕ → Reads (List ℕ)
-label_at bytes = label_within most_label bytes
+-- how long a label is at most
+abbrev pub most_label_in : Version → ℕ
+most_label_in One = 64
+most_label_in Two = most_label
+
+unfoldable pub label_at : Version → List ℕ → Reads (List ℕ)
+label_at version bytes = label_within (most_label_in version) bytes
 
 unfoldable pub colour_at : List ℕ → Reads ℕ
 colour_at bytes = do
@@ -72,14 +78,14 @@ style_at bytes = do
       else if what.0 == 3 then width_style_at what.1
       else Err (fault_at Field bytes)
 
-unfoldable pub create_at : List ℕ → Reads Op
-create_at bytes = do
+unfoldable pub create_at : Version → List ℕ → Reads Op
+create_at version bytes = do
   kind ← shape_at bytes
   x ← signed_at place_limit kind.1
   y ← signed_at place_limit x.1
   w ← signed_at size_limit y.1
   h ← signed_at size_limit w.1
-  label ← label_at h.1
+  label ← label_at version h.1
   Ok (Create kind.0 x.0 y.0 w.0 h.0 label.0, label.1)
 
 -- an operation of an id alone
@@ -108,10 +114,10 @@ restyle_at stamp bytes = do
   style ← style_at id.1
   Ok (Restyle id.0 style.0, style.1)
 
-unfoldable pub retext_at : Stamp → List ℕ → Reads Op
-retext_at stamp bytes = do
+unfoldable pub retext_at : Version → Stamp → List ℕ → Reads Op
+retext_at version stamp bytes = do
   id ← id_at stamp bytes
-  label ← label_at id.1
+  label ← label_at version id.1
   Ok (Retext id.0 label.0, label.1)
 
 -- how many members a group has
@@ -144,23 +150,16 @@ group_at stamp bytes = do
   Ok (Group members.0, members.1)
 
 -- a tag, and the body by the tag
-unfoldable pub op_at : Stamp → List ℕ → Reads Op
-op_at stamp bytes = do
+unfoldable pub op_at : Version → Stamp → List ℕ → Reads Op
+op_at version stamp bytes = do
   tag ← byte_at bytes
-  if tag.0 == 1 then create_at tag.1
+  if tag.0 == 1 then create_at version tag.1
       else if tag.0 == 2 then lone_at Delete stamp tag.1
       else if tag.0 == 3 then move_at stamp tag.1
       else if tag.0 == 4 then resize_at stamp tag.1
       else if tag.0 == 5 then restyle_at stamp tag.1
-      else if tag.0 == 6 then retext_at stamp tag.1
+      else if tag.0 == 6 then retext_at version stamp tag.1
       else if tag.0 == 7 then group_at stamp tag.1
       else if tag.0 == 8 then lone_at Ungroup stamp tag.1
       else if tag.0 == 9 then lone_at Raise stamp tag.1
       else Err (fault_at Field bytes)
-
-unfoldable pub event_at : List ℕ → Reads Event
-event_at bytes = do
-  stamp ← stamp_at bytes
-  number ← number_at stamp.1
-  op ← op_at stamp.0 number.1
-  Ok (record { stamp = stamp.0; number = number.0; op = op.0 }, op.1)

@@ -1,4 +1,4 @@
--- The bytes of a frame: a head, a note, the number of its events, and the events; nothing follows. The note's focus is a
+-- The bytes of a frame, which has version Two: a head, a note, the number of its events, and the events; nothing follows. The note's focus is a
 -- stamp, or seven bytes 0 for none, and a name of length 0 is none. Each event has to be next in the frame, which is judged
 -- once it was read (else Disorder, at its first byte): its site is the sender's, its number is one above that of the event
 -- before it, its clock is above that of the event before it, and both are at most the head's.
@@ -23,8 +23,7 @@ use Rattle.gd_grammar.specs.declared.sizes.TheConstants.{FRAME_EVENTS}
 use Rattle.gd_grammar.specs.Reading.{Reads, fault_at, bytes_at, ranged, many_at, AllFollow}
 use Rattle.gd_grammar.specs.Fields.{byte_at, site_at, word_at}
 use Rattle.gd_grammar.specs.FieldBytes.{stamp_bytes, word_bytes, each_bytes}
-use Rattle.gd_grammar.specs.EventBytes.{event_at}
-use Rattle.gd_grammar.specs.Spelling.{spelling}
+use Rattle.gd_grammar.specs.Drawings.{event_at, spelling}
 
 pub record Frame : Type 0 where
   pub head : Head
@@ -45,7 +44,7 @@ frame_magic_at bytes = do
 unfoldable pub frame_version_at : List ℕ → Reads ℕ
 frame_version_at bytes = do
   version ← byte_at bytes
-  if version.0 == 1 then Ok version else Err (fault_at field.Version bytes)
+  if version.0 == 2 then Ok version else Err (fault_at field.Version bytes)
 
 -- a number of two bytes
 unfoldable pub half_at : List ℕ → Reads ℕ
@@ -213,7 +212,7 @@ pub record IsFrame (f : Frame) : Type 0 where
 
 abbrev pub head_bytes : Head → List ℕ
 head_bytes head =
-    word_bytes frame_magic ++ 1 ∷ [] ++ word_bytes head.session ++ head.from ∷ [] ++ head.to ∷ []
+    word_bytes frame_magic ++ 2 ∷ [] ++ word_bytes head.session ++ head.from ∷ [] ++ head.to ∷ []
     ++ bytes_high_first 2 head.ack ++ bytes_high_first 2 head.count ++ bytes_high_first 6 head.clock
 
 abbrev pub focus_bytes : Option Stamp → List ℕ

@@ -1,7 +1,13 @@
 pub mod Reading
 pub mod Fields
 pub mod FieldBytes
+pub mod Steady
+pub mod Exact
+pub mod Kinds
+pub mod KindLaws
+pub mod HeaderBytes
+pub mod LogBytes
 pub mod EventBytes
 pub mod Spelling
+pub mod Drawings
 pub mod FrameBytes
-pub mod LogBytes
