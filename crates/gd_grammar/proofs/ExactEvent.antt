@@ -1,10 +1,12 @@
 -- An event of any kind is read where its spelling stands, and nowhere else.
-use Rattle.std.proofs.Common.{◌≡◌, ℕ, ◌≤◌, List, [], ◌++◌, length, refl, sym, ap, ◌∙◌, arith}
+use Rattle.std.proofs.Common.{◌≡◌, ℕ, ◌≤◌, List, [], ◌++◌, length, Ok, refl, sym, ap, ◌∙◌, arith}
 use Rattle.std.specs.Int.{bytes_high_first}
 use Rattle.std.proofs.lemmas.List.{length-append, append-nil}
 use Rattle.gd_base.specs.Stamps.{Stamp}
 use Rattle.gd_base.specs.declared.version.Version.{Version}
 use Rattle.gd_events.specs.Events.{EventValue}
+use Rattle.gd_grammar.specs.Fields.{stamp_at, number_at}
+use Rattle.gd_grammar.specs.FieldBytes.{AreBytes}
 use Rattle.gd_grammar.specs.Kinds.{LogKind, event_at, spelling, FitsIn}
 use Rattle.gd_grammar.specs.declared.sizes.TheConstants.{EVENT_BYTES}
 use Rattle.gd_grammar.specs.Exact.{Exact}
@@ -46,3 +48,9 @@ module _ {O : Type 0} {IsOp : Stamp → O → Type 0} {kind : LogKind O} (laws :
   spelling-length e s =
       let most = (Steady-event laws version).takes (spelling kind e) (e, []) (ap (event_at kind version) (sym (append-nil (spelling kind e))) ∙ exact_event.written e [] s) in
       omega (arith, most, length-append (spelling kind e) [])
+
+  -- what was read field by field is an event that fits
+  pub event-fits : (bytes b0 b1 b2 : List ℕ) (stamp : Stamp) (number : ℕ) (op : O) → AreBytes bytes → stamp_at bytes ≡ Ok (stamp, b0) → number_at b0 ≡ Ok (number, b1) → kind.op_at version stamp b1 ≡ Ok (op, b2)
+      → FitsIn IsOp kind version (record { stamp = stamp; number = number; op = op })
+  unfolding event_at
+  event-fits bytes b0 b1 b2 stamp number op are s n o = (exact_event.taken bytes (record { stamp = stamp; number = number; op = op }, b2) are (rw (s, n, o) refl)).sound

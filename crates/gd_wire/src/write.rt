@@ -1,24 +1,26 @@
 //! Writes the fields of an event one behind the other.
 ghost use Rattle.std.specs.Prelude.{◌≡◌, ◌≤◌, ◌<◌, ◌+◌, ◌*◌, ◌^◌, ◌++◌, ◌∷◌, [], length};
 ghost use Rattle.std.specs.Int.{bytes_high_first};
-ghost use Rattle.gd_grammar.specs.Spelling.{shape_byte, style_bytes, member_bytes, members_bytes, op_bytes, spelling};
+ghost use Rattle.gd_grammar.specs.Kinds.{spelling};
+ghost use Rattle.gd_grammar.specs.Spelling.{shape_byte, style_bytes, member_bytes, members_bytes, op_bytes};
 ghost use Rattle.gd_grammar.specs.FieldBytes.{stamp_bytes, word_bytes, signed_bytes, label_bytes};
 ghost use Rattle.gd_grammar.specs.declared.sizes.TheConstants.{EVENT_BYTES};
 
 use crate::buffer::EventBytes;
+use crate::kind::LogKind;
 use crate::style::NO_FILL;
 use byteorder::{BigEndian, ByteOrder};
 use gd_base::{Label, Member, Shape, Stamp, Style};
 use gd_events::{Event, Op};
 
-/// Writes the event's bytes in place of those that were there.
-pub fn write_event(event: &Event, out: &mut EventBytes)
-    ensures { out.new ≡ spelling event.now }
+/// Writes the event's bytes, as those of a log of that kind, in place of those that were there.
+pub fn write_event_of<K: LogKind>(event: &Event<K::Op>, out: &mut EventBytes)
+    ensures { out.new ≡ spelling K.kind event.now }
 {
     out.clear();
     out.put_stamp(event.stamp());
     out.put_number(event.number());
-    out.put_op(event.op());
+    K::put(event.op(), out);
 }
 
 impl EventBytes {
@@ -89,7 +91,7 @@ impl EventBytes {
 
     /// A label, behind its length.
     fn put_label(&mut self, label: &Label)
-        requires { length self.old + 65 ≤ EVENT_BYTES }
+        requires { length self.old + 201 ≤ EVENT_BYTES }
         ensures { self.new ≡ self.old ++ label_bytes label.now }
     {
         self.put_text(label.as_str());
@@ -151,7 +153,7 @@ impl EventBytes {
     }
 
     /// An operation behind a stamp and a number: its tag, and its fields.
-    fn put_op(&mut self, op: &Op)
+    pub(crate) fn put_op(&mut self, op: &Op)
         requires { length self.old ≡ 9 }
         ensures { self.new ≡ self.old ++ op_bytes op.now }
     {
