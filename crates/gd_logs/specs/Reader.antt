@@ -1,7 +1,9 @@
 -- What contracts see of a reader of a log, and of its next event.
 use Rattle.std.specs.Prelude.{◌≡◌, ℕ, ◌+◌, List, [], ◌∷◌, ◌++◌, length, Option, None, Some, Result, Ok, Err, IfOk, IfSome, IsSome, OnErr}
-use Rattle.gd_events.specs.Events.{Event}
-use Rattle.gd_grammar.specs.LogBytes.{Header, header_at, in_log, step_at}
+use Rattle.gd_events.specs.Events.{EventValue}
+use Rattle.gd_grammar.specs.HeaderBytes.{Header, header_at}
+use Rattle.gd_grammar.specs.Kinds.{LogKind}
+use Rattle.gd_grammar.specs.LogBytes.{in_log, step_at}
 use Rattle.gd_outside.specs.Seen.{SeenSource}
 use Rattle.gd_logs.specs.Stream.{stream}
 use Rattle.gd_logs.specs.Turns.{Turns, Follows, Took, OneMore}
@@ -27,30 +29,30 @@ ending_at [] = EndOfBytes
 ending_at (b ∷ bytes) = Gate
 
 -- what is returned once reading stopped
-abbrev pub answer_of : Stopped → Result (Option Event) LogFault
+abbrev pub answer_of : {O : Type 0} → Stopped → Result (Option (EventValue O)) LogFault
 answer_of Gate = Ok None
 answer_of EndOfBytes = Ok None
 answer_of (Fault fault) = Err fault
 
 -- why reading stops at this result, if it does, with these bytes still to come
-abbrev pub stop_of : Result (Option Event) LogFault → List ℕ → Option Stopped
+abbrev pub stop_of : {O : Type 0} → Result (Option (EventValue O)) LogFault → List ℕ → Option Stopped
 stop_of (Ok (Some e)) bytes = None
 stop_of (Ok None) bytes = Some (ending_at bytes)
 stop_of (Err fault) bytes = Some (Fault fault)
 
 -- a reader that stands behind the header of these bytes, and what the source has left; or the fault
-abbrev pub StartIs : Result (Reader × Header) LogFault → List ℕ → List ℕ → Type 0
-StartIs (Ok (r, h)) all left = (in_log (header_at all) ≡ Ok (h, r.ahead ++ left)) × (r.place + length (r.ahead ++ left) ≡ length all)
-StartIs (Err Read) all left = Unit {0}
-StartIs (Err (Bad at why)) all left = IsFault (in_log (header_at all)) all at why
+abbrev pub StartIs : {O : Type 0} → LogKind O → Result (Reader × Header) LogFault → List ℕ → List ℕ → Type 0
+StartIs kind (Ok (r, h)) all left = (in_log (header_at kind all) ≡ Ok (h, r.ahead ++ left)) × (r.place + length (r.ahead ++ left) ≡ length all)
+StartIs kind (Err Read) all left = Unit {0}
+StartIs kind (Err (Bad at why)) all left = IsFault (in_log (header_at kind all)) all at why
 
 -- What asking for the next event returns, and leaves of the reader and the source. Where reading had stopped before, the
 -- clause `again` of `next` says all.
-pub record IsNext (old : Reader) (result : Result (Option Event) LogFault) (new : Reader) (before after : SeenSource) : Type 0 where
-  pub exact : old.stopped ≡ None → (seen : List Event) → Follows old.turns seen → IsSome after.left
-      → NextIs result (step_at old.header.n seen (stream old.ahead before.left))
+pub record IsNext {O : Type 0} (kind : LogKind O) (old : Reader) (result : Result (Option (EventValue O)) LogFault) (new : Reader) (before after : SeenSource) : Type 0 where
+  pub exact : old.stopped ≡ None → (seen : List (EventValue O)) → Follows old.turns seen → IsSome after.left
+      → NextIs result (step_at kind old.header seen (stream old.ahead before.left))
       old.place (stream old.ahead before.left) new.place (stream new.ahead after.left)
-  pub follows : IfOk result (λ o. IfSome o (λ e. (seen : List Event) → Follows old.turns seen → Took seen e new.turns))
+  pub follows : IfOk result (λ o. IfSome o (λ e. (seen : List (EventValue O)) → Follows old.turns seen → Took seen e new.turns))
   pub one_more : IfOk result (λ o. IfSome o (λ e. OneMore old.turns new.turns))
   pub header : new.header ≡ old.header
   pub ended : result ≡ Ok None → (new.turns ≡ old.turns) × (new.place ≡ old.place)

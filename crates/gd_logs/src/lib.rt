@@ -13,7 +13,7 @@ mod tests;
 mod turns;
 mod writer;
 
-pub use log::{ReadError, read_log};
-pub use reader::LogReader;
+pub use log::{ReadError, read_log, read_log_of};
+pub use reader::{KindReader, LogReader};
 pub use stopped::{LogFault, Stopped};
-pub use writer::LogWriter;
+pub use writer::{KindWriter, LogWriter};

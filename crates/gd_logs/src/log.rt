@@ -3,15 +3,16 @@
 ghost use Rattle.std.specs.Prelude.{◌≡◌, ◌≤◌, length, IfOk, IsSome, IsTrue};
 ghost use Rattle.gd_base.specs.declared.ranges.TheConstants.{SESSION_EVENTS};
 ghost use Rattle.gd_events.specs.Ordered.{are_distinct};
+ghost use Rattle.gd_grammar.specs.Drawings.{drawings};
 ghost use Rattle.gd_outside.specs.Told.{told};
 ghost use Rattle.gd_outside.specs.Called.{SourceCalled};
 ghost use Rattle.gd_logs.specs.Logs.{LogIs};
 
-use crate::reader::LogReader;
+use crate::reader::KindReader;
 use crate::stopped::LogFault;
 use gd_events::EventList;
 use gd_outside::Source;
-use gd_wire::LogHeader;
+use gd_wire::{Drawings, LogHeader, LogKind};
 use std::alloc::{AllocError, Global};
 use thiserror::Error;
 
@@ -46,20 +47,35 @@ impl From<AllocError> for ReadError {
     }
 }
 
-/// The header and the events of a log, in its order. No two events have one stamp.
+/// The header and the events of a log of a drawing, in its order. No two events have one stamp.
 ///
 /// `Log` with `Read` where a read failed and with `Bad` at the first fault of the bytes, and `Memory` where memory ran out.
 pub fn read_log<S: Source>(
     alloc: Global,
     source: &mut S,
 ) -> Result<(LogHeader, EventList), ReadError>
-    ensures exact { IsSome (S.seen source.new).left → LogIs result (told (S.seen source.old).left) }
+    ensures exact { IsSome (S.seen source.new).left
+        → LogIs drawings result (told (S.seen source.old).left) }
     ensures few { IfOk result (λ log. length log.1 ≤ SESSION_EVENTS) }
     ensures distinct { IfOk result (λ log. IsTrue (are_distinct log.1)) }
     ensures called { SourceCalled (S.seen source.old) (S.seen source.new)
         (result ≡ Err (ReadError.Log LogFault.Read)) }
 {
-    let (mut reader, header) = LogReader::start(source)?;
+    read_log_of::<Drawings, S>(alloc, source)
+}
+
+/// The same of a log of any kind.
+pub fn read_log_of<K: LogKind, S: Source>(
+    alloc: Global,
+    source: &mut S,
+) -> Result<(LogHeader, EventList<K::Op>), ReadError>
+    ensures exact { IsSome (S.seen source.new).left → LogIs K.kind result (told (S.seen source.old).left) }
+    ensures few { IfOk result (λ log. length log.1 ≤ SESSION_EVENTS) }
+    ensures distinct { IfOk result (λ log. IsTrue (are_distinct log.1)) }
+    ensures called { SourceCalled (S.seen source.old) (S.seen source.new)
+        (result ≡ Err (ReadError.Log LogFault.Read)) }
+{
+    let (mut reader, header) = KindReader::<K>::start(source)?;
     let mut events = EventList::new(alloc);
     'records: while let Some(event) = reader.next(source)? {
         events.push(event)?;

@@ -3,7 +3,7 @@
 ghost use Rattle.std.specs.Prelude.{◌≡◌, ◌≤◌, [], None, IfOk, IfSome, IsSome};
 ghost use Rattle.gd_outside.specs.Told.{told};
 ghost use Rattle.gd_outside.specs.Called.{SourceCalled};
-ghost use Rattle.gd_logs.specs.Turns.{Follows};
+ghost use Rattle.gd_logs.specs.Turns.{AreZero};
 ghost use Rattle.gd_logs.specs.Steps.{HeaderIs};
 ghost use Rattle.gd_logs.specs.Reader.{answer_of, IsNext, StartIs};
 
@@ -14,22 +14,26 @@ use crate::turns::Turns;
 use gd_events::Event;
 use gd_grammar::HEADER_BYTES;
 use gd_outside::Source;
-use gd_wire::{Bytes, LogHeader};
-use std::marker::Model;
+use gd_wire::{Bytes, Drawings, LogHeader, LogKind};
+use std::marker::{Model, PhantomData};
 
-/// Reads a log from a source, one event after another. Contracts see the header, the place in the log, the bytes that it
+/// Reads a log of a drawing.
+pub type LogReader = KindReader<Drawings>;
+
+/// Reads a log of some kind from a source, one event after another. Contracts see the header, the place in the log, the bytes that it
 /// took from the source and hasn't used, for each site the number of its events and the clock of the last, and why reading
 /// stopped, if it did.
 #[derive(Drop)]
-pub struct LogReader {
+pub struct KindReader<K: LogKind> {
     header: LogHeader,
     place: u64,
     ahead: ReadAhead,
     turns: Turns,
     stopped: Option<Stopped>,
+    of: PhantomData<K>,
 }
 
-impl Model for LogReader {
+impl<K: LogKind> Model for KindReader<K> {
     ghost use Rattle.std.specs.Prelude.{◌+◌, ◌*◌, ◌≤◌, sum};
     ghost use Rattle.gd_base.specs.declared.ranges.TheConstants.{SESSION_EVENTS};
     ghost use Rattle.gd_logs.specs.declared.ahead.TheConstants.{SIZE};
@@ -49,29 +53,30 @@ impl Model for LogReader {
         × (sum r.turns.counts ≤ SESSION_EVENTS) };
 }
 
-impl LogReader {
+impl<K: LogKind> KindReader<K> {
     /// Reads the header. The reader then stands behind it, in front of the first gate.
     ///
     /// `Read` where a read failed, and `Bad` at the first fault of the header.
-    pub fn start<S: Source>(source: &mut S) -> Result<(LogReader, LogHeader), LogFault>
+    pub fn start<S: Source>(source: &mut S) -> Result<(KindReader<K>, LogHeader), LogFault>
         ensures header { IfOk result (λ x. x.0.header ≡ x.1) }
-        ensures fresh { IfOk result (λ x. Follows x.0.turns []) }
+        ensures fresh { IfOk result (λ x. AreZero x.0.turns) }
         ensures on { IfOk result (λ x. x.0.stopped ≡ None) }
         ensures exact { IsSome (S.seen source.new).left
-            → StartIs result (told (S.seen source.old).left) (told (S.seen source.new).left) }
+            → StartIs K.kind result (told (S.seen source.old).left) (told (S.seen source.new).left) }
         ensures called { SourceCalled (S.seen source.old) (S.seen source.new)
             (result ≡ Err LogFault.Read) }
     {
         let mut ahead = ReadAhead::new();
         ahead.fill(source, HEADER_BYTES)?;
-        let (header, count) = parse_header(ahead.as_slice())?;
+        let (header, count) = parse_header::<K>(ahead.as_slice())?;
         ahead.skip(count);
-        let reader = LogReader {
+        let reader = KindReader {
             header,
             place: count as u64,
             ahead,
             turns: Turns::new(),
             stopped: None,
+            of: PhantomData,
         };
         Ok((reader, header))
     }
@@ -80,8 +85,8 @@ impl LogReader {
     ///
     /// `Read` where a read failed, and `Bad` at the first fault of the record. After None and after each fault the reader
     /// stands where it stood, and returns the same again from then on, without a read.
-    pub fn next<S: Source>(&mut self, source: &mut S) -> Result<Option<Event>, LogFault>
-        ensures next { IsNext self.old result self.new (S.seen source.old) (S.seen source.new) }
+    pub fn next<S: Source>(&mut self, source: &mut S) -> Result<Option<Event<K::Op>>, LogFault>
+        ensures next { IsNext K.kind self.old result self.new (S.seen source.old) (S.seen source.new) }
         ensures again { IfSome self.old.stopped (λ stopped. (result ≡ answer_of stopped)
             × (self.new ≡ self.old) × (S.seen source.new ≡ S.seen source.old)) }
         ensures called { SourceCalled (S.seen source.old) (S.seen source.new)
@@ -94,14 +99,14 @@ impl LogReader {
     }
 
     /// Reads the next event, where reading hasn't stopped.
-    fn read_on<S: Source>(&mut self, source: &mut S) -> Result<Option<Event>, LogFault>
+    fn read_on<S: Source>(&mut self, source: &mut S) -> Result<Option<Event<K::Op>>, LogFault>
         requires { self.old.stopped ≡ None }
-        ensures next { IsNext self.old result self.new (S.seen source.old) (S.seen source.new) }
+        ensures next { IsNext K.kind self.old result self.new (S.seen source.old) (S.seen source.new) }
         ensures called { SourceCalled (S.seen source.old) (S.seen source.new)
             (result ≡ Err LogFault.Read) }
     {
-        let read = read_record(
-            self.header.n(),
+        let read = read_record::<K, S>(
+            &self.header,
             &mut self.place,
             &mut self.turns,
             &mut self.ahead,
@@ -127,11 +132,11 @@ impl LogReader {
 }
 
 /// The header that these bytes begin with, and how many of them it takes.
-fn parse_header(bytes: &[u8]) -> Result<(LogHeader, usize), LogFault>
-    ensures { HeaderIs result bytes.now }
+fn parse_header<K: LogKind>(bytes: &[u8]) -> Result<(LogHeader, usize), LogFault>
+    ensures { HeaderIs K.kind result bytes.now }
 {
     let mut rest = Bytes::new(bytes);
-    match rest.header() {
+    match rest.header::<K>() {
         Ok(header) => Ok((header, bytes.len() - rest.len())),
         Err(fault) => Err(field_fault(0, bytes, fault)),
     }

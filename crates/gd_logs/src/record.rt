@@ -1,8 +1,7 @@
 //! One record of a log.
 
 ghost use Rattle.std.specs.Prelude.{◌≡◌, ◌+◌, ◌-◌, ◌^◌, ◌≤◌, List, length, drop, None, IfOk, IfSome, IsSome, OnErr};
-ghost use Rattle.gd_base.specs.declared.ranges.TheConstants.{SITES};
-ghost use Rattle.gd_events.specs.Events.{Event as EventValue};
+ghost use Rattle.gd_events.specs.Events.{EventValue};
 ghost use Rattle.gd_grammar.specs.Reading.{place};
 ghost use Rattle.gd_grammar.specs.LogBytes.{log_why, step_at};
 ghost use Rattle.gd_outside.specs.Called.{SourceCalled};
@@ -19,7 +18,7 @@ use crate::turns::Turns;
 use gd_base::{FieldFault, FieldWhy, LogWhy};
 use gd_events::Event;
 use gd_outside::Source;
-use gd_wire::Bytes;
+use gd_wire::{Bytes, LogHeader, LogKind};
 
 fn log_why(why: FieldWhy) -> LogWhy
     ensures { result ≡ log_why why }
@@ -65,18 +64,17 @@ fn turn_fault(first: u64, why: LogWhy) -> LogFault
 
 /// Reads the record that these bytes, at `place` of the log, begin with, and moves `place` behind it.
 /// None is the end of the log.
-fn parse_record(
-    n: u8,
+fn parse_record<K: LogKind>(
+    header: &LogHeader,
     place: &mut u64,
     turns: &mut Turns,
     bytes: &[u8],
-) -> Result<Option<Event>, LogFault>
-    requires sites { n ≤ SITES }
+) -> Result<Option<Event<K::Op>>, LogFault>
     requires room { place.old ≤ 2 ^ 61 }
-    ensures exact { (seen : List EventValue) → Follows turns.old seen
-        → NextIs result (step_at n seen bytes.now) place.old bytes.now
+    ensures exact { (seen : List (EventValue K.Op)) → Follows turns.old seen
+        → NextIs result (step_at K.kind header.now seen bytes.now) place.old bytes.now
         place.new (drop (place.new - place.old) bytes.now) }
-    ensures follows { IfOk result (λ o. IfSome o (λ e. (seen : List EventValue)
+    ensures follows { IfOk result (λ o. IfSome o (λ e. (seen : List (EventValue K.Op))
         → Follows turns.old seen → Took seen e turns.new)) }
     ensures one_more { IfOk result (λ o. IfSome o (λ e. OneMore turns.old turns.new)) }
     ensures forward { place.old ≤ place.new }
@@ -92,8 +90,8 @@ fn parse_record(
         return Ok(None);
     }
     let mut rest = Bytes::new(body);
-    match rest.event() {
-        Ok(event) => match turns.take(n, &event) {
+    match rest.event::<K>(header.version()) {
+        Ok(event) => match turns.take(header.n(), &event) {
             Ok(()) => {
                 *place += (bytes.len() - rest.len()) as u64;
                 Ok(Some(event))
@@ -105,21 +103,20 @@ fn parse_record(
 }
 
 /// Reads the next record of a log that was read up to `place`, and moves `place` behind it. None is the end of the log.
-pub fn read_record<S: Source>(
-    n: u8,
+pub fn read_record<K: LogKind, S: Source>(
+    header: &LogHeader,
     place: &mut u64,
     turns: &mut Turns,
     ahead: &mut ReadAhead,
     source: &mut S,
-) -> Result<Option<Event>, LogFault>
-    requires sites { n ≤ SITES }
+) -> Result<Option<Event<K::Op>>, LogFault>
     requires room { place.old ≤ 2 ^ 61 }
-    ensures exact { (seen : List EventValue) → Follows turns.old seen
+    ensures exact { (seen : List (EventValue K.Op)) → Follows turns.old seen
         → IsSome (S.seen source.new).left
-        → NextIs result (step_at n seen (stream ahead.old (S.seen source.old).left))
+        → NextIs result (step_at K.kind header.now seen (stream ahead.old (S.seen source.old).left))
         place.old (stream ahead.old (S.seen source.old).left)
         place.new (stream ahead.new (S.seen source.new).left) }
-    ensures follows { IfOk result (λ o. IfSome o (λ e. (seen : List EventValue)
+    ensures follows { IfOk result (λ o. IfSome o (λ e. (seen : List (EventValue K.Op))
         → Follows turns.old seen → Took seen e turns.new)) }
     ensures one_more { IfOk result (λ o. IfSome o (λ e. OneMore turns.old turns.new)) }
     ensures few { place.new ≤ place.old + SIZE }
@@ -133,7 +130,7 @@ pub fn read_record<S: Source>(
 {
     ahead.fill(source, RECORD)?;
     let start = *place;
-    let read = parse_record(n, place, turns, ahead.as_slice());
+    let read = parse_record::<K>(header, place, turns, ahead.as_slice());
     ahead.skip((*place - start) as usize);
     read
 }

@@ -4,7 +4,7 @@ ghost use Rattle.std.specs.Prelude.{◌≡◌};
 ghost use Rattle.gd_logs.specs.Reader.{answer_of, ending_at, stop_of};
 
 use gd_base::LogWhy;
-use gd_events::Event;
+use gd_events::{Event, Operation};
 use gd_outside::Failed;
 use thiserror::Error;
 
@@ -43,7 +43,7 @@ pub enum Stopped {
 
 impl Stopped {
     /// What is returned from then on.
-    pub(crate) fn answer(self) -> Result<Option<Event>, LogFault>
+    pub(crate) fn answer<O: Operation>(self) -> Result<Option<Event<O>>, LogFault>
         ensures { result ≡ answer_of self }
     {
         match self {
@@ -55,7 +55,10 @@ impl Stopped {
 }
 
 /// The end that this result is, if it is one, with these bytes still to come.
-pub(crate) fn stop_of(read: &Result<Option<Event>, LogFault>, bytes: &[u8]) -> Option<Stopped>
+pub(crate) fn stop_of<O: Operation>(
+    read: &Result<Option<Event<O>>, LogFault>,
+    bytes: &[u8],
+) -> Option<Stopped>
     ensures { result ≡ stop_of read.now bytes.now }
 {
     match read {

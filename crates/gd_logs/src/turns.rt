@@ -2,12 +2,12 @@
 
 ghost use Rattle.std.specs.Prelude.{◌≡◌, ◌≤◌, [], ◌∷◌, ◌++◌, List, sum, OnOk, OnErr};
 ghost use Rattle.gd_base.specs.declared.ranges.TheConstants.{SITES};
-ghost use Rattle.gd_events.specs.Events.{Event};
+ghost use Rattle.gd_events.specs.Events.{EventValue};
 ghost use Rattle.gd_grammar.specs.LogBytes.{turn_fault};
-ghost use Rattle.gd_logs.specs.Turns.{Follows, Took, OneMore, TurnIs};
+ghost use Rattle.gd_logs.specs.Turns.{AreZero, Follows, Took, OneMore, TurnIs};
 
 use gd_base::{LogWhy, SITES};
-use gd_events::Event;
+use gd_events::{Event, Operation};
 use std::marker::Model;
 
 /// For each site, how many events came, and the clock of the last.
@@ -32,7 +32,7 @@ impl Model for Turns {
 impl Turns {
     /// No events so far.
     pub fn new() -> Self
-        ensures none { Follows result [] }
+        ensures none { AreZero result }
         ensures zero { sum result.counts ≡ 0 }
     {
         Turns {
@@ -44,11 +44,11 @@ impl Turns {
     /// Takes the event, if it is next in turn in a session of `n` sites. Else it returns the reason, and nothing
     /// changes.
     #[tactic(auto, unfolding(gd_grammar::specs::LogBytes::turn_fault))]
-    pub fn take(&mut self, n: u8, event: &Event) -> Result<(), LogWhy>
+    pub fn take<O: Operation>(&mut self, n: u8, event: &Event<O>) -> Result<(), LogWhy>
         requires { n ≤ SITES }
-        ensures exact { (seen : List Event) → Follows self.old seen
+        ensures exact { (seen : List (EventValue O)) → Follows self.old seen
             → TurnIs result (turn_fault n seen event.now) }
-        ensures follows { OnOk result ((seen : List Event)
+        ensures follows { OnOk result ((seen : List (EventValue O))
             → Follows self.old seen → Took seen event.now self.new) }
         ensures one_more { OnOk result (OneMore self.old self.new) }
         ensures err { OnErr result (self.new ≡ self.old) }

@@ -2,9 +2,10 @@
 
 ghost use Rattle.std.specs.Prelude.{◌≡◌, ℕ, ◌+◌, ◌^◌, ◌≤◌, [], ◌∷◌, ◌++◌, List, length};
 ghost use Rattle.std.specs.Prelude.{IfOk, IsErr, IsSome, OnOk, OnErr};
-ghost use Rattle.gd_events.specs.Events.{Event as EventValue};
-ghost use Rattle.gd_grammar.specs.LogBytes.{Header, logged};
-ghost use Rattle.gd_grammar.specs.Spelling.{spelling};
+ghost use Rattle.gd_events.specs.Events.{EventValue};
+ghost use Rattle.gd_grammar.specs.HeaderBytes.{Header};
+ghost use Rattle.gd_grammar.specs.Kinds.{spelling};
+ghost use Rattle.gd_grammar.specs.LogBytes.{logged};
 ghost use Rattle.gd_outside.specs.Called.{JournalCalled};
 ghost use Rattle.gd_outside.specs.Journals.{put_at, MayWrite};
 ghost use Rattle.gd_outside.specs.Told.{told, Stays};
@@ -16,16 +17,20 @@ use crate::pieces::{GATE, head_of, record_of};
 use gd_events::Event;
 use gd_grammar::HEADER_BYTES;
 use gd_outside::{Failed, Journal};
-use gd_wire::LogHeader;
-use std::marker::Model;
+use gd_wire::{Drawings, LogHeader, LogKind};
+use std::marker::{Model, PhantomData};
 
-/// Writes a log into a journal, one event after another. Contracts see the place of the log's closed gate.
+/// Writes a log of a drawing.
+pub type LogWriter = KindWriter<Drawings>;
+
+/// Writes a log of some kind into a journal, one event after another, in the kind's newest version. Contracts see the place of the log's closed gate.
 #[derive(Drop)]
-pub struct LogWriter {
+pub struct KindWriter<K: LogKind> {
     place: u64,
+    of: PhantomData<K>,
 }
 
-impl Model for LogWriter {
+impl<K: LogKind> Model for KindWriter<K> {
     ghost use Rattle.std.specs.Prelude.{ℕ};
 
     ghost Value = { ℕ };
@@ -33,29 +38,31 @@ impl Model for LogWriter {
     ghost view = { λ w. w.place };
 }
 
-impl LogWriter {
-    /// Begins a journal of that name with the log of this header, without events.
+impl<K: LogKind> KindWriter<K> {
+    /// Begins a journal of that name with the log of this header, without events. The header is of the newest version.
     ///
     /// Fails only where the journal's count of faults rises. The journal then has any contents and any name.
     pub fn start<J: Journal>(
         journal: &mut J,
         name: &str,
         header: &LogHeader,
-    ) -> Result<LogWriter, Failed>
+    ) -> Result<KindWriter<K>, Failed>
+        requires newest { header.now.version ≡ K.kind.newest }
         ensures place { IfOk result (λ w. w ≡ HEADER_BYTES) }
         ensures written { OnOk result (IsSome (J.seen journal.new).contents
-            → told (J.seen journal.new).contents ≡ logged header.now []) }
+            → told (J.seen journal.new).contents ≡ logged K.kind header.now []) }
         ensures named { OnOk result (IsSome (J.seen journal.new).name
             → told (J.seen journal.new).name ≡ name.now) }
         ensures log { IfOk result (λ w. IsSome (J.seen journal.new).contents
-            → IsLogAt w (told (J.seen journal.new).contents)) }
+            → IsLogAt K.kind w (told (J.seen journal.new).contents)) }
         ensures called { JournalCalled (J.seen journal.old) (J.seen journal.new) (IsErr result) }
     {
-        let head = head_of(header);
+        let head = head_of::<K>(header);
         journal.create(name)?;
         put(journal, 0, head.as_slice())?;
-        Ok(LogWriter {
+        Ok(KindWriter {
             place: HEADER_BYTES as u64,
+            of: PhantomData,
         })
     }
 
@@ -63,31 +70,31 @@ impl LogWriter {
     ///
     /// Fails only where the journal's count of faults rises. A log that obeyed the rules then reads as before, or with
     /// the new event, and the place is as it was.
-    pub fn append<J: Journal>(&mut self, journal: &mut J, event: &Event) -> Result<(), Failed>
+    pub fn append<J: Journal>(&mut self, journal: &mut J, event: &Event<K::Op>) -> Result<(), Failed>
         requires room { self.old ≤ 2 ^ 62 }
         requires log { IsSome (J.seen journal.old).contents
-            → IsLogAt self.old (told (J.seen journal.old).contents) }
+            → IsLogAt K.kind self.old (told (J.seen journal.old).contents) }
         ensures added { OnOk result (IsSome (J.seen journal.new).contents
             → told (J.seen journal.new).contents
-            ≡ with_record (told (J.seen journal.old).contents) (spelling event.now)) }
+            ≡ with_record (told (J.seen journal.old).contents) (spelling K.kind event.now)) }
         ensures logged { OnOk result (IsSome (J.seen journal.new).contents
-            → (h : Header) (events : List EventValue)
-            → told (J.seen journal.old).contents ≡ logged h events
-            → told (J.seen journal.new).contents ≡ logged h (events ++ event.now ∷ [])) }
+            → (h : Header) (events : List (EventValue K.Op))
+            → told (J.seen journal.old).contents ≡ logged K.kind h events
+            → told (J.seen journal.new).contents ≡ logged K.kind h (events ++ event.now ∷ [])) }
         ensures log { OnOk result (IsSome (J.seen journal.new).contents
-            → IsLogAt self.new (told (J.seen journal.new).contents)) }
-        ensures place { OnOk result (self.new ≡ self.old + 1 + length (spelling event.now)) }
+            → IsLogAt K.kind self.new (told (J.seen journal.new).contents)) }
+        ensures place { OnOk result (self.new ≡ self.old + 1 + length (spelling K.kind event.now)) }
         ensures few { OnOk result (self.new ≤ self.old + RECORD) }
         ensures torn { OnErr result (IsSome (J.seen journal.new).contents
-            → (h : Header) (events : List EventValue)
-            → IsLogOf h events (told (J.seen journal.old).contents)
-            → IsWithOrWithout (told (J.seen journal.old).contents) (spelling event.now)
+            → (h : Header) (events : List (EventValue K.Op))
+            → IsLogOf K.Op.IsOp K.kind h events (told (J.seen journal.old).contents)
+            → IsWithOrWithout K.kind (told (J.seen journal.old).contents) (spelling K.kind event.now)
             (told (J.seen journal.new).contents)) }
         ensures err { OnErr result (self.new ≡ self.old) }
         ensures name { Stays (J.seen journal.old).name (J.seen journal.new).name }
         ensures called { JournalCalled (J.seen journal.old) (J.seen journal.new) (IsErr result) }
     {
-        let record = record_of(event);
+        let record = record_of::<K>(event);
         put(journal, self.place + 1, record.as_slice())?;
         put(journal, self.place, &[GATE])?;
         self.place += record.len() as u64;
