@@ -170,5 +170,5 @@ no_prefix e f r s sound other same =
 -- a sound event has at most 491 bytes
 pub spelling-length : (e : Event) → IsSound e → length (spelling e) ≤ 491
 spelling-length e s =
-    let most = Steady-event.takes (spelling e ++ []) (e, []) (exact_event.written e [] s) in
+    let most = (Steady-event.ok (spelling e ++ []) (e, []) (exact_event.written e [] s)).takes in
     omega (arith, most, length-append (spelling e) [])

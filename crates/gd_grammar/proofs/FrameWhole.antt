@@ -102,8 +102,8 @@ Inside read = (n : ℕ) (bytes : List ℕ) → length bytes ≤ n → Within fau
 
 inside-steady : {A : Type 0} (most : ℕ) (read : List ℕ → Reads A) → Steady most read → Inside read
 inside-steady most read s n bytes h = record {
-  ok = λ x e. omega (arith, h, IsEnd-shorter bytes x.1 (s.suffix bytes x e));
-  err = λ f e. omega (arith, h, s.inside bytes f e);
+  ok = λ x e. omega (arith, h, IsEnd-shorter bytes x.1 (s.ok bytes x e).suffix);
+  err = λ f e. omega (arith, h, (s.err bytes f e).inside);
 }
 
 inside-byte : Inside byte_at

@@ -25,7 +25,7 @@ use Rattle.gd_events.specs.Events.{Event}
 use Rattle.gd_base.specs.Sites.{is_site}
 use Rattle.gd_base.specs.declared.ranges.TheConstants.{SITES, MOST_MEMBERS}
 use Rattle.gd_grammar.proofs.Many.{Steady-many}
-use Rattle.gd_grammar.proofs.Steady.{Steady, IsEnd, IsEnd-shorter, Follows, Steady-then, Steady-then-where, Steady-weaken, Steady-bytes, guard_ok, bind_ok, passed, done, behind, fault_there, either}
+use Rattle.gd_grammar.proofs.Steady.{Steady, Taken, Faulty, IsEnd-shorter, Follows, Steady-then, Steady-then-where, Steady-weaken, Steady-bytes, guard_ok, bind_ok, passed, done, behind, fault_there, either}
 
 pub field_ne : Field ≢ Short
 field_ne e = cc
@@ -34,40 +34,18 @@ field_ne e = cc
 pub in_range : {A : Type 0} (n : ℕ) (t : Bool) (v : A) → Follows n (λ bytes rest. ranged t v bytes rest)
 in_range n t v = either t (λ _. done n v) (λ _. fault_there n Field field_ne)
 
-byte-ok : (bytes more : List ℕ) (x : ℕ × List ℕ) → byte_at bytes ≡ Ok x → byte_at (bytes ++ more) ≡ Ok (x.0, x.1 ++ more)
+byte-ok : (bytes : List ℕ) (x : ℕ × List ℕ) → byte_at bytes ≡ Ok x → Taken 1 (λ _ rest. byte_at rest) bytes bytes x
 unfolding byte_at
-byte-ok [] more x e = absurd cc
-byte-ok (b ∷ rest) more x e = let k : (b, rest) ≡ x = cc in rw (← k) refl
+byte-ok [] x e = absurd cc
+byte-ok (b ∷ rest) x e = let k : (b, rest) ≡ x = cc in rw (← k) (record { more = λ more. refl; takes = omega arith; suffix = (1, omega arith, refl) })
 
-byte-err : (bytes : List ℕ) (f : FieldFault) → byte_at bytes ≡ Err f → (f.why ≡ Short) × (length bytes ≡ 0)
+byte-err : (bytes : List ℕ) (f : FieldFault) → byte_at bytes ≡ Err f → Faulty 1 (λ _ rest. byte_at rest) bytes bytes f
 unfolding byte_at
-byte-err [] f e = let k : short ≡ f = cc in (rw (← k) refl, refl)
+byte-err [] f e = let k : short ≡ f = cc in rw (← k) (record { more = λ more. inl refl; long = λ le. absurd (omega arith); inside = omega arith })
 byte-err (b ∷ rest) f e = absurd cc
 
-byte-inside : (bytes : List ℕ) (f : FieldFault) → byte_at bytes ≡ Err f → f.left ≤ length bytes
-unfolding byte_at
-byte-inside [] f e = let k : short ≡ f = cc in rw (← k) (omega arith)
-byte-inside (b ∷ rest) f e = absurd cc
-
-byte-takes : (bytes : List ℕ) (x : ℕ × List ℕ) → byte_at bytes ≡ Ok x → length bytes ≤ length x.1 + 1
-unfolding byte_at
-byte-takes [] x e = absurd cc
-byte-takes (b ∷ rest) x e = let k : (b, rest) ≡ x = cc in rw (← k) (omega arith)
-
-byte-suffix : (bytes : List ℕ) (x : ℕ × List ℕ) → byte_at bytes ≡ Ok x → IsEnd bytes x.1
-unfolding byte_at
-byte-suffix [] x e = absurd cc
-byte-suffix (b ∷ rest) x e = let k : (b, rest) ≡ x = cc in rw (← k) (1, omega arith, refl)
-
 pub Steady-byte : Steady 1 byte_at
-Steady-byte = record {
-  ok = byte-ok;
-  err = λ bytes more f e. inl (byte-err bytes f e).0;
-  takes = byte-takes;
-  suffix = byte-suffix;
-  long = λ bytes f le e. absurd (omega (arith, (byte-err bytes f e).1));
-  inside = byte-inside;
-}
+Steady-byte = record { ok = byte-ok; err = byte-err }
 
 pub Steady-clock : Steady 6 clock_at
 unfolding clock_at
@@ -269,7 +247,7 @@ Takes-then m n r f first second bytes y e =
     omega (arith, first bytes b.0 b.1, second bytes b.0 y b.2)
 
 Steady-takes : {A : Type 0} (most : ℕ) (read : List ℕ → Reads A) → Steady most read → Takes 0 read
-Steady-takes most read s bytes x e = omega (arith, IsEnd-shorter bytes x.1 (s.suffix bytes x e))
+Steady-takes most read s bytes x e = omega (arith, IsEnd-shorter bytes x.1 (s.ok bytes x e).suffix)
 
 takes-done : {A : Type 0} (v : A) → Takes 0 (λ rest. Ok (v, rest))
 takes-done v rest x e = let k : (v, rest) ≡ x = cc in rw (← k) (omega arith)

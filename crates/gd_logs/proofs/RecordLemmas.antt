@@ -56,7 +56,7 @@ faulty-there : (n : ℕ) (seen : List Event) (bytes : List ℕ) (f : FieldFault)
 faulty-there n seen bytes f e = record {
   left = f.left;
   is = record-faulty n seen bytes f e;
-  inside = Steady-event.inside bytes f e;
+  inside = (Steady-event.err bytes f e).inside;
   there = refl;
 }
 
@@ -69,7 +69,7 @@ left-by-end bytes rest h =
 
 -- what an event leaves, by how many bytes it took
 pub event-left : (bytes : List ℕ) (x : Event × List ℕ) → event_at bytes ≡ Ok x → (length x.1 ≤ length bytes) × (drop (length bytes - length x.1) bytes ≡ x.1)
-event-left bytes x e = left-by-end bytes x.1 (Steady-event.suffix bytes x e)
+event-left bytes x e = left-by-end bytes x.1 (Steady-event.ok bytes x e).suffix
 
 -- ---- a step
 
@@ -141,12 +141,12 @@ faulty-next n seen b bytes f at open_gate e =
 
 -- what a header leaves, by how many bytes it took
 pub header-left : (bytes : List ℕ) (x : Header × List ℕ) → header_at bytes ≡ Ok x → (length x.1 ≤ length bytes) × (drop (length bytes - length x.1) bytes ≡ x.1)
-header-left bytes x e = left-by-end bytes x.1 (Steady-header.suffix bytes x e)
+header-left bytes x e = left-by-end bytes x.1 (Steady-header.ok bytes x e).suffix
 
 pub header-faulty : (bytes : List ℕ) (f : FieldFault) → header_at bytes ≡ Err f → IsFault (in_log (header_at bytes)) bytes (0 + place bytes f.left) (log_why f.why)
 header-faulty bytes f e = record {
   left = f.left;
   is = rw e refl;
-  inside = Steady-header.inside bytes f e;
+  inside = (Steady-header.err bytes f e).inside;
   there = omega arith;
 }

@@ -39,11 +39,11 @@ same_fault f = let e : f.left + 0 ≡ f.left = omega arith in λ i. record { why
 
 -- a fault of what was read ahead is a fault of the stream
 pub front-err : {A : Type 0} (most : ℕ) (read : List ℕ → Reads A) → Steady most read → (bytes more : List ℕ) (f : FieldFault) → Enough most bytes more → read bytes ≡ Err f → read (bytes ++ more) ≡ Err (farther f more)
-front-err most read steady bytes more f enough e = by (ltb (length bytes) most) refl (steady.err bytes more f e) where
+front-err most read steady bytes more f enough e = by (ltb (length bytes) most) refl ((steady.err bytes f e).more more) where
   by : (t : Bool) → ltb (length bytes) most ≡ t → (f.why ≡ Short) ⊎ (read (bytes ++ more) ≡ Err (farther f more)) → read (bytes ++ more) ≡ Err (farther f more)
   by t q (inr h) = h
   by true q (inl s) = rw (enough (ltb-true _ _ q), append-nil, same_fault f) e
-  by false q (inl s) = absurd (steady.long bytes f (ltb-false _ _ q) e s)
+  by false q (inl s) = absurd ((steady.err bytes f e).long (ltb-false _ _ q) s)
 
 -- ---- records
 
@@ -68,7 +68,7 @@ record-more n seen bytes more x e = by_event (event_at bytes) refl where
   by_turn : (y : Event × List ℕ) → event_at bytes ≡ Ok y → (t : Option LogWhy) → turn_fault n seen y.0 ≡ t → record_at n seen (bytes ++ more) ≡ Ok (x.0, x.1 ++ more)
   by_turn y q None t =
       let same : y ≡ x = let k = sym (record-taken n seen bytes y q t) ∙ e in cc in
-      record-taken n seen (bytes ++ more) (y.0, y.1 ++ more) (Steady-event.ok bytes more y q) t
+      record-taken n seen (bytes ++ more) (y.0, y.1 ++ more) ((Steady-event.ok bytes y q).more more) t
       ∙ ap (λ (z : Event × List ℕ). taken_of (z.0, z.1 ++ more)) same
   by_turn y q (Some why) t = absurd (let k = sym (record-refused n seen bytes y why q t) ∙ e in cc)
 
@@ -88,7 +88,7 @@ record-fault-more n seen bytes more f enough e = by_event (event_at bytes) refl 
   by_turn y q None t = absurd (let k = sym (record-taken n seen bytes y q t) ∙ e in cc)
   by_turn y q (Some why) t =
       let same : refused_by why (left_of why (length bytes)) ≡ f = let k = sym (record-refused n seen bytes y why q t) ∙ e in cc in
-      record-refused n seen (bytes ++ more) (y.0, y.1 ++ more) why (Steady-event.ok bytes more y q) t
+      record-refused n seen (bytes ++ more) (y.0, y.1 ++ more) why ((Steady-event.ok bytes y q).more more) t
       ∙ ap (λ (left : ℕ). fault_of (refused_by why left)) (ap (λ (m : ℕ). left_of why m) (length-append bytes more) ∙ left-more why (length bytes) (length more) (nine_bytes bytes y q))
       ∙ ap (λ (g : LogMisread). fault_of (farther_on g more)) same
 
@@ -163,7 +163,7 @@ there-more read bytes more at why on h = record {
 pub header-more : (bytes more : List ℕ) (x : Header × List ℕ) → in_log (header_at bytes) ≡ Ok x → in_log (header_at (bytes ++ more)) ≡ Ok (x.0, x.1 ++ more)
 header-more bytes more x e = by (header_at bytes) refl e where
   by : (r : Reads Header) → header_at bytes ≡ r → in_log r ≡ Ok x → in_log (header_at (bytes ++ more)) ≡ Ok (x.0, x.1 ++ more)
-  by (Ok y) q k = let same : y ≡ x = cc in rw (Steady-header.ok bytes more y q) (ap (λ (z : Header × List ℕ). header_of (z.0, z.1 ++ more)) same)
+  by (Ok y) q k = let same : y ≡ x = cc in rw ((Steady-header.ok bytes y q).more more) (ap (λ (z : Header × List ℕ). header_of (z.0, z.1 ++ more)) same)
   by (Err f) q k = absurd cc
 
 -- a fault of a header that was read ahead is a fault of the stream

@@ -16,7 +16,7 @@ overflow_sub-result c =
 pub field_fault-requires-clause-inside : goal.field_fault-requires-clause-inside
 field_fault-requires-clause-inside c =
     let e = rw c.new-rest.ensures at c.in-Err.ensures in
-    Steady-header.inside c.args.bytes.now c.in-Err.fault e
+    (Steady-header.err c.args.bytes.now c.in-Err.fault e).inside
 
 pub returns-in-Ok : goal.returns-in-Ok
 returns-in-Ok c =

@@ -12,7 +12,7 @@ overflow_sub-place c =
 pub field_fault-requires-clause-inside : goal.field_fault-requires-clause-inside
 field_fault-requires-clause-inside c =
     let e = rw c.new-rest.ensures at c.in-Err.ensures in
-    Steady-event.inside c.in-Some.body.now c.in-Err.fault e
+    (Steady-event.err c.in-Some.body.now c.in-Err.fault e).inside
 
 pub returns-in_default-clause-exact : goal.returns-in_default-clause-exact
 returns-in_default-clause-exact c = λ seen follows. ended-next _ c.args.place.now c.args.bytes.now (step-nothing c.args.n seen c.args.bytes.now c.in_default.ensures.cases)
