@@ -1,51 +1,17 @@
 -- The events of a stream, one step after another.
-use Rattle.std.proofs.Common.{◌≡◌, ℕ, zero, suc, ◌+◌, ◌<◌, ◌≤◌, Bool, true, false, cond, eqb, List, [], ◌∷◌, ◌++◌, length, refl, sym, ap, ◌∙◌, arith}
+use Rattle.std.proofs.Common.{◌≡◌, ℕ, zero, suc, ◌+◌, ◌<◌, ◌≤◌, List, [], ◌∷◌, ◌++◌, length, refl, sym, ap, ◌∙◌, arith}
 use Rattle.std.specs.Prelude.{Option, Some, None, Result, Ok, Err}
-use Rattle.gd_base.specs.declared.fault.LogWhy.{LogWhy}
 use Rattle.gd_events.specs.Events.{Event}
 use Rattle.gd_base.specs.Results.{◌>>=◌}
-use Rattle.gd_grammar.specs.Reading.{Reads}
-use Rattle.gd_grammar.specs.EventBytes.{event_at}
-use Rattle.gd_grammar.specs.LogBytes.{Header, LogMisread, in_log, header_at, turn_fault, gate, record_at, step_at, events_at, log}
+use Rattle.gd_grammar.specs.LogBytes.{Header, LogMisread, in_log, header_at, step_at, events_at, log}
 use Rattle.gd_logs.specs.declared.log.ReadError.TheVariants.{Log}
 use Rattle.gd_logs.specs.declared.stopped.LogFault.{LogFault}
 use Rattle.gd_logs.specs.declared.stopped.LogFault.TheVariants.{Read, Bad}
 use Rattle.gd_logs.specs.Steps.{Step, NextIs}
 use Rattle.gd_logs.specs.Reader.{StartIs}
 use Rattle.gd_logs.specs.Logs.{LogIs}
-use Rattle.gd_logs.proofs.RecordLemmas.{event-left, record-taken, record-refused, record-faulty}
+use Rattle.gd_logs.proofs.StepLemmas.{step-keeps}
 use Rattle.gd_grammar.proofs.EventsLemmas.{events-some, events-none, events-err}
-
--- ---- a step takes a byte and more
-
-record-shorter : (n : ℕ) (seen : List Event) (bytes : List ℕ) (x : Event × List ℕ) → record_at n seen bytes ≡ Ok x → length x.1 ≤ length bytes
-record-shorter n seen bytes x e = by_event (event_at bytes) refl where
-  by_turn : (y : Event × List ℕ) → event_at bytes ≡ Ok y → (t : Option LogWhy) → turn_fault n seen y.0 ≡ t → length x.1 ≤ length bytes
-  by_turn y q None t =
-      let same : y ≡ x = let k = sym (record-taken n seen bytes y q t) ∙ e in cc in
-      omega (arith, (event-left bytes y q).0, ap (λ (z : Event × List ℕ). length z.1) same)
-  by_turn y q (Some why) t = absurd (let k = sym (record-refused n seen bytes y why q t) ∙ e in cc)
-
-  by_event : (r : Reads Event) → event_at bytes ≡ r → length x.1 ≤ length bytes
-  by_event (Ok y) q = by_turn y q (turn_fault n seen y.0) refl
-  by_event (Err f) q = absurd (let k = sym (record-faulty n seen bytes f q) ∙ e in cc)
-
-abbrev step_of : Option (Event × List ℕ) → Step
-step_of o = Ok o
-
-behind-shorter : (t : Bool) (n : ℕ) (seen : List Event) (bytes : List ℕ) (x : Event × List ℕ) → cond t (record_at n seen bytes >>= λ e. step_of (Some e)) (step_of None) ≡ step_of (Some x) → length x.1 ≤ length bytes
-behind-shorter true n seen bytes x e = by (record_at n seen bytes) refl e where
-  by : (r : Result (Event × List ℕ) LogMisread) → record_at n seen bytes ≡ r → (r >>= λ y. step_of (Some y)) ≡ step_of (Some x) → length x.1 ≤ length bytes
-  by (Ok y) q k =
-      let same : y ≡ x = cc in
-      omega (arith, record-shorter n seen bytes y q, ap (λ (z : Event × List ℕ). length z.1) same)
-  by (Err f) q k = absurd cc
-behind-shorter false n seen bytes x e = absurd cc
-
-step-shorter : (n : ℕ) (seen : List Event) (bytes : List ℕ) (x : Event × List ℕ) → step_at n seen bytes ≡ Ok (Some x) → length x.1 < length bytes
-unfolding step_at
-step-shorter n seen [] x e = absurd cc
-step-shorter n seen (b ∷ bytes) x e = omega (arith, behind-shorter (eqb b gate) n seen bytes x e)
 
 -- ---- at most k steps
 
@@ -67,7 +33,7 @@ events-enough k j n seen [] h i = events-nil k n seen ∙ sym (events-nil j n se
 events-enough zero j n seen (b ∷ bytes) h i = absurd (omega arith)
 events-enough (suc k) zero n seen (b ∷ bytes) h i = absurd (omega arith)
 events-enough (suc k) (suc j) n seen (b ∷ bytes) h i = same-step k j n seen (b ∷ bytes) _ refl (λ x e.
-    let lt = step-shorter n seen (b ∷ bytes) x e in
+    let lt = (step-keeps n seen (b ∷ bytes) []).fits (Some x) e in
     events-enough k j n (seen ++ x.0 ∷ []) x.1 (omega arith) (omega arith))
 
 -- all steps that the bytes allow
@@ -79,7 +45,7 @@ all-start n bytes = events-enough (length bytes) (suc (length bytes)) n [] bytes
 
 all-some : (n : ℕ) (seen : List Event) (bytes : List ℕ) (x : Event × List ℕ) → step_at n seen bytes ≡ Ok (Some x) → all_events n seen bytes ≡ all_events n (seen ++ x.0 ∷ []) x.1
 all-some n seen bytes x e =
-    let lt = step-shorter n seen bytes x e in
+    let lt = (step-keeps n seen bytes []).fits (Some x) e in
     events-some (length bytes) n seen bytes x e ∙ events-enough (length bytes) (suc (length x.1)) n (seen ++ x.0 ∷ []) x.1 (omega arith) (omega arith)
 
 -- ---- the log

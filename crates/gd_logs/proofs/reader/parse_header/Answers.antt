@@ -1,12 +1,7 @@
-use Rattle.std.proofs.Common.{ℕ, List, Ok, ap, sym, arith}
-use Rattle.std.specs.Prelude.{Result}
-use Rattle.gd_grammar.specs.LogBytes.{Header, LogMisread}
+use Rattle.std.proofs.Common.{refl, arith}
 use Rattle.gd_grammar.proofs.SteadyFields.{Steady-header}
 use Rattle.gd_logs.proofs.RecordLemmas.{header-left, header-faulty}
 use Rattle.gd_logs.proofs.reader.parse_header.Goals as goal
-
-abbrev header_of : Header → List ℕ → Result (Header × List ℕ) LogMisread
-header_of h rest = Ok (h, rest)
 
 pub overflow_sub-result : goal.overflow_sub-result
 overflow_sub-result c =
@@ -22,7 +17,7 @@ pub returns-in-Ok : goal.returns-in-Ok
 returns-in-Ok c =
     let e = rw c.new-rest.ensures at c.in-Ok.ensures in
     let left = header-left c.args.bytes.now (c.in-Ok.header, c.header.new.self) e in
-    (rw (e, c.len.ensures) (ap (λ (r : List ℕ). header_of c.in-Ok.header r) (sym left.1)), omega arith)
+    (rw (e, c.len.ensures, left.1) refl, omega arith)
 
 pub returns-in-Err : goal.returns-in-Err
 returns-in-Err c =

@@ -6,7 +6,7 @@ pub returns-clause-exact : goal.returns-clause-exact
 returns-clause-exact g c = λ is_told.
     let same = rw c.new-ahead.ensures at (c.fill.ensures.stream.same is_told) in
     let parsed = rw c.as_slice.ensures.bytes at c.in_ok-header.ensures in
-    let taken = header-taken _ c.fill.new.self _ _ _ same parsed.1 parsed.0 in
+    let taken = header-taken _ c.fill.new.self _ _ _ same (λ few. c.in_ok-fill.ensures.enough few is_told) parsed.1 parsed.0 in
     rw c.skip.ensures taken
 
 pub returns-in_err-header-clause-exact : goal.returns-in_err-header-clause-exact
