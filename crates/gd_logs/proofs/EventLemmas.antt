@@ -1,125 +1,92 @@
 -- The events of a stream, one step after another.
-use Rattle.std.proofs.Common.{◌≡◌, ℕ, zero, suc, ◌+◌, ◌<◌, ◌≤◌, Bool, true, false, cond, eqb, List, [], ◌∷◌, ◌++◌, length, refl, sym, ap, ◌∙◌, arith}
+use Rattle.std.proofs.Common.{◌≡◌, ℕ, zero, suc, ◌+◌, ◌<◌, ◌≤◌, List, [], ◌∷◌, ◌++◌, length, refl, sym, ap, ◌∙◌, arith}
 use Rattle.std.specs.Prelude.{Option, Some, None, Result, Ok, Err}
-use Rattle.gd_base.specs.declared.fault.LogWhy.{LogWhy}
-use Rattle.gd_events.specs.Events.{Event}
+use Rattle.gd_base.specs.Stamps.{Stamp}
+use Rattle.gd_events.specs.Events.{EventValue}
+use Rattle.gd_grammar.specs.Kinds.{LogKind}
+use Rattle.gd_grammar.specs.KindLaws.{KindLaws}
+use Rattle.gd_grammar.specs.HeaderBytes.{Header, header_at}
 use Rattle.gd_base.specs.Results.{◌>>=◌}
-use Rattle.gd_grammar.specs.Reading.{Reads}
-use Rattle.gd_grammar.specs.EventBytes.{event_at}
-use Rattle.gd_grammar.specs.LogBytes.{Header, LogMisread, in_log, header_at, turn_fault, gate, record_at, step_at, events_at, log}
+use Rattle.gd_grammar.specs.LogBytes.{LogMisread, in_log, step_at, events_at, log}
 use Rattle.gd_logs.specs.declared.log.ReadError.TheVariants.{Log}
 use Rattle.gd_logs.specs.declared.stopped.LogFault.{LogFault}
 use Rattle.gd_logs.specs.declared.stopped.LogFault.TheVariants.{Read, Bad}
 use Rattle.gd_logs.specs.Steps.{Step, NextIs}
 use Rattle.gd_logs.specs.Reader.{StartIs}
 use Rattle.gd_logs.specs.Logs.{LogIs}
-use Rattle.gd_logs.proofs.RecordLemmas.{event-left, record-taken, record-refused, record-faulty}
+use Rattle.gd_logs.proofs.StepLemmas.{step-keeps}
 use Rattle.gd_grammar.proofs.EventsLemmas.{events-some, events-none, events-err}
 
--- ---- a step takes a byte and more
+module _ {O : Type 0} (kind : LogKind O) where
+  -- ---- at most k steps
 
-record-shorter : (n : ℕ) (seen : List Event) (bytes : List ℕ) (x : Event × List ℕ) → record_at n seen bytes ≡ Ok x → length x.1 ≤ length bytes
-record-shorter n seen bytes x e = by_event (event_at bytes) refl where
-  by_turn : (y : Event × List ℕ) → event_at bytes ≡ Ok y → (t : Option LogWhy) → turn_fault n seen y.0 ≡ t → length x.1 ≤ length bytes
-  by_turn y q None t =
-      let same : y ≡ x = let k = sym (record-taken n seen bytes y q t) ∙ e in cc in
-      omega (arith, (event-left bytes y q).0, ap (λ (z : Event × List ℕ). length z.1) same)
-  by_turn y q (Some why) t = absurd (let k = sym (record-refused n seen bytes y why q t) ∙ e in cc)
+  events-nil : (k : ℕ) (head : Header) (seen : List (EventValue O)) → events_at k kind head seen [] ≡ Ok seen
+  unfolding events_at step_at
+  events-nil zero head seen = refl
+  events-nil (suc k) head seen = refl
 
-  by_event : (r : Reads Event) → event_at bytes ≡ r → length x.1 ≤ length bytes
-  by_event (Ok y) q = by_turn y q (turn_fault n seen y.0) refl
-  by_event (Err f) q = absurd (let k = sym (record-faulty n seen bytes f q) ∙ e in cc)
+  -- one step with each number of steps
+  same-step : (k j : ℕ) (head : Header) (seen : List (EventValue O)) (bytes : List ℕ) (s : Step O) → step_at kind head seen bytes ≡ s
+      → ((x : EventValue O × List ℕ) → step_at kind head seen bytes ≡ Ok (Some x) → events_at k kind head (seen ++ x.0 ∷ []) x.1 ≡ events_at j kind head (seen ++ x.0 ∷ []) x.1)
+      → events_at (suc k) kind head seen bytes ≡ events_at (suc j) kind head seen bytes
+  same-step k j head seen bytes (Ok None) e after = events-none kind k head seen bytes e ∙ sym (events-none kind j head seen bytes e)
+  same-step k j head seen bytes (Ok (Some x)) e after = events-some kind k head seen bytes x e ∙ after x e ∙ sym (events-some kind j head seen bytes x e)
+  same-step k j head seen bytes (Err f) e after = events-err kind k head seen bytes f e ∙ sym (events-err kind j head seen bytes f e)
 
-abbrev step_of : Option (Event × List ℕ) → Step
-step_of o = Ok o
+  -- all steps that the bytes allow
+  abbrev pub all_events : Header → List (EventValue O) → List ℕ → Result (List (EventValue O)) LogMisread
+  all_events head seen bytes = events_at (suc (length bytes)) kind head seen bytes
 
-behind-shorter : (t : Bool) (n : ℕ) (seen : List Event) (bytes : List ℕ) (x : Event × List ℕ) → cond t (record_at n seen bytes >>= λ e. step_of (Some e)) (step_of None) ≡ step_of (Some x) → length x.1 ≤ length bytes
-behind-shorter true n seen bytes x e = by (record_at n seen bytes) refl e where
-  by : (r : Result (Event × List ℕ) LogMisread) → record_at n seen bytes ≡ r → (r >>= λ y. step_of (Some y)) ≡ step_of (Some x) → length x.1 ≤ length bytes
-  by (Ok y) q k =
-      let same : y ≡ x = cc in
-      omega (arith, record-shorter n seen bytes y q, ap (λ (z : Event × List ℕ). length z.1) same)
-  by (Err f) q k = absurd cc
-behind-shorter false n seen bytes x e = absurd cc
+  -- ---- the log
 
-step-shorter : (n : ℕ) (seen : List Event) (bytes : List ℕ) (x : Event × List ℕ) → step_at n seen bytes ≡ Ok (Some x) → length x.1 < length bytes
-unfolding step_at
-step-shorter n seen [] x e = absurd cc
-step-shorter n seen (b ∷ bytes) x e = omega (arith, behind-shorter (eqb b gate) n seen bytes x e)
+  -- the header, and the events behind these events in these bytes
+  unfoldable pub log_from : Header → List (EventValue O) → List ℕ → Result (Header × List (EventValue O)) LogMisread
+  log_from head seen bytes = all_events head seen bytes >>= λ events. Ok (head, events)
 
--- ---- at most k steps
+  pub from-none : (head : Header) (seen : List (EventValue O)) (bytes : List ℕ) → step_at kind head seen bytes ≡ Ok None → log_from head seen bytes ≡ Ok (head, seen)
+  unfolding log_from
+  from-none head seen bytes e = rw (events-none kind (length bytes) head seen bytes e) refl
 
-events-nil : (k n : ℕ) (seen : List Event) → events_at k n seen [] ≡ Ok seen
-unfolding events_at step_at
-events-nil zero n seen = refl
-events-nil (suc k) n seen = refl
+  pub from-err : (head : Header) (seen : List (EventValue O)) (bytes : List ℕ) (f : LogMisread) → step_at kind head seen bytes ≡ Err f → log_from head seen bytes ≡ Err f
+  unfolding log_from
+  from-err head seen bytes f e = rw (events-err kind (length bytes) head seen bytes f e) refl
 
--- one step with each number of steps
-same-step : (k j n : ℕ) (seen : List Event) (bytes : List ℕ) (s : Step) → step_at n seen bytes ≡ s
-    → ((x : Event × List ℕ) → step_at n seen bytes ≡ Ok (Some x) → events_at k n (seen ++ x.0 ∷ []) x.1 ≡ events_at j n (seen ++ x.0 ∷ []) x.1) → events_at (suc k) n seen bytes ≡ events_at (suc j) n seen bytes
-same-step k j n seen bytes (Ok None) e after = events-none k n seen bytes e ∙ sym (events-none j n seen bytes e)
-same-step k j n seen bytes (Ok (Some x)) e after = events-some k n seen bytes x e ∙ after x e ∙ sym (events-some j n seen bytes x e)
-same-step k j n seen bytes (Err f) e after = events-err k n seen bytes f e ∙ sym (events-err j n seen bytes f e)
+  header-err : (all : List ℕ) (f : LogMisread) → in_log (header_at kind all) ≡ Err f → log kind all ≡ Err f
+  unfolding log
+  header-err all f e = rw e refl
 
--- how many steps are allowed doesn't matter where each byte could be one
-pub events-enough : (k j n : ℕ) (seen : List Event) (bytes : List ℕ) → length bytes ≤ k → length bytes ≤ j → events_at k n seen bytes ≡ events_at j n seen bytes
-events-enough k j n seen [] h i = events-nil k n seen ∙ sym (events-nil j n seen)
-events-enough zero j n seen (b ∷ bytes) h i = absurd (omega arith)
-events-enough (suc k) zero n seen (b ∷ bytes) h i = absurd (omega arith)
-events-enough (suc k) (suc j) n seen (b ∷ bytes) h i = same-step k j n seen (b ∷ bytes) _ refl (λ x e.
-    let lt = step-shorter n seen (b ∷ bytes) x e in
-    events-enough k j n (seen ++ x.0 ∷ []) x.1 (omega arith) (omega arith))
+  -- a fault of the header is the log's
+  pub log-refused : (fault : LogFault) (all left : List ℕ) → StartIs kind (Err fault) all left → LogIs kind (Err (Log fault)) all
+  log-refused Read all left h = tt
+  log-refused (Bad at why) all left h = record { left = h.left; is = header-err all (record { why = why; left = h.left }) h.is; inside = h.inside; there = h.there }
 
--- all steps that the bytes allow
-abbrev pub all_events : ℕ → List Event → List ℕ → Result (List Event) LogMisread
-all_events n seen bytes = events_at (suc (length bytes)) n seen bytes
+  -- a fault of a step is the log's, at its place in the log
+  pub log-stopped : (fault : LogFault) (head : Header) (seen : List (EventValue O)) (all bytes rest : List ℕ) (at at' : ℕ) → log kind all ≡ log_from head seen bytes → at + length bytes ≡ length all
+      → NextIs (Err fault) (step_at kind head seen bytes) at bytes at' rest → LogIs kind (Err (Log fault)) all
+  log-stopped Read head seen all bytes rest at at' same sum next = tt
+  log-stopped (Bad there why) head seen all bytes rest at at' same sum next = let fault = next.1 in record {
+    left = fault.left;
+    is = same ∙ from-err head seen bytes (record { why = why; left = fault.left }) fault.is;
+    inside = omega (arith, fault.inside);
+    there = omega (arith, fault.inside, fault.there, next.2);
+  }
 
-all-start : (n : ℕ) (bytes : List ℕ) → events_at (length bytes) n [] bytes ≡ all_events n [] bytes
-all-start n bytes = events-enough (length bytes) (suc (length bytes)) n [] bytes (omega arith) (omega arith)
+module _ {O : Type 0} {IsOp : Stamp → O → Type 0} {kind : LogKind O} (laws : KindLaws IsOp kind) where
+  -- how many steps are allowed doesn't matter where each byte could be one
+  pub events-enough : (k j : ℕ) (head : Header) (seen : List (EventValue O)) (bytes : List ℕ) → length bytes ≤ k → length bytes ≤ j → events_at k kind head seen bytes ≡ events_at j kind head seen bytes
+  events-enough k j head seen [] h i = events-nil kind k head seen ∙ sym (events-nil kind j head seen)
+  events-enough zero j head seen (b ∷ bytes) h i = absurd (omega arith)
+  events-enough (suc k) zero head seen (b ∷ bytes) h i = absurd (omega arith)
+  events-enough (suc k) (suc j) head seen (b ∷ bytes) h i = same-step kind k j head seen (b ∷ bytes) _ refl (λ x e.
+      let lt = (step-keeps laws head seen (b ∷ bytes) []).fits (Some x) e in
+      events-enough k j head (seen ++ x.0 ∷ []) x.1 (omega arith) (omega arith))
 
-all-some : (n : ℕ) (seen : List Event) (bytes : List ℕ) (x : Event × List ℕ) → step_at n seen bytes ≡ Ok (Some x) → all_events n seen bytes ≡ all_events n (seen ++ x.0 ∷ []) x.1
-all-some n seen bytes x e =
-    let lt = step-shorter n seen bytes x e in
-    events-some (length bytes) n seen bytes x e ∙ events-enough (length bytes) (suc (length x.1)) n (seen ++ x.0 ∷ []) x.1 (omega arith) (omega arith)
+  pub log-start : (all rest : List ℕ) (head : Header) → in_log (header_at kind all) ≡ Ok (head, rest) → log kind all ≡ log_from kind head [] rest
+  unfolding log log_from
+  log-start all rest head e = rw (e, events-enough (length rest) (suc (length rest)) head [] rest (omega arith) (omega arith)) refl
 
--- ---- the log
-
--- the header, and the events behind these events in these bytes
-unfoldable pub log_from : Header → List Event → List ℕ → Result (Header × List Event) LogMisread
-log_from h seen bytes = all_events h.n seen bytes >>= λ events. Ok (h, events)
-
-pub log-start : (all rest : List ℕ) (h : Header) → in_log (header_at all) ≡ Ok (h, rest) → log all ≡ log_from h [] rest
-unfolding log log_from
-log-start all rest h e = rw (e, all-start h.n rest) refl
-
-pub from-some : (h : Header) (seen : List Event) (bytes : List ℕ) (x : Event × List ℕ) → step_at h.n seen bytes ≡ Ok (Some x) → log_from h seen bytes ≡ log_from h (seen ++ x.0 ∷ []) x.1
-unfolding log_from
-from-some h seen bytes x e = rw (all-some h.n seen bytes x e) refl
-
-pub from-none : (h : Header) (seen : List Event) (bytes : List ℕ) → step_at h.n seen bytes ≡ Ok None → log_from h seen bytes ≡ Ok (h, seen)
-unfolding log_from
-from-none h seen bytes e = rw (events-none (length bytes) h.n seen bytes e) refl
-
-pub from-err : (h : Header) (seen : List Event) (bytes : List ℕ) (f : LogMisread) → step_at h.n seen bytes ≡ Err f → log_from h seen bytes ≡ Err f
-unfolding log_from
-from-err h seen bytes f e = rw (events-err (length bytes) h.n seen bytes f e) refl
-
-header-err : (all : List ℕ) (f : LogMisread) → in_log (header_at all) ≡ Err f → log all ≡ Err f
-unfolding log
-header-err all f e = rw e refl
-
--- a fault of the header is the log's
-pub log-refused : (fault : LogFault) (all left : List ℕ) → StartIs (Err fault) all left → LogIs (Err (Log fault)) all
-log-refused Read all left h = tt
-log-refused (Bad at why) all left h = record { left = h.left; is = header-err all (record { why = why; left = h.left }) h.is; inside = h.inside; there = h.there }
-
--- a fault of a step is the log's, at its place in the log
-pub log-stopped : (fault : LogFault) (h : Header) (seen : List Event) (all bytes rest : List ℕ) (at at' : ℕ) → log all ≡ log_from h seen bytes → at + length bytes ≡ length all
-    → NextIs (Err fault) (step_at h.n seen bytes) at bytes at' rest → LogIs (Err (Log fault)) all
-log-stopped Read h seen all bytes rest at at' same sum next = tt
-log-stopped (Bad there why) h seen all bytes rest at at' same sum next = let fault = next.1 in record {
-  left = fault.left;
-  is = same ∙ from-err h seen bytes (record { why = why; left = fault.left }) fault.is;
-  inside = omega (arith, fault.inside);
-  there = omega (arith, fault.inside, fault.there, next.2);
-}
+  pub from-some : (head : Header) (seen : List (EventValue O)) (bytes : List ℕ) (x : EventValue O × List ℕ) → step_at kind head seen bytes ≡ Ok (Some x) → log_from kind head seen bytes ≡ log_from kind head (seen ++ x.0 ∷ []) x.1
+  unfolding log_from
+  from-some head seen bytes x e =
+      let lt = (step-keeps laws head seen bytes []).fits (Some x) e in
+      rw (events-some kind (length bytes) head seen bytes x e ∙ events-enough (length bytes) (suc (length x.1)) head (seen ++ x.0 ∷ []) x.1 (omega arith) (omega arith)) refl

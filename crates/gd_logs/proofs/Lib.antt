@@ -4,5 +4,6 @@ pub mod StepLemmas
 pub mod TurnLemmas
 pub mod EventLemmas
 pub mod WrittenLemmas
+pub mod UpgradeLemmas
 pub mod WriterLemmas
 mod NextLemmas

@@ -1,15 +1,16 @@
 -- The next event of a reader that reading stopped, and what stops one.
 use Rattle.std.proofs.Common.{◌≡◌, ℕ, List, refl, sym, ◌∙◌}
 use Rattle.std.specs.Prelude.{Option, Some, None, Result, Ok}
-use Rattle.gd_events.specs.Events.{Event}
+use Rattle.gd_events.specs.Events.{EventValue}
+use Rattle.gd_grammar.specs.Kinds.{LogKind}
 use Rattle.gd_outside.specs.Seen.{SeenSource}
 use Rattle.gd_logs.specs.declared.stopped.Stopped.{Stopped}
 use Rattle.gd_logs.specs.declared.stopped.Stopped.TheVariants.{Gate, EndOfBytes, Fault}
 use Rattle.gd_logs.specs.declared.stopped.LogFault.{LogFault}
 use Rattle.gd_logs.specs.Reader.{Reader, ending_at, answer_of, stop_of, IsNext}
 
-ended-idle : (r : Reader) (s : Stopped) (source : SeenSource) → r.stopped ≡ Some s → IsNext r (Ok None) r source source
-ended-idle r s source h = record {
+ended-idle : {O : Type 0} (kind : LogKind O) (r : Reader) (s : Stopped) (source : SeenSource) → r.stopped ≡ Some s → IsNext kind r (Ok None) r source source
+ended-idle kind r s source h = record {
   exact = λ on. absurd (let k = sym h ∙ on in cc);
   follows = tt;
   one_more = tt;
@@ -21,10 +22,10 @@ ended-idle r s source h = record {
 }
 
 -- it returns what stopped it, and nothing changes
-pub idle-next : (r : Reader) (s : Stopped) (source : SeenSource) → r.stopped ≡ Some s → IsNext r (answer_of s) r source source
-idle-next r Gate source h = ended-idle r Gate source h
-idle-next r EndOfBytes source h = ended-idle r EndOfBytes source h
-idle-next r (Fault fault) source h = record {
+pub idle-next : {O : Type 0} (kind : LogKind O) (r : Reader) (s : Stopped) (source : SeenSource) → r.stopped ≡ Some s → IsNext kind r (answer_of s) r source source
+idle-next kind r Gate source h = ended-idle kind r Gate source h
+idle-next kind r EndOfBytes source h = ended-idle kind r EndOfBytes source h
+idle-next kind r (Fault fault) source h = record {
   exact = λ on. absurd (let k = sym h ∙ on in cc);
   follows = tt;
   one_more = tt;
@@ -36,5 +37,5 @@ idle-next r (Fault fault) source h = record {
 }
 
 -- what stops it at an end, with these bytes ahead that end alike
-pub stopped-where : (r : Result (Option Event) LogFault) (stopped : Option Stopped) (bytes ahead all : List ℕ) → stopped ≡ stop_of r bytes → bytes ≡ ahead → r ≡ Ok None → ending_at ahead ≡ ending_at all → stopped ≡ Some (ending_at all)
+pub stopped-where : {O : Type 0} (r : Result (Option (EventValue O)) LogFault) (stopped : Option Stopped) (bytes ahead all : List ℕ) → stopped ≡ stop_of r bytes → bytes ≡ ahead → r ≡ Ok None → ending_at ahead ≡ ending_at all → stopped ≡ Some (ending_at all)
 stopped-where r stopped bytes ahead all is same none alike = is ∙ rw (none, same, alike) refl

@@ -7,12 +7,6 @@ use Rattle.std.proofs.lemmas.List.{append-nil, take-append-le, length-take-le, d
 use Rattle.gd_outside.specs.Told.{told, HandsOut}
 use Rattle.gd_logs.specs.Stream.{ReadsAhead}
 
-pub reads_nothing : (ahead : List ℕ) (left : Option (List ℕ)) → ReadsAhead ahead left ahead left
-reads_nothing ahead left = record { was = λ t. t; same = λ t. refl }
-
-pub reads_then : {p q r : List ℕ} {a b c : Option (List ℕ)} → ReadsAhead p a q b → ReadsAhead q b r c → ReadsAhead p a r c
-reads_then h k = record { was = λ t. h.was (k.was t); same = λ t. h.same (k.was t) ∙ k.same t }
-
 -- bytes that the source hands out are put behind those that are ahead
 pub reads_more : {p q text : List ℕ} {a b c : Option (List ℕ)} → ReadsAhead p a q b → HandsOut b text c → ReadsAhead p a (q ++ text) c
 reads_more {q = q} {text = text} {c = c} h k = record {

@@ -1,4 +1,5 @@
 //! What edits become, computed on worked rows.
+#![tactic(auto, unfolding(crate::proofs::Computing::computing))]
 
 ghost use Rattle.std.specs.Prelude.{◌≡◌, [], Ok, Err, pos};
 ghost use Rattle.std.specs.List.{AllByRecursion};

@@ -1,4 +1,5 @@
 //! The definitions of lines, computed on worked rows.
+#![tactic(auto, unfolding(crate::proofs::Computing::computing))]
 
 ghost use Rattle.std.specs.Prelude.{◌≡◌, Ok, Err, Some, None, codes};
 ghost use Rattle.std.specs.List.{AllByRecursion};

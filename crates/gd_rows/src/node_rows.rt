@@ -1,4 +1,5 @@
 //! The slow run of a node, computed on worked rows.
+#![tactic(auto, unfolding(crate::proofs::Computing::computing))]
 
 ghost use Rattle.std.specs.Prelude.{◌≡◌, ◌∷◌, [], Ok, length, pos};
 ghost use Rattle.gd_lines.specs.declared.command.Command.TheVariants as command;

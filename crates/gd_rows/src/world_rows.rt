@@ -1,4 +1,5 @@
 //! Sites and worlds, computed on worked rows.
+#![tactic(auto, unfolding(crate::proofs::Computing::computing))]
 
 ghost use Rattle.std.specs.Prelude.{◌≡◌, ◌∷◌, [], Some, slice_get, codes, pos};
 ghost use Rattle.std.specs.List.{AllByRecursion};

@@ -16,6 +16,7 @@ use Rattle.gd_base.specs.Labels.{IsLabel, is_name, is_plain, most_label}
 use Rattle.gd_base.specs.Ranges.{place_limit, size_limit, is_within, is_colour, is_width, is_style}
 use Rattle.gd_base.specs.declared.style.Style.TheVariants as style
 use Rattle.gd_base.specs.declared.edit.Edit.{Edit}
+use Rattle.gd_base.specs.declared.edit.Edit.TheVariants as edit
 use Rattle.gd_base.specs.declared.refusal.LineFault.{LineFault}
 use Rattle.gd_base.specs.declared.refusal.LineFault.TheVariants.{LongLine, WrongCount, BadNumber}
 use Rattle.gd_lines.specs.declared.verb.Verb.{Verb}
@@ -53,10 +54,6 @@ any : {A : Type 0} (r : ReadsWords A) → Yields Any r
 any (Ok x) = tt
 any (Err fault) = tt
 
-both : {A : Type 0} (P Q : A → Type 0) (r : ReadsWords A) → Yields P r → Yields Q r → Yields (λ x. P x × Q x) r
-both P Q (Ok x) p q = (p, q)
-both P Q (Err fault) p q = tt
-
 weaker : {A : Type 0} (P Q : A → Type 0) (r : ReadsWords A) → ((x : A) → P x → Q x) → Yields P r → Yields Q r
 weaker P Q (Ok x) f h = f x.0 h
 weaker P Q (Err fault) f h = tt
@@ -81,18 +78,15 @@ bounded_in : (low high : ℤ) (o : Option ℤ) → IfSome (bounded low high o) (
 bounded_in low high None = tt
 bounded_in low high (Some z) = then_holds (InBounds low high) (is_between low high z) z (λ e. e)
 
-number_at_in : (low high : ℤ) (line : List ℕ) → Yields (InBounds low high) (next BadNumber (number_in low high) line)
+-- a place, or a size
+abbrev InLimit : ℕ → ℤ → Type 0
+InLimit limit z = is_within limit z ≡ true
+
+within_in : (limit : ℕ) (line : List ℕ) → Yields (InLimit limit) (next BadNumber (number_in (neg_ℤ (pos limit)) (pos limit)) line)
 unfolding number_in
-number_at_in low high line =
-    by_spelling _ _ _ (bounded low high (number (word line))) (bounded_in low high (number (word line)))
-
-place_in : (line : List ℕ) → Yields (λ z. is_within place_limit z ≡ true) (place_at line)
-unfolding place_at
-place_in line = number_at_in (neg_ℤ (pos place_limit)) (pos place_limit) line
-
-size_in : (line : List ℕ) → Yields (λ z. is_within size_limit z ≡ true) (size_at line)
-unfolding size_at
-size_in line = number_at_in (neg_ℤ (pos size_limit)) (pos size_limit) line
+within_in limit line =
+    let low = neg_ℤ (pos limit) in
+    by_spelling _ _ _ (bounded low (pos limit) (number (word line))) (bounded_in low (pos limit) (number (word line)))
 
 abbrev InRange : ℕ → ℕ → ℕ → Type 0
 InRange low high n = (nat_le low n && nat_le n high) ≡ true
@@ -161,33 +155,26 @@ colour_in : (line : List ℕ) → Yields (λ c. is_colour c ≡ true) (colour_at
 unfolding colour_at
 colour_in line = by_spelling _ _ _ (colour (word line)) (colour_of (word line))
 
+-- a word that stands for none, or one that is read
+or_none : {A : Type 0} (P : A → Type 0) (Q : Option A → Type 0) (b : Bool) (o : Option A) → Q None → ((x : A) → P x → Q (Some x)) → IfSome o P
+    → IfSome (if b then Some None else option_map Some o) Q
+or_none P Q true o none some h = none
+or_none P Q false None none some h = tt
+or_none P Q false (Some x) none some h = some x h
+
 IsFill : Option ℕ → Type 0
 IsFill f = is_style (style.Fill f) ≡ true
 
-fill_by : (b : Bool) (o : Option ℕ) → IfSome o (λ c. is_colour c ≡ true)
-    → IfSome (if b then Some None else option_map Some o) IsFill
-unfolding IsFill
-fill_by true o h = refl
-fill_by false None h = tt
-fill_by false (Some c) h = h
-
 fill_in : (line : List ℕ) → Yields IsFill (fill_at line)
-unfolding fill_at fill
-fill_in line = by_spelling IsFill _ _ _ (fill_by _ (colour (word line)) (colour_of (word line)))
+unfolding fill_at fill IsFill
+fill_in line = by_spelling IsFill _ _ _ (or_none (λ c. is_colour c ≡ true) IsFill _ (colour (word line)) refl (λ c h. h) (colour_of (word line)))
 
 IsFocus : Option Stamp → Type 0
 IsFocus f = IsCommand (command.Focus f)
 
-focus_by : (b : Bool) (o : Option Stamp) → IfSome o IsStamp
-    → IfSome (if b then Some None else option_map Some o) IsFocus
-unfolding IsFocus
-focus_by true o h = tt
-focus_by false None h = tt
-focus_by false (Some i) h = h
-
 focus_in : (line : List ℕ) → Yields IsFocus (focus_at line)
-unfolding focus_at focus
-focus_in line = by_spelling IsFocus _ _ _ (focus_by _ (id (word line)) (id_of (word line)))
+unfolding focus_at focus IsFocus
+focus_in line = by_spelling IsFocus _ _ _ (or_none IsStamp IsFocus _ (id (word line)) tt (λ i h. h) (id_of (word line)))
 
 name_in : (line : List ℕ) → Yields (λ n. is_name n ≡ true) (name_at line)
 unfolding name_at name
@@ -213,59 +200,34 @@ ids_in (suc count) n ids line total h = first IsStamp (AreIds n) (id_at line) _ 
 -- ---- the words of each edit
 
 create_in : (line : List ℕ) → Yields IsEdit (create_at line)
-unfolding create_at
+unfolding create_at place_at size_at
 create_in line =
     first Any IsEdit (kind_at line) _ (any (kind_at line)) (λ kind a.
-    first (λ z. is_within place_limit z ≡ true) IsEdit (place_at kind.1) _ (place_in kind.1) (λ x in_x.
-    first (λ z. is_within place_limit z ≡ true) IsEdit (place_at x.1) _ (place_in x.1) (λ y in_y.
-    first (λ z. is_within size_limit z ≡ true) IsEdit (size_at y.1) _ (size_in y.1) (λ w in_w.
-    first (λ z. is_within size_limit z ≡ true) IsEdit (size_at w.1) _ (size_in w.1) (λ h in_h.
+    first (InLimit place_limit) IsEdit (place_at kind.1) _ (within_in place_limit kind.1) (λ x in_x.
+    first (InLimit place_limit) IsEdit (place_at x.1) _ (within_in place_limit x.1) (λ y in_y.
+    first (InLimit size_limit) IsEdit (size_at y.1) _ (within_in size_limit y.1) (λ w in_w.
+    first (InLimit size_limit) IsEdit (size_at w.1) _ (within_in size_limit w.1) (λ h in_h.
     first IsLabel IsEdit (label_at h.1) _ (label_in h.1) (λ label is.
     (and_from _ _ in_x (and_from _ _ in_y (and_from _ _ in_w in_h)), is)))))))
 
-delete_in : (line : List ℕ) → Yields IsEdit (delete_at line)
-unfolding delete_at
-delete_in line = first IsStamp IsEdit (id_at line) _ (id_in line) (λ id is. is)
+-- an id alone
+lone_in : (wish : Stamp → Edit) (line : List ℕ) → ((id : Stamp) → IsStamp id → IsEdit (wish id)) → Yields IsEdit (id_at line >>= λ id. Ok (wish id.0, id.1))
+lone_in wish line is = first IsStamp IsEdit (id_at line) _ (id_in line) (λ id. is id.0)
 
-move_in : (line : List ℕ) → Yields IsEdit (move_at line)
-unfolding move_at
-move_in line =
-    first IsStamp IsEdit (id_at line) _ (id_in line) (λ id is.
-    first (λ z. is_within place_limit z ≡ true) IsEdit (place_at id.1) _ (place_in id.1) (λ x in_x.
-    first (λ z. is_within place_limit z ≡ true) IsEdit (place_at x.1) _ (place_in x.1) (λ y in_y.
-    (is, and_from _ _ in_x in_y))))
+-- an id, and what it is changed to
+changed_in : {A : Type 0} (P : A → Type 0) (at : List ℕ → ReadsWords A) (wish : Stamp → A → Edit) (line : List ℕ) → ((rest : List ℕ) → Yields P (at rest))
+    → ((id : Stamp) (x : A) → IsStamp id → P x → IsEdit (wish id x)) → Yields IsEdit (id_at line >>= λ id. at id.1 >>= λ x. Ok (wish id.0 x.0, x.1))
+changed_in P at wish line in_range is =
+    first IsStamp IsEdit (id_at line) _ (id_in line) (λ id stamp. first P IsEdit (at id.1) _ (in_range id.1) (λ x h. is id.0 x.0 stamp h))
 
-resize_in : (line : List ℕ) → Yields IsEdit (resize_at line)
-unfolding resize_at
-resize_in line =
-    first IsStamp IsEdit (id_at line) _ (id_in line) (λ id is.
-    first (λ z. is_within size_limit z ≡ true) IsEdit (size_at id.1) _ (size_in id.1) (λ w in_w.
-    first (λ z. is_within size_limit z ≡ true) IsEdit (size_at w.1) _ (size_in w.1) (λ h in_h.
-    (is, and_from _ _ in_w in_h))))
-
-stroke_in : (line : List ℕ) → Yields IsEdit (stroke_at line)
-unfolding stroke_at
-stroke_in line =
-    first IsStamp IsEdit (id_at line) _ (id_in line) (λ id is.
-    first (λ c. is_colour c ≡ true) IsEdit (colour_at id.1) _ (colour_in id.1) (λ colour in_range. (is, in_range)))
-
-refill_in : (line : List ℕ) → Yields IsEdit (refill_at line)
-unfolding refill_at IsFill
-refill_in line =
-    first IsStamp IsEdit (id_at line) _ (id_in line) (λ id is.
-    first IsFill IsEdit (fill_at id.1) _ (fill_in id.1) (λ fill in_range. (is, in_range)))
-
-rewidth_in : (line : List ℕ) → Yields IsEdit (rewidth_at line)
-unfolding rewidth_at
-rewidth_in line =
-    first IsStamp IsEdit (id_at line) _ (id_in line) (λ id is.
-    first (λ n. is_width n ≡ true) IsEdit (width_at id.1) _ (width_in id.1) (λ width in_range. (is, in_range)))
-
-text_in : (line : List ℕ) → Yields IsEdit (text_at line)
-unfolding text_at
-text_in line =
-    first IsStamp IsEdit (id_at line) _ (id_in line) (λ id is.
-    first IsLabel IsEdit (label_at id.1) _ (label_in id.1) (λ label is_label. (is, is_label)))
+-- an id, and two numbers within a limit
+pair_in : (limit : ℕ) (wish : Stamp → ℤ → ℤ → Edit) (line : List ℕ) (at : List ℕ → ReadsWords ℤ) → ((rest : List ℕ) → Yields (InLimit limit) (at rest))
+    → ((id : Stamp) (x y : ℤ) → IsStamp id × (is_within limit x && is_within limit y ≡ true) → IsEdit (wish id x y))
+    → Yields IsEdit (id_at line >>= λ id. at id.1 >>= λ x. at x.1 >>= λ y. Ok (wish id.0 x.0 y.0, y.1))
+pair_in limit wish line at in_range is =
+    first IsStamp IsEdit (id_at line) _ (id_in line) (λ id stamp.
+    first (InLimit limit) IsEdit (at id.1) _ (in_range id.1) (λ x in_x.
+    first (InLimit limit) IsEdit (at x.1) _ (in_range x.1) (λ y in_y. is id.0 x.0 y.0 (stamp, and_from _ _ in_x in_y))))
 
 group_in : (n : ℕ) (line : List ℕ) → (nat_le 2 n && nat_le n MOST_MEMBERS) ≡ true → Yields IsEdit (group_at n line)
 unfolding group_at
@@ -275,40 +237,36 @@ group_in n line fit =
     first (AreIds n) IsEdit (ids_at n [] line) _ (ids_in n n [] line (omega arith) (All-nil IsStamp)) (λ ids are.
     (omega (arith, are.0, least), omega (arith, are.0, most), recursion_from_All IsStamp ids.0 are.1))
 
-ungroup_in : (line : List ℕ) → Yields IsEdit (ungroup_at line)
-unfolding ungroup_at
-ungroup_in line = first IsStamp IsEdit (id_at line) _ (id_in line) (λ id is. is)
-
-raise_in : (line : List ℕ) → Yields IsEdit (raise_at line)
-unfolding raise_at
-raise_in line = first IsStamp IsEdit (id_at line) _ (id_in line) (λ id is. is)
-
 -- ---- a whole line
 
-edit_in : (r : ReadsWords Edit) → Yields IsEdit r → Yields IsCommand (an_edit r)
-edit_in (Ok e) h = h
+-- what a verb is followed by is in its ranges, and a site may be asked for it if it may be asked for the verb
+abbrev IsAskedIf : Bool → Command → Type 0
+IsAskedIf askable c = IsCommand c × (askable ≡ true → IsAsked c)
+
+edit_in : (r : ReadsWords Edit) → Yields IsEdit r → Yields (IsAskedIf true) (an_edit r)
+edit_in (Ok e) h = (h, λ _. tt)
 edit_in (Err fault) h = tt
 
-pub command_in : (v : Verb) (n : ℕ) (line : List ℕ) → fits v n ≡ true → Yields IsCommand (command_at v n line)
-unfolding IsFocus
+command_in : (v : Verb) (n : ℕ) (line : List ℕ) → fits v n ≡ true → Yields (IsAskedIf (is_askable v)) (command_at v n line)
+unfolding IsFocus IsFill delete_at move_at resize_at stroke_at refill_at rewidth_at text_at ungroup_at raise_at place_at size_at
 command_in verb_of.Create n line fit = edit_in (create_at line) (create_in line)
-command_in verb_of.Delete n line fit = edit_in (delete_at line) (delete_in line)
-command_in verb_of.Move n line fit = edit_in (move_at line) (move_in line)
-command_in verb_of.Resize n line fit = edit_in (resize_at line) (resize_in line)
-command_in verb_of.Stroke n line fit = edit_in (stroke_at line) (stroke_in line)
-command_in verb_of.Fill n line fit = edit_in (refill_at line) (refill_in line)
-command_in verb_of.Width n line fit = edit_in (rewidth_at line) (rewidth_in line)
-command_in verb_of.Text n line fit = edit_in (text_at line) (text_in line)
+command_in verb_of.Delete n line fit = edit_in _ (lone_in edit.Delete line (λ id is. is))
+command_in verb_of.Move n line fit = edit_in _ (pair_in place_limit edit.Move line place_at (within_in place_limit) (λ id x y h. h))
+command_in verb_of.Resize n line fit = edit_in _ (pair_in size_limit edit.Resize line size_at (within_in size_limit) (λ id w h is. is))
+command_in verb_of.Stroke n line fit = edit_in _ (changed_in _ colour_at (λ id c. edit.Restyle id (style.Stroke c)) line colour_in (λ id c is h. (is, h)))
+command_in verb_of.Fill n line fit = edit_in _ (changed_in _ fill_at (λ id f. edit.Restyle id (style.Fill f)) line fill_in (λ id f is h. (is, h)))
+command_in verb_of.Width n line fit = edit_in _ (changed_in _ width_at (λ id w. edit.Restyle id (style.Width w)) line width_in (λ id w is h. (is, h)))
+command_in verb_of.Text n line fit = edit_in _ (changed_in _ label_at edit.Retext line label_in (λ id text is h. (is, h)))
 command_in verb_of.Group n line fit = edit_in (group_at n line) (group_in n line fit)
-command_in verb_of.Ungroup n line fit = edit_in (ungroup_at line) (ungroup_in line)
-command_in verb_of.Raise n line fit = edit_in (raise_at line) (raise_in line)
-command_in verb_of.Show n line fit = tt
-command_in verb_of.Poll n line fit = tt
-command_in verb_of.Status n line fit = tt
-command_in verb_of.Focus n line fit = first IsFocus IsCommand (focus_at line) _ (focus_in line) (λ focus is. is)
-command_in verb_of.Name n line fit = first (λ n. is_name n ≡ true) IsCommand (name_at line) _ (name_in line) (λ name is. is)
-command_in verb_of.Who n line fit = tt
-command_in verb_of.Quit n line fit = tt
+command_in verb_of.Ungroup n line fit = edit_in _ (lone_in edit.Ungroup line (λ id is. is))
+command_in verb_of.Raise n line fit = edit_in _ (lone_in edit.Raise line (λ id is. is))
+command_in verb_of.Show n line fit = (tt, λ _. tt)
+command_in verb_of.Poll n line fit = (tt, λ e. absurd cc)
+command_in verb_of.Status n line fit = (tt, λ _. tt)
+command_in verb_of.Focus n line fit = first IsFocus (IsAskedIf true) (focus_at line) _ (focus_in line) (λ focus is. (is, λ _. tt))
+command_in verb_of.Name n line fit = first (λ n. is_name n ≡ true) (IsAskedIf true) (name_at line) _ (name_in line) (λ name is. (is, λ _. tt))
+command_in verb_of.Who n line fit = (tt, λ _. tt)
+command_in verb_of.Quit n line fit = (tt, λ e. absurd cc)
 
 fitting : {A : Type 0} (P : A → Type 0) (fit : Bool) (r : ReadsWords A) → (fit ≡ true → Yields P r) → Yields P (if fit then r else Err WrongCount)
 fitting P true r h = h refl
@@ -316,7 +274,7 @@ fitting P false r h = tt
 
 counted_in : (v : Option Verb) (n : ℕ) (line : List ℕ) → Yields IsCommand (counted_at v n line)
 counted_in None n line = tt
-counted_in (Some v) n line = fitting IsCommand (fits v n) (command_at v n line) (command_in v n line)
+counted_in (Some v) n line = fitting IsCommand (fits v n) (command_at v n line) (λ fit. weaker _ IsCommand (command_at v n line) (λ c h. h.0) (command_in v n line fit))
 
 -- what is read, without what is left
 abbrev Reads : {A : Type 0} → (A → Type 0) → Result A LineFault → Type 0
@@ -350,42 +308,13 @@ site_in : (line : List ℕ) → Yields IsSite (site_at line)
 unfolding site_at
 site_in line = weaker (InRange 1 SITES) IsSite (site_at line) (is_site-bounds SITES) (natural_in_range 1 SITES line)
 
-asked_edit : (r : ReadsWords Edit) → Yields IsAsked (an_edit r)
-asked_edit (Ok e) = tt
-asked_edit (Err fault) = tt
-
-asked_command : (v : Verb) (n : ℕ) (line : List ℕ) → is_askable v ≡ true → Yields IsAsked (command_at v n line)
-asked_command verb_of.Create n line e = asked_edit (create_at line)
-asked_command verb_of.Delete n line e = asked_edit (delete_at line)
-asked_command verb_of.Move n line e = asked_edit (move_at line)
-asked_command verb_of.Resize n line e = asked_edit (resize_at line)
-asked_command verb_of.Stroke n line e = asked_edit (stroke_at line)
-asked_command verb_of.Fill n line e = asked_edit (refill_at line)
-asked_command verb_of.Width n line e = asked_edit (rewidth_at line)
-asked_command verb_of.Text n line e = asked_edit (text_at line)
-asked_command verb_of.Group n line e = asked_edit (group_at n line)
-asked_command verb_of.Ungroup n line e = asked_edit (ungroup_at line)
-asked_command verb_of.Raise n line e = asked_edit (raise_at line)
-asked_command verb_of.Show n line e = tt
-asked_command verb_of.Poll n line e = absurd cc
-asked_command verb_of.Status n line e = tt
-asked_command verb_of.Focus n line e = first Any IsAsked (focus_at line) _ (any (focus_at line)) (λ focus a. tt)
-asked_command verb_of.Name n line e = first Any IsAsked (name_at line) _ (any (name_at line)) (λ name a. tt)
-asked_command verb_of.Who n line e = tt
-asked_command verb_of.Quit n line e = absurd cc
-
-abbrev IsAskedInRange : Command → Type 0
-IsAskedInRange c = IsCommand c × IsAsked c
-
 site_command_in : (v : Verb) (n : ℕ) (line : List ℕ) → is_askable v ≡ true → fits v n ≡ true
     → Yields IsScriptLine (site_command_at v n line)
 unfolding site_command_at
 site_command_in v n line askable fit =
     first IsSite IsScriptLine (site_at line) _ (site_in line) (λ site is.
     let rest = behind site.1 in
-    first IsAskedInRange IsScriptLine (command_at v n rest) _
-    (both IsCommand IsAsked (command_at v n rest) (command_in v n rest fit) (asked_command v n rest askable))
-    (λ command in_range. (is, in_range.0, in_range.1)))
+    first (IsAskedIf (is_askable v)) IsScriptLine (command_at v n rest) _ (command_in v n rest fit) (λ command in_range. (is, in_range.0, in_range.1 askable)))
 
 askable_in : (v : Verb) (n : ℕ) (line : List ℕ) (b : Bool) → is_askable v ≡ b
     → Yields IsScriptLine (asked_at (then_some b v) n line)
