@@ -113,7 +113,7 @@ module _ {O : Type 0} {IsOp : Stamp → O → Type 0} {kind : LogKind O} (laws :
         record-refused laws head seen (bytes ++ more) (longer more y) why (((Steady-event laws head.version).ok bytes y q).more more) t
         ∙ ap (λ (left : ℕ). fault_of (refused_by why left)) (ap (λ (m : ℕ). left_of why m) (length-append bytes more) ∙ left-more why (length bytes) (length more) (nine_bytes laws head.version bytes y q))))
 
-    by_event : (r : Reads EventValue O) → event_at kind head.version bytes ≡ r
+    by_event : (r : Reads (EventValue O)) → event_at kind head.version bytes ≡ r
         → Keeps (longer more) (λ x. length x.1 ≤ length bytes) (Enough EVENT_BYTES bytes more) more (record_at kind head seen bytes) (record_at kind head seen (bytes ++ more))
     by_event (Ok y) q = by_turn y q (turn_fault head.n seen y.0) refl
     by_event (Err g) q = rw (record-faulty laws head seen bytes g q) (keeps-fault (refused_by (log_why g.why) g.left) (λ enough.
@@ -141,7 +141,7 @@ module _ {O : Type 0} {IsOp : Stamp → O → Type 0} {kind : LogKind O} (laws :
 
   -- ---- what was read ahead of a stream
 
-  pub stream-next : (result : Result (Option EventValue O) LogFault) (head : Header) (seen : List (EventValue O)) (all ahead more : List ℕ) (at at' : ℕ) → (result ≡ Err Read → ⊥) → all ≡ ahead ++ more → Enough RECORD ahead more
+  pub stream-next : (result : Result (Option (EventValue O)) LogFault) (head : Header) (seen : List (EventValue O)) (all ahead more : List ℕ) (at at' : ℕ) → (result ≡ Err Read → ⊥) → all ≡ ahead ++ more → Enough RECORD ahead more
       → NextIs result (step_at kind head seen ahead) at ahead at' (drop (at' - at) ahead) → NextIs result (step_at kind head seen all) at all at' (drop (at' - at) ahead ++ more)
   stream-next (Ok None) head seen all ahead more at at' parsed same enough h = (rw same ((step-keeps head seen ahead more).ok enough None h.0), rw h.1 (sym same), h.2)
   stream-next (Ok (Some e)) head seen all ahead more at at' parsed same enough h =

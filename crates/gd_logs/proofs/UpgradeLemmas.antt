@@ -1,5 +1,5 @@
 -- What is read as a log obeys its rules, and is read as a log of the newest version once it is written as such.
-use Rattle.std.proofs.Common.{◌≡◌, ℕ, zero, suc, ◌<◌, ◌^◌, Bool, true, false, cond, eqb, List, [], ◌∷◌, ◌++◌, length, refl, sym, ap, ◌∙◌, subst, append_assoc}
+use Rattle.std.proofs.Common.{◌≡◌, ℕ, zero, suc, Bool, true, false, cond, eqb, List, [], ◌∷◌, ◌++◌, length, refl, sym, ◌∙◌, subst, append_assoc}
 use Rattle.std.specs.Prelude.{Option, Some, None, Result, Ok, Err}
 use Rattle.std.proofs.lemmas.List.{append-nil}
 use Rattle.gd_base.specs.Stamps.{Stamp}
@@ -12,7 +12,7 @@ use Rattle.gd_base.specs.Results.{◌>>=◌}
 use Rattle.gd_grammar.specs.FieldBytes.{AreBytes}
 use Rattle.gd_grammar.specs.Kinds.{LogKind, FitsIn, event_at, spelling}
 use Rattle.gd_grammar.specs.KindLaws.{KindLaws}
-use Rattle.gd_grammar.specs.HeaderBytes.{Header, IsHeader, has_version, header_at, header_bytes, upgraded}
+use Rattle.gd_grammar.specs.HeaderBytes.{Header, has_version, header_at, header_bytes, upgraded}
 use Rattle.gd_grammar.specs.LogBytes.{LogMisread, in_log, turn_fault, gate, record_at, step_at, events_at, log, logged}
 use Rattle.gd_grammar.proofs.EventsLemmas.{events-some, events-none, events-err}
 use Rattle.gd_grammar.proofs.Exact.{back_bytes}

@@ -99,9 +99,9 @@ module _ {O : Type 0} {IsOp : Stamp → O → Type 0} {kind : LogKind O} (laws :
   log-behind h events old more of =
       let front = header_bytes kind h ++ gated_bytes kind events in
       ap (λ (l : List ℕ). log kind (l ++ more)) of.is
-      ∙ ap (log kind) kind (append_assoc front (0 ∷ []) more)
+      ∙ ap (log kind) (append_assoc front (0 ∷ []) more)
       ∙ log-shut laws h events 0 more of.ruled refl
-      ∙ sym (ap (log kind) of.is ∙ log-logged kind h events of.ruled)
+      ∙ sym (ap (log kind) of.is ∙ log-logged laws h events of.ruled)
 
   -- whatever byte stands in the place of the closed gate, before a record
   log-at-gate : (h : Header) (events : List (EventValue O)) (old s : List ℕ) (place b : ℕ) → IsLogOf IsOp kind h events old → length old ≡ place + 1 → IsWithOrWithout kind old s (take place old ++ (b ∷ (s ++ 0 ∷ [])))
@@ -109,11 +109,11 @@ module _ {O : Type 0} {IsOp : Stamp → O → Type 0} {kind : LogKind O} (laws :
     by : (t : Bool) → eqb b gate ≡ t → IsWithOrWithout kind old s (take place old ++ (b ∷ (s ++ 0 ∷ [])))
     by true opened = inr (
         let at : b ≡ gate = eqb-true b gate opened in
-        ap (λ (c : ℕ). log kind (take place old ++ (c ∷ (s ++ 0 ∷ [])))) at ∙ ap (log kind) kind (record-put old s place len))
+        ap (λ (c : ℕ). log kind (take place old ++ (c ∷ (s ++ 0 ∷ [])))) at ∙ ap (log kind) (record-put old s place len))
     by false shut = inl (
         ap (λ (l : List ℕ). log kind (l ++ (b ∷ (s ++ 0 ∷ [])))) (front-of (header_bytes kind h ++ gated_bytes kind events) old place of.is len)
         ∙ log-shut laws h events b (s ++ 0 ∷ []) of.ruled shut
-        ∙ sym (ap (log kind) of.is ∙ log-logged kind h events of.ruled))
+        ∙ sym (ap (log kind) of.is ∙ log-logged laws h events of.ruled))
 
   -- ---- an append of the bytes s, with old contents, those with the piece behind them, and new ones
 

@@ -1,5 +1,5 @@
 -- A log is read as it was written.
-use Rattle.std.proofs.Common.{◌≡◌, ℕ, ◌<◌, ◌^◌, false, List, [], ◌∷◌, ◌++◌, length, refl, sym, ap, ◌∙◌, append_assoc}
+use Rattle.std.proofs.Common.{◌≡◌, ℕ, false, List, [], ◌∷◌, ◌++◌, length, refl, sym, ap, ◌∙◌, append_assoc}
 use Rattle.std.specs.Prelude.{Some, None, Ok, Err, ◌==◌}
 use Rattle.std.proofs.lemmas.List.{append-nil}
 use Rattle.gd_base.specs.declared.fault.LogWhy.{LogWhy}

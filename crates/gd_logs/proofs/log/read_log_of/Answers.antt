@@ -9,7 +9,7 @@ use Rattle.gd_logs.proofs.log.read_log_of.Goals as goal
 pub returns-in_err-reader-clause-exact : goal.returns-in_err-reader-clause-exact
 returns-in_err-reader-clause-exact g c = λ is_told.
     let p = err_from_is_err_and c.from_residual.result c.from_residual.ensures.1 in
-    rw (p.1, p.2) (log-refused g.met.K.LogKind.kind c.in_err-reader.field-0.0 _ _ (c.in_err-reader.ensures.exact is_told))
+    rw (p.1, p.2) (log-refused g.K.LogKind.kind c.in_err-reader.field-0.0 _ _ (c.in_err-reader.ensures.exact is_told))
 
 pub records-init : goal.records-init
 records-init g c = rw c.new-events.ensures record {
@@ -30,7 +30,7 @@ pub returns-in_err-event-clause-exact : goal.returns-in_err-event-clause-exact
 returns-in_err-event-clause-exact g c = λ is_told.
     let p = err_from_is_err_and c.from_residual-in_err-event.result c.from_residual-in_err-event.ensures.1 in
     let was = c.in_err-event.ensures.called.handed.was is_told in
-    rw (p.1, p.2) (log-stopped g.met.K.LogKind.kind c.in_err-event.field-0.0 c.records.reader.header c.records.events _ _ _ c.records.reader.place _ (c.records.invariant.exact was) (c.records.invariant.place was)
+    rw (p.1, p.2) (log-stopped g.K.LogKind.kind c.in_err-event.field-0.0 c.records.reader.header c.records.events _ _ _ c.records.reader.place _ (c.records.invariant.exact was) (c.records.invariant.place was)
     (c.in_err-event.ensures.next.exact c.records.invariant.on c.records.events c.records.invariant.follows is_told))
 
 pub records-preserved : goal.records-preserved
@@ -56,7 +56,7 @@ pub returns-clause-exact : goal.returns-clause-exact
 returns-clause-exact g c = λ is_told.
     let ended = rw c.in_default.is at c.in_ok-event.ensures in
     let step = ended.next.exact c.records.invariant.on c.records.events c.records.invariant.follows is_told in
-    rw (← c.records.invariant.header) (c.records.invariant.exact (c.in_ok-event.ensures.called.handed.was is_told) ∙ from-none g.met.K.LogKind.kind c.records.reader.header c.records.events _ step.0)
+    rw (← c.records.invariant.header) (c.records.invariant.exact (c.in_ok-event.ensures.called.handed.was is_told) ∙ from-none g.K.LogKind.kind c.records.reader.header c.records.events _ step.0)
 
 pub returns-in_err-event-clause-called : goal.returns-in_err-event-clause-called
 returns-in_err-event-clause-called g c =

@@ -11,7 +11,7 @@ overflow_sub-result g c =
 pub field_fault-requires-clause-inside : goal.field_fault-requires-clause-inside
 field_fault-requires-clause-inside g c =
     let e = rw c.new-rest.ensures at c.in-Err.ensures in
-    ((Steady-header g.met.K.LogKind.kind).err c.args.bytes.now c.in-Err.fault e).inside
+    ((Steady-header g.K.LogKind.kind).err c.args.bytes.now c.in-Err.fault e).inside
 
 pub returns-in-Ok : goal.returns-in-Ok
 returns-in-Ok g c =

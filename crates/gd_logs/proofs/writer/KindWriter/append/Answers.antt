@@ -17,12 +17,12 @@ pub returns-clause-added : goal.returns-clause-added
 returns-clause-added g c = λ is_told.
     let was = c.put-2.ensures.called.was is_told in
     let at = rw (← c.self.view_is) at (c.requires.log (c.put.ensures.called.was was)) in
-    appended g.met.K.LogKind.kind _ c.as_slice.result.now _ _ _ c.self.inside.place at (c.as_slice.ensures.value ∙ c.record_of-record.ensures) (c.in_ok-put.ensures.written was) (c.in_ok-put-2.ensures.written is_told)
+    appended g.K.LogKind.kind _ c.as_slice.result.now _ _ _ c.self.inside.place at (c.as_slice.ensures.value ∙ c.record_of-record.ensures) (c.in_ok-put.ensures.written was) (c.in_ok-put-2.ensures.written is_told)
 
 pub returns-clause-logged : goal.returns-clause-logged
-returns-clause-logged g c = λ is_told h events is. appended-event g.met.K.LogKind.kind h events c.args.event.now _ _ (returns-clause-added g c is_told) is
+returns-clause-logged g c = λ is_told h events is. appended-event g.K.LogKind.kind h events c.args.event.now _ _ (returns-clause-added g c is_told) is
 
 pub returns-clause-log : goal.returns-clause-log
 returns-clause-log g c = λ is_told.
     let at = rw (← c.self.view_is) at (c.requires.log (c.put.ensures.called.was (c.put-2.ensures.called.was is_told))) in
-    appended-at g.met.K.LogKind.kind _ c.record_of-record.result.items _ _ c.args.event.now c.self.inside.place c.len.result at c.record_of-record.ensures refl c.len.ensures.value (returns-clause-added g c is_told)
+    appended-at g.K.LogKind.kind _ c.record_of-record.result.items _ _ c.args.event.now c.self.inside.place c.len.result at c.record_of-record.ensures refl c.len.ensures.value (returns-clause-added g c is_told)
