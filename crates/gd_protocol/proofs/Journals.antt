@@ -7,7 +7,8 @@ use Rattle.gd_events.specs.Events.{Event}
 use Rattle.gd_events.specs.Sound.{IsSound}
 use Rattle.gd_logs.proofs.WrittenLemmas.{log-logged}
 use Rattle.gd_logs.specs.Written.{AreNext}
-use Rattle.gd_grammar.specs.LogBytes.{count_of, last_clock, log, logged, turn_fault}
+use Rattle.gd_grammar.specs.LogBytes.{count_of, last_clock, turn_fault}
+use Rattle.gd_grammar.specs.Drawings.{log, logged}
 use Rattle.gd_base.specs.Sites.{is_site}
 use Rattle.gd_reference.specs.SlowSite.{SlowSite, is_by, journal_header, made_by, resumed}
 use Rattle.gd_reference.specs.SlowRun.{replayed, replayed_as, replay_effects}

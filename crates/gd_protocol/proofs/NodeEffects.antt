@@ -11,8 +11,9 @@ use Rattle.gd_base.specs.declared.refusal.FrameFault.{FrameFault}
 use Rattle.gd_effects.specs.Effects.{Effect, Head, Print, Record, Try, Work, cost, works, journal_after, journal_with}
 use Rattle.gd_events.specs.Events.{Event}
 use Rattle.gd_grammar.specs.FrameBytes.{Frame, Misread, frame, frame_bytes}
-use Rattle.gd_grammar.specs.LogBytes.{Header, logged}
-use Rattle.gd_grammar.specs.Spelling.{spelling}
+use Rattle.gd_grammar.specs.HeaderBytes.{Header}
+use Rattle.gd_grammar.specs.Drawings.{logged}
+use Rattle.gd_grammar.specs.Drawings.{spelling}
 use Rattle.gd_lines.specs.declared.command.Command.TheVariants as command
 use Rattle.gd_lines.specs.Replies.{reply_text}
 use Rattle.gd_logs.proofs.WriterLemmas.{logged-more}

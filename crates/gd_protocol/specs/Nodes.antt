@@ -3,7 +3,8 @@ use Rattle.std.specs.Prelude.{◌≡◌, ℕ, List, ◌++◌, sum, IsTrue}
 use Rattle.std.specs.List.{AllByRecursion}
 use Rattle.gd_effects.specs.Effects.{Effect, Head, cost}
 use Rattle.gd_events.specs.Events.{Event}
-use Rattle.gd_grammar.specs.LogBytes.{Header, header_bytes, logged}
+use Rattle.gd_grammar.specs.HeaderBytes.{Header, header_bytes}
+use Rattle.gd_grammar.specs.Drawings.{logged}
 use Rattle.gd_model.specs.Arrivals.{costs_from}
 use Rattle.gd_outside.specs.Seen.{Entry}
 use Rattle.gd_reference.specs.NodeRun.{IsEntry, IsRead, ReadLine, node_after, node_effects}

@@ -3,7 +3,8 @@ ghost use Rattle.std.specs.Prelude.{◌≡◌, ℕ, List, Ok, IsTrue};
 ghost use Rattle.gd_events.specs.Events.{Event};
 ghost use Rattle.gd_events.specs.Ordered.{are_distinct, HoldSame};
 ghost use Rattle.gd_model.specs.Drawing.{picture};
-ghost use Rattle.gd_grammar.specs.LogBytes.{Header, log};
+ghost use Rattle.gd_grammar.specs.HeaderBytes.{Header};
+ghost use Rattle.gd_grammar.specs.Drawings.{log};
 ghost use Rattle.gd_reference.specs.DrawingText.{text};
 
 /// Lists of events with distinct stamps that hold the same events have the same text.

@@ -19,7 +19,8 @@ use Rattle.gd_effects.specs.Effects.{Effect, Head}
 use Rattle.gd_grammar.specs.FrameBytes.{frame}
 use Rattle.gd_lines.specs.InRange.{IsCommand}
 use Rattle.gd_reference.specs.Judging.{edit, edited}
-use Rattle.gd_grammar.specs.LogBytes.{header_bytes}
+use Rattle.gd_grammar.specs.Drawings.{drawings}
+use Rattle.gd_grammar.specs.HeaderBytes.{header_bytes}
 use Rattle.gd_lines.specs.Refusals.{line_refusal}
 use Rattle.gd_lines.specs.declared.reply.Reply.{Reply}
 use Rattle.gd_lines.specs.declared.reply.Reply.TheVariants as reply
@@ -154,7 +155,7 @@ site_after slow entries (line ∷ lines) =
 abbrev pub node_effects : ℕ → ℕ → ℕ → List Entry → List ReadLine → List Effect
 node_effects me sites session entries lines =
     let slow = new_site me sites session in
-    Head (header_bytes (journal_header slow)) ∷ says (reply.Ready me sites) ∷ answers slow entries lines
+    Head (header_bytes drawings (journal_header slow)) ∷ says (reply.Ready me sites) ∷ answers slow entries lines
 
 -- the site of that node after its run
 abbrev pub node_after : ℕ → ℕ → ℕ → List Entry → List ReadLine → SlowSite

@@ -28,7 +28,7 @@ use Rattle.gd_lines.specs.declared.reply.Reply.{Reply}
 use Rattle.gd_lines.specs.declared.reply.Reply.TheVariants as reply
 use Rattle.gd_reference.specs.Said.{says, all_said}
 use Rattle.gd_reference.specs.SlowSite.{SlowSite}
-use Rattle.gd_grammar.specs.Spelling.{spelling}
+use Rattle.gd_grammar.specs.Drawings.{spelling}
 use Rattle.gd_reference.specs.World.{most_notes}
 
 -- ---- the frames of a site

@@ -3,7 +3,9 @@ use Rattle.std.specs.Prelude.{ℕ, Bool, false, List, [], ◌∷◌, ◌++◌, m
 use Rattle.gd_events.specs.Events.{Event}
 use Rattle.gd_outside.specs.declared.status.Status.{Status}
 use Rattle.gd_outside.specs.declared.status.Status.TheVariants as status
-use Rattle.gd_grammar.specs.LogBytes.{Header, LogMisread, log}
+use Rattle.gd_grammar.specs.HeaderBytes.{Header}
+use Rattle.gd_grammar.specs.LogBytes.{LogMisread}
+use Rattle.gd_grammar.specs.Drawings.{log}
 use Rattle.gd_model.specs.Drawing.{picture}
 use Rattle.gd_grammar.specs.Reading.{place}
 use Rattle.gd_lines.specs.declared.reply.Reply.TheVariants as reply

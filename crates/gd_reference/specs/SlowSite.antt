@@ -12,7 +12,9 @@ use Rattle.gd_base.specs.declared.note.Note.{Note}
 use Rattle.gd_base.specs.declared.site_status.SiteStatus.{SiteStatus}
 use Rattle.gd_events.specs.Events.{Event}
 use Rattle.gd_events.specs.Ordered.{ordered}
-use Rattle.gd_grammar.specs.LogBytes.{Header, last_clock}
+use Rattle.gd_base.specs.declared.version.Version.TheVariants.{Two}
+use Rattle.gd_grammar.specs.HeaderBytes.{Header}
+use Rattle.gd_grammar.specs.LogBytes.{last_clock}
 use Rattle.gd_reference.specs.PerSite.{least_of_others}
 
 pub record SlowSite : Type 0 where
@@ -95,7 +97,7 @@ left_outbox slow = take (least_acked slow) (own slow)
 
 -- the header of its journal
 abbrev pub journal_header : SlowSite → Header
-journal_header slow = record { session = slow.session; site = slow.me; n = slow.sites }
+journal_header slow = record { version = Two; session = slow.session; site = slow.me; n = slow.sites }
 
 abbrev pub status : SlowSite → SiteStatus
 status slow = record { held = length slow.held; kept = length (kept slow); line = line slow; clock = clock slow }

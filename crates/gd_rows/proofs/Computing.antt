@@ -10,7 +10,9 @@ use Rattle.gd_grammar.specs.Fields as fields
 use Rattle.gd_grammar.specs.Reading.{many_at}
 use Rattle.gd_grammar.specs.FieldBytes.{each_bytes}
 use Rattle.gd_grammar.specs.FrameBytes.{event_count_at, focus_at, frame, frame_at, frame_magic_at, frame_version_at, half_at, head_at, name_at, name_text_at, next_event_at, note_at, six_at}
-use Rattle.gd_grammar.specs.LogBytes.{events_at, header_at, log, magic_at, record_at, session_at, sites_at, step_at, turn_fault, version_at}
+use Rattle.gd_grammar.specs.LogBytes.{events_at, record_at, session_at, step_at, turn_fault}
+use Rattle.gd_grammar.specs.HeaderBytes.{header_at, magic_at, sites_at, version_at}
+use Rattle.gd_grammar.specs.Drawings.{log}
 use Rattle.gd_lines.specs.LineWords.{behind, count_from, without_cr, word}
 use Rattle.gd_lines.specs.Lines as lines
 use Rattle.gd_lines.specs.Replies.{applied_line, backdated_line, bad_frame_line, done_line, dropped_line, link_fault_line, noted_line, polled_line, ready_line, refused_line, reworked_line, status_line, status_text, who_line}

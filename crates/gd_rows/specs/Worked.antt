@@ -12,7 +12,8 @@ use Rattle.gd_base.specs.declared.fault.LogWhy.TheVariants.{Short, Magic, Versio
 use Rattle.gd_base.specs.declared.fault.WireWhy.{WireWhy}
 use Rattle.gd_base.specs.declared.fault.WireWhy.TheVariants as wire
 use Rattle.gd_grammar.specs.FrameBytes.{Frame, Misread}
-use Rattle.gd_grammar.specs.LogBytes.{Header, LogMisread}
+use Rattle.gd_grammar.specs.HeaderBytes.{Header}
+use Rattle.gd_grammar.specs.LogBytes.{LogMisread}
 use Rattle.gd_effects.specs.Effects.{Effect, Print, Work}
 
 abbrev pub at_stamp : ℕ → ℕ → Stamp

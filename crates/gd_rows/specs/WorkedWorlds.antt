@@ -15,7 +15,7 @@ use Rattle.gd_grammar.specs.declared.frame.Head.{Head}
 use Rattle.gd_reference.specs.Offers.{take_frame}
 use Rattle.gd_base.specs.Notes.{no_note}
 use Rattle.gd_reference.specs.SlowSite.{SlowSite, new_site}
-use Rattle.gd_grammar.specs.Spelling.{spelling}
+use Rattle.gd_grammar.specs.Drawings.{spelling}
 use Rattle.gd_reference.specs.World.{World, Step, Edits, Names, Focuses, At, Send, Deliver, Restart, Editing, Taking, after}
 use Rattle.gd_rows.specs.Worked.{at_stamp, event, member}
 

@@ -7,7 +7,7 @@ ghost use Rattle.gd_outside.specs.declared.status.Status.TheVariants as status;
 ghost use Rattle.gd_model.specs.declared.before.Before.TheVariants.{Place};
 ghost use Rattle.gd_repair.specs.Repair.Outcome.{applied, dropped, reworked};
 ghost use Rattle.gd_grammar.specs.FrameBytes.{frame, frame_bytes};
-ghost use Rattle.gd_grammar.specs.LogBytes.{log};
+ghost use Rattle.gd_grammar.specs.Drawings.{log};
 ghost use Rattle.gd_model.specs.Drawing.{picture};
 ghost use Rattle.gd_model.specs.Splices.{splice};
 ghost use Rattle.gd_model.specs.Arrivals.{drawn, all_drawn, outcome_of, costs};

@@ -4,7 +4,8 @@ use Rattle.gd_events.specs.Events.{Event}
 use Rattle.gd_events.specs.Ordered.{HoldSame}
 use Rattle.gd_events.proofs.SameEventsLemmas.{ordered-same}
 use Rattle.gd_model.specs.Drawing.{applied, picture}
-use Rattle.gd_grammar.specs.LogBytes.{Header, log}
+use Rattle.gd_grammar.specs.HeaderBytes.{Header}
+use Rattle.gd_grammar.specs.Drawings.{log}
 use Rattle.gd_reference.specs.DrawingText.{text}
 use Rattle.gd_grammar.proofs.DistinctLemmas.{distinct-log}
 use Rattle.gd_protocol.proofs.drawings.logs_with_the_same_events_show_the_same_drawing.Goals as goal
