@@ -1,6 +1,7 @@
 -- A log is read as it was written.
 use Rattle.std.proofs.Common.{◌≡◌, ℕ, false, List, [], ◌∷◌, ◌++◌, length, refl, sym, ap, ◌∙◌, append_assoc}
 use Rattle.std.specs.Prelude.{Some, None, Ok, Err, ◌==◌}
+use Rattle.std.specs.List.{concat}
 use Rattle.std.proofs.lemmas.List.{append-nil}
 use Rattle.gd_base.specs.declared.fault.LogWhy.{LogWhy}
 use Rattle.gd_base.specs.Stamps.{Stamp}
@@ -8,7 +9,7 @@ use Rattle.gd_events.specs.Events.{EventValue}
 use Rattle.gd_grammar.specs.KindLaws.{KindLaws}
 use Rattle.gd_grammar.specs.Kinds.{LogKind, FitsIn, spelling}
 use Rattle.gd_grammar.specs.HeaderBytes.{Header, header_bytes}
-use Rattle.gd_grammar.specs.LogBytes.{in_log, turn_fault, left_of, gate, step_at, log, gated_bytes, logged}
+use Rattle.gd_grammar.specs.LogBytes.{in_log, turn_fault, left_of, gate, step_at, log, gated_bytes, logged, record_pieces, log_pieces}
 use Rattle.gd_grammar.proofs.ExactEvent.{exact_event}
 use Rattle.gd_grammar.proofs.ExactHeader.{exact_header}
 use Rattle.gd_logs.specs.Written.{AreNext, IsRuled, BreaksRule}
@@ -25,6 +26,15 @@ module _ {O : Type 0} (kind : LogKind O) where
   unfolding gated_bytes
   gated-append [] ys = refl
   gated-append (x ∷ xs) ys = ap (λ (l : List ℕ). gate ∷ spelling kind x ++ l) (gated-append xs ys) ∙ ap (λ (l : List ℕ). gate ∷ l) (sym (append_assoc (spelling kind x) (gated_bytes kind xs) (gated_bytes kind ys)))
+
+  -- the pieces of a log are its bytes
+  records-concat : (events : List (EventValue O)) → concat (record_pieces kind events) ≡ gated_bytes kind events ++ 0 ∷ []
+  unfolding gated_bytes
+  records-concat [] = refl
+  records-concat (e ∷ es) = ap (λ (l : List ℕ). gate ∷ spelling kind e ++ l) (records-concat es) ∙ ap (λ (l : List ℕ). gate ∷ l) (sym (append_assoc (spelling kind e) (gated_bytes kind es) (0 ∷ [])))
+
+  pub pieces-concat : (h : Header) (events : List (EventValue O)) → concat (log_pieces kind h events) ≡ logged kind h events
+  pieces-concat h events = ap (λ (l : List ℕ). header_bytes kind h ++ l) (records-concat events)
 
   -- the bytes of a log, from the gate of one of its events on
   pub logged-at : (h : Header) (events more : List (EventValue O)) (e : EventValue O) → logged kind h (events ++ e ∷ more) ≡ header_bytes kind h ++ gated_bytes kind events ++ gate ∷ (spelling kind e ++ (gated_bytes kind more ++ 0 ∷ []))

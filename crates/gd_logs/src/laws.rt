@@ -1,13 +1,14 @@
 //! Facts about the bytes of logs of any kind that hold of all headers and events, as contracts of functions that do nothing.
 
 ghost use Rattle.std.specs.Prelude.{◌≡◌, ◌==◌, ◌++◌, ℕ, [], ◌∷◌, false, List, Ok, Err, length};
+ghost use Rattle.std.specs.List.{concat};
 ghost use Rattle.gd_base.specs.declared.fault.LogWhy.{LogWhy};
 ghost use Rattle.gd_events.specs.Events.{EventValue};
 ghost use Rattle.gd_grammar.specs.FieldBytes.{AreBytes};
 ghost use Rattle.gd_grammar.specs.HeaderBytes.{Header, header_bytes, upgraded};
 ghost use Rattle.gd_grammar.specs.KindLaws.{KindLaws};
 ghost use Rattle.gd_grammar.specs.Kinds.{LogKind, spelling};
-ghost use Rattle.gd_grammar.specs.LogBytes.{gate, gated_bytes, log, logged};
+ghost use Rattle.gd_grammar.specs.LogBytes.{gate, gated_bytes, log, logged, log_pieces};
 ghost use Rattle.gd_logs.specs.Written.{IsRuled, BreaksRule, refusal};
 
 use gd_events::Operation;
@@ -38,6 +39,12 @@ pub fn nothing_behind_a_closed_gate_counts<O: Operation>()
         → (h : Header) (events : List (EventValue O)) (gate_byte : ℕ) (rest : List ℕ)
         → IsRuled O.IsOp kind h events → (gate_byte == gate) ≡ false
         → log kind (header_bytes kind h ++ gated_bytes kind events ++ gate_byte ∷ rest) ≡ Ok (h, events) }
+{}
+
+/// The pieces that a log is written in are its bytes.
+pub fn the_pieces_of_a_log_are_its_bytes<O: Operation>()
+    ensures { (kind : LogKind O) (h : Header) (events : List (EventValue O))
+        → concat (log_pieces kind h events) ≡ logged kind h events }
 {}
 
 /// A log that was read, written in the newest version of its kind, is a log of the same events.

@@ -14,6 +14,7 @@ mod turns;
 mod writer;
 
 pub use log::{ReadError, read_log, read_log_of};
+pub use pieces::{CLOSED, gated_of};
 pub use reader::{KindReader, LogReader};
 pub use stopped::{LogFault, Stopped};
 pub use writer::{KindWriter, LogWriter};

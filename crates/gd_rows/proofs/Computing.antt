@@ -10,9 +10,9 @@ use Rattle.gd_grammar.specs.Fields as fields
 use Rattle.gd_grammar.specs.Reading.{many_at}
 use Rattle.gd_grammar.specs.FieldBytes.{each_bytes}
 use Rattle.gd_grammar.specs.FrameBytes.{event_count_at, focus_at, frame, frame_at, frame_magic_at, frame_version_at, half_at, head_at, name_at, name_text_at, next_event_at, note_at, six_at}
-use Rattle.gd_grammar.specs.LogBytes.{events_at, record_at, session_at, step_at, turn_fault}
+use Rattle.gd_grammar.specs.Kinds as kinds
+use Rattle.gd_grammar.specs.LogBytes.{events_at, log, record_at, step_at, turn_fault}
 use Rattle.gd_grammar.specs.HeaderBytes.{header_at, magic_at, sites_at, version_at}
-use Rattle.gd_grammar.specs.Drawings.{log}
 use Rattle.gd_lines.specs.LineWords.{behind, count_from, without_cr, word}
 use Rattle.gd_lines.specs.Lines as lines
 use Rattle.gd_lines.specs.Replies.{applied_line, backdated_line, bad_frame_line, done_line, dropped_line, link_fault_line, noted_line, polled_line, ready_line, refused_line, reworked_line, status_line, status_text, who_line}
@@ -32,7 +32,7 @@ use Rattle.gd_reference.specs.World.{after_from, after_line, happens, with_site}
 
 -- events, logs and frames
 unfoldable pub bytes_compute : ⊤
-unfolding chars is_utf8 fields.byte_at fields.clock_at bytes.colour_at bytes.create_at bytes.lone_at bytes.event_at bytes.fill_at bytes.fill_style_at bytes.group_at fields.id_at fields.label_within bytes.member_at bytes.member_count_at bytes.member_id_at bytes.move_at fields.number_at bytes.op_at bytes.resize_at bytes.restyle_at bytes.retext_at bytes.shape_at fields.signed_at fields.site_at fields.stamp_at bytes.stroke_style_at bytes.style_at bytes.width_at bytes.width_style_at fields.word_at event_count_at each_bytes focus_at frame frame_at many_at frame_magic_at frame_version_at half_at head_at name_at name_text_at next_event_at note_at six_at events_at header_at log magic_at record_at session_at sites_at step_at turn_fault version_at
+unfolding chars is_utf8 fields.byte_at fields.clock_at bytes.colour_at bytes.create_at bytes.lone_at kinds.event_at bytes.fill_at bytes.fill_style_at bytes.group_at bytes.label_at fields.id_at fields.label_within bytes.member_at bytes.member_count_at bytes.member_id_at bytes.move_at fields.number_at bytes.op_at bytes.resize_at bytes.restyle_at bytes.retext_at bytes.shape_at fields.signed_at fields.site_at fields.stamp_at bytes.stroke_style_at bytes.style_at bytes.width_at bytes.width_style_at fields.word_at event_count_at each_bytes focus_at frame frame_at many_at frame_magic_at frame_version_at half_at head_at name_at name_text_at next_event_at note_at six_at events_at header_at log magic_at record_at sites_at step_at turn_fault version_at
 bytes_compute = tt
 
 -- lines that are typed, and lines that are printed

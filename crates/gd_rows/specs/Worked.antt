@@ -4,6 +4,7 @@ use Rattle.gd_base.specs.Stamps.{Stamp}
 use Rattle.gd_base.specs.declared.member.Member.{Member}
 use Rattle.gd_base.specs.declared.shape.Shape.TheVariants.{Rect, Ellipse}
 use Rattle.gd_base.specs.declared.style.Style.TheVariants.{Stroke, Fill, Width}
+use Rattle.gd_base.specs.declared.version.Version.TheVariants.{One, Two}
 use Rattle.gd_events.specs.declared.op.Op.{Op}
 use Rattle.gd_events.specs.declared.op.Op.TheVariants.{Create, Delete, Move, Resize, Restyle, Retext, Group, Ungroup, Raise}
 use Rattle.gd_events.specs.Events.{Event}
@@ -25,12 +26,19 @@ event clock site number op = record { stamp = at_stamp clock site; number = numb
 abbrev pub member : ℕ → ℕ → ℤ → ℤ → Member
 member clock site dx dy = record { id = at_stamp clock site; dx = dx; dy = dy }
 
--- session 7, site 1 of 2
+-- version 1, session 7, site 1 of 2
 abbrev pub header_bytes : List ℕ
 header_bytes = 71 ∷ 68 ∷ 79 ∷ 76 ∷ 1 ∷ 0 ∷ 0 ∷ 0 ∷ 7 ∷ 1 ∷ 2 ∷ []
 
 abbrev pub header : Header
-header = record { session = 7; site = 1; n = 2 }
+header = record { version = One; session = 7; site = 1; n = 2 }
+
+-- the same in version 2
+abbrev pub header_two_bytes : List ℕ
+header_two_bytes = set header_bytes 4 2
+
+abbrev pub header_two : Header
+header_two = record { version = Two; session = 7; site = 1; n = 2 }
 
 -- a header and a closed gate
 abbrev pub empty_log : List ℕ
@@ -290,7 +298,7 @@ abbrev pub log_faults : List (List ℕ × LogMisread)
 log_faults =
     -- another format, another version, and a site 0
     (set header_bytes 3 108, fault_at Magic 11)
-    ∷ (set header_bytes 4 2, fault_at Version 7)
+    ∷ (set header_bytes 4 3, fault_at Version 7)
     ∷ (set header_bytes 9 0, fault_at Field 2)
     ∷ (future_log, fault_at FutureId 7)
     ∷ (future_resize_log, fault_at FutureId 15)
@@ -318,7 +326,7 @@ record_row =
 -- the frame of that site for another, of which it holds nothing
 abbrev pub frame_row_to : ℕ → List ℕ
 frame_row_to to =
-    71 ∷ 68 ∷ 79 ∷ 70 ∷ 1 ∷ 0 ∷ 0 ∷ 0 ∷ 7 ∷ 2 ∷ to ∷ 0 ∷ 0 ∷ 0 ∷ 1 ∷ 0 ∷ 0 ∷ 0 ∷ 0 ∷ 0 ∷ 1
+    71 ∷ 68 ∷ 79 ∷ 70 ∷ 2 ∷ 0 ∷ 0 ∷ 0 ∷ 7 ∷ 2 ∷ to ∷ 0 ∷ 0 ∷ 0 ∷ 1 ∷ 0 ∷ 0 ∷ 0 ∷ 0 ∷ 0 ∷ 1
     ∷ 0 ∷ 0 ∷ 0 ∷ 0 ∷ 0 ∷ 0 ∷ 0 ∷ 0 ∷ 0 ∷ 0 ∷ 1 ∷ record_row
 
 abbrev pub frame_row : List ℕ
@@ -340,8 +348,8 @@ misread why left = record { why = why; left = left }
 abbrev pub frame_faults : List (List ℕ × Misread)
 frame_faults =
     (take 33 frame_row, misread wire.Short 0)
-    -- version 2, and site 17
-    ∷ (set frame_row 4 2, misread wire.Version 56)
+    -- version 1, and site 17
+    ∷ (set frame_row 4 1, misread wire.Version 56)
     ∷ (set frame_row 9 17, misread wire.Field 51)
     -- an event of another site, above the count, and above the clock
     ∷ (set frame_row 38 1, misread wire.Disorder 28)

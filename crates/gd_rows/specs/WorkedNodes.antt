@@ -8,7 +8,7 @@ use Rattle.gd_grammar.specs.FrameBytes.{frame_bytes}
 use Rattle.gd_lines.specs.declared.command.Command.TheVariants as command
 use Rattle.gd_outside.specs.Seen.{Entry, Packet, Pause, Failure}
 use Rattle.gd_reference.specs.NodeRun.{ReadLine, node_effects}
-use Rattle.gd_rows.specs.Worked.{at_stamp, frame_row, frame_row_to, header_bytes, record_row}
+use Rattle.gd_rows.specs.Worked.{at_stamp, frame_row, frame_row_to, header_two_bytes, record_row}
 use Rattle.gd_rows.specs.WorkedWorlds.{new_rect, ahead_move, ahead_first, ahead_gap, ahead_rest, frame_of, sure_frame, sure_late_frame}
 
 -- ---- site 2 of 3
@@ -16,7 +16,7 @@ use Rattle.gd_rows.specs.WorkedWorlds.{new_rect, ahead_move, ahead_first, ahead_
 -- its header, and an edit: a step, the record, the line, and a frame for each other site
 abbrev pub created_effects : List Effect
 created_effects =
-    Head (71 ∷ 68 ∷ 79 ∷ 76 ∷ 1 ∷ 0 ∷ 0 ∷ 0 ∷ 7 ∷ 2 ∷ 3 ∷ [])
+    Head (71 ∷ 68 ∷ 79 ∷ 76 ∷ 2 ∷ 0 ∷ 0 ∷ 0 ∷ 7 ∷ 2 ∷ 3 ∷ [])
     ∷ Print (codes "ready 2 of 3\n")
     ∷ Work 1 ∷ Record record_row ∷ Print (codes "ok 1.2\n")
     ∷ Try 1 (frame_row_to 1) ∷ Try 3 (frame_row_to 3)
@@ -60,12 +60,12 @@ repeat_entries = Packet frame_row ∷ Packet frame_row ∷ Packet frame_row ∷ 
 -- the frame that answers it: one event of site 2 is held
 abbrev pub answer_row : List ℕ
 answer_row =
-    71 ∷ 68 ∷ 79 ∷ 70 ∷ 1 ∷ 0 ∷ 0 ∷ 0 ∷ 7 ∷ 1 ∷ 2 ∷ 0 ∷ 1 ∷ 0 ∷ 0 ∷ 0 ∷ 0 ∷ 0 ∷ 0 ∷ 0 ∷ 1
+    71 ∷ 68 ∷ 79 ∷ 70 ∷ 2 ∷ 0 ∷ 0 ∷ 0 ∷ 7 ∷ 1 ∷ 2 ∷ 0 ∷ 1 ∷ 0 ∷ 0 ∷ 0 ∷ 0 ∷ 0 ∷ 0 ∷ 0 ∷ 1
     ∷ 0 ∷ 0 ∷ 0 ∷ 0 ∷ 0 ∷ 0 ∷ 0 ∷ 0 ∷ 0 ∷ 0 ∷ 0 ∷ []
 
 abbrev pub repeat_effects : List Effect
 repeat_effects =
-    Head header_bytes
+    Head header_two_bytes
     ∷ Print (codes "ready 1 of 2\n")
     ∷ Work 1
     ∷ Record record_row
@@ -76,7 +76,7 @@ repeat_effects =
 
 -- the header, the event and a closed gate
 abbrev pub repeat_journal : List ℕ
-repeat_journal = header_bytes ++ 195 ∷ record_row ++ 0 ∷ []
+repeat_journal = header_two_bytes ++ 195 ∷ record_row ++ 0 ∷ []
 
 abbrev pub ahead_entries : List Entry
 ahead_entries = Packet (frame_bytes ahead_first) ∷ Packet (frame_bytes ahead_gap) ∷ Packet (frame_bytes ahead_rest) ∷ []

@@ -1,7 +1,7 @@
 ghost use Rattle.std.specs.Prelude.{◌≡◌, ◌≤◌, ◌↔◌, IsSome, IfSome, IfOk};
 ghost use Rattle.gd_base.specs.Results.{Gives};
 ghost use Rattle.gd_grammar.specs.HeaderBytes.{IsHeader, has_version, magic_at, version_at, version_byte};
-ghost use Rattle.gd_grammar.specs.HeaderBytes.{sites_at, header_at, header_bytes};
+ghost use Rattle.gd_grammar.specs.HeaderBytes.{sites_at, header_at, header_bytes, upgraded};
 ghost use Rattle.gd_base.specs.declared.version.Version.TheVariants.{Two};
 ghost use Rattle.gd_base.specs.declared.ranges.TheConstants.{SITES};
 
@@ -56,6 +56,18 @@ impl LogHeader {
         ensures { result ≡ self.version }
     {
         self.version
+    }
+
+    /// The same header, of the newest version of logs of that kind.
+    pub fn upgraded<K: LogKind>(self) -> Self
+        ensures { result ≡ upgraded K.kind self }
+    {
+        LogHeader {
+            version: K::newest(),
+            session: self.session,
+            site: self.site,
+            n: self.n,
+        }
     }
 
     pub fn session(self) -> u32

@@ -28,9 +28,9 @@ pub(crate) fn push_head(text: &mut ReplyText, item: &Item)
 
 /// Appends what only a shape has.
 pub(crate) fn push_look_of(text: &mut ReplyText, shape: &Option<ShapeItem>)
-    requires room { length text.old + 174 ≤ LONGEST_REPLY }
+    requires room { length text.old + 310 ≤ LONGEST_REPLY }
     ensures value { text.new ≡ text.old ++ look_of shape.now }
-    ensures grown { length text.new ≤ length text.old + 174 }
+    ensures grown { length text.new ≤ length text.old + 310 }
 {
     match shape {
         Some(shape) => push_look(text, shape),
@@ -74,9 +74,9 @@ pub(crate) fn push_parent(text: &mut ReplyText, parent: Option<Stamp>)
 
 #[tactic(auto, unfolding(gd_lines::specs::Text::look_text))]
 fn push_look(text: &mut ReplyText, shape: &ShapeItem)
-    requires room { length text.old + 174 ≤ LONGEST_REPLY }
+    requires room { length text.old + 310 ≤ LONGEST_REPLY }
     ensures value { text.new ≡ text.old ++ look_text shape.now }
-    ensures grown { length text.new ≤ length text.old + 174 }
+    ensures grown { length text.new ≤ length text.old + 310 }
 {
     push_size(text, shape.w, shape.h);
     push_colours(text, shape.stroke, shape.fill);
@@ -130,9 +130,9 @@ fn push_width(text: &mut ReplyText, width: u8)
 }
 
 fn push_label(text: &mut ReplyText, label: &Label)
-    requires room { length text.old + 70 ≤ LONGEST_REPLY }
+    requires room { length text.old + 206 ≤ LONGEST_REPLY }
     ensures value { text.new ≡ text.old ++ label_text label.now }
-    ensures grown { length text.new ≤ length text.old + 70 }
+    ensures grown { length text.new ≤ length text.old + 206 }
 {
     let label = label.as_str();
     if label.is_empty() {

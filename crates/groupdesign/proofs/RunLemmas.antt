@@ -1,14 +1,9 @@
--- What the slow run is, by what the words name.
-use Rattle.std.proofs.Common.{◌≡◌, ℕ, true, false, List, [], ◌∷◌, refl}
-use Rattle.gd_outside.specs.declared.status.Status.TheVariants.{Usage}
-use Rattle.gd_effects.specs.Effects.{Print}
-use Rattle.gd_reference.specs.SlowRun.{is_replay, replayed, replayed_end, slow_effects, slow_end}
-use Rattle.gd_lines.specs.Replies.{usage_line}
+-- What the slow run is, by the command that the words name.
+use Rattle.std.proofs.Common.{◌≡◌, ℕ, List, ap}
+use Rattle.std.specs.Prelude.{Option}
+use Rattle.gd_reference.specs.declared.task.Task.{Task}
+use Rattle.gd_reference.specs.SlowRun.{task_of, effects_of, end_of, slow_effects, slow_end}
 
-pub slow-replay : (words : List (List ℕ)) (input : List ℕ) → is_replay words ≡ true → (slow_effects words input ≡ replayed input) × (slow_end words input ≡ replayed_end input)
+pub slow-by : (words : List (List ℕ)) (input : List ℕ) (task : Option Task) → task_of words ≡ task → (slow_effects words input ≡ effects_of task input) × (slow_end words input ≡ end_of task input)
 unfolding slow_effects slow_end
-slow-replay words input e = (rw e refl, rw e refl)
-
-pub slow-usage : (words : List (List ℕ)) (input : List ℕ) → is_replay words ≡ false → (slow_effects words input ≡ Print usage_line ∷ []) × (slow_end words input ≡ Usage)
-unfolding slow_effects slow_end
-slow-usage words input e = (rw e refl, rw e refl)
+slow-by words input task e = (ap (λ t. effects_of t input) e, ap (λ t. end_of t input) e)

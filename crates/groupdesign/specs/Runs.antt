@@ -1,9 +1,9 @@
 -- The statuses that a run ends with, and what it has to be told.
-use Rattle.std.specs.Prelude.{◌≡◌, ℕ, true, List, IsSome}
+use Rattle.std.specs.Prelude.{ℕ, List, IsSome}
 use Rattle.gd_outside.specs.Seen.{SeenSource}
 use Rattle.gd_outside.specs.declared.status.Status.{Status}
 use Rattle.gd_outside.specs.declared.status.Status.TheVariants.{Done, Usage, BadLog, ReadFault, WriteFault, NoMemory}
-use Rattle.gd_reference.specs.SlowRun.{is_replay}
+use Rattle.gd_reference.specs.SlowRun.{task_of}
 
 abbrev pub IsRunEnd : Status → Type 0
 IsRunEnd Done = Unit {0}
@@ -14,7 +14,7 @@ IsRunEnd WriteFault = Unit {0}
 IsRunEnd NoMemory = Unit {0}
 IsRunEnd other = ⊥
 
--- What a run does depends on this alone: for `replay` the input, which has to tell what it has left; for words that are
+-- What a run does depends on this alone: for a command the input, which has to tell what it has left; for words that are
 -- refused nothing.
 abbrev pub IsRunTold : List (List ℕ) → SeenSource → Type 0
-IsRunTold words input = is_replay words ≡ true → IsSome input.left
+IsRunTold words input = IsSome (task_of words) → IsSome input.left

@@ -1,11 +1,11 @@
 //! `run`: carries out the command that the words name, over any source and sink.
 
-ghost use Rattle.std.specs.Prelude.{◌≡◌, ◌≤◌, ◌+◌, [], ◌∷◌, ◌⊎◌, false, Err};
+ghost use Rattle.std.specs.Prelude.{◌≡◌, ◌≤◌, ◌+◌, [], ◌∷◌, ◌⊎◌, None, Err};
 ghost use Rattle.gd_outside.specs.Causes.{Rose};
 ghost use Rattle.gd_outside.specs.Seen.{SeenJournal, SeenLink};
 ghost use Rattle.gd_outside.specs.Told.{told};
 ghost use Rattle.gd_effects.specs.Effects.{Print, cost};
-ghost use Rattle.gd_reference.specs.SlowRun.{is_replay, slow_effects, slow_end};
+ghost use Rattle.gd_reference.specs.SlowRun.{task_of, slow_effects, slow_end};
 ghost use Rattle.gd_lines.specs.Replies.{usage_line};
 ghost use Rattle.gd_effects.specs.Outside.{outside};
 ghost use Rattle.gd_effects.specs.Prints.{Prints};
@@ -14,16 +14,17 @@ ghost use Rattle.groupdesign.specs.Runs.{IsRunEnd, IsRunTold};
 
 use gd_base::Steps;
 use gd_effects::{print, status_of};
-use gd_log::replay;
+use gd_log::{replay, upgrade};
 use gd_outside::{End, Sink, Source, Status, WordList};
+use gd_reference::Task;
 use gd_words::{AsText, Reply};
 use std::alloc::Global;
 use std::sync::ledger::Ledger;
 
-/// Carries out the command that the words name: `replay` alone, so far.
+/// Carries out the command that the words name: `replay` or `upgrade`.
 ///
-/// `Usage` after the usage line, where the words aren't the one word `replay`; else what `replay` returns. The steps rise
-/// by what the late and other arrivals of a log cost.
+/// `Usage` after the usage line, where the words aren't one of these words alone; else what the command returns. In `replay`
+/// the steps rise by what the late and other arrivals of a log cost.
 pub fn run<S: Source, K: Sink, L: Ledger>(
     alloc: Global,
     words: &WordList,
@@ -55,25 +56,38 @@ pub fn run<S: Source, K: Sink, L: Ledger>(
     ensures most_steps { IsRunTold words.now (S.seen input.new)
         → steps.new ≤ steps.old + cost (slow_effects words.now (told (S.seen input.old).left)) }
     // Words that name no command are refused, and only these; then the input isn't touched, and no step is taken.
-    ensures usage { is_replay words.now ≡ false
+    ensures usage { task_of words.now ≡ None
         → (result ≡ Status.Usage) ⊎ (result ≡ Status.WriteFault) }
-    ensures usage_only { result ≡ Status.Usage → is_replay words.now ≡ false }
-    ensures untouched { is_replay words.now ≡ false → S.seen input.new ≡ S.seen input.old }
-    ensures idle { is_replay words.now ≡ false → steps.new ≡ steps.old }
+    ensures usage_only { result ≡ Status.Usage → task_of words.now ≡ None }
+    ensures untouched { task_of words.now ≡ None → S.seen input.new ≡ S.seen input.old }
+    ensures idle { task_of words.now ≡ None → steps.new ≡ steps.old }
 {
-    if names_replay(words) {
-        replay(alloc, input, output, steps)
-    } else {
-        status_of(refuse_words(output), Status::Usage)
+    match task_of(words) {
+        Some(Task::Replay) => replay(alloc, input, output, steps),
+        Some(Task::Upgrade) => upgrade(alloc, input, output),
+        None => status_of(refuse_words(output), Status::Usage),
     }
 }
 
-fn names_replay(words: &WordList) -> bool
-    ensures { result ≡ is_replay words.now }
+/// The command that the words name, if they name one.
+fn task_of(words: &WordList) -> Option<Task>
+    ensures { result ≡ task_of words.now }
 {
     match words.as_slice() {
-        [word] => word.as_str() == "replay",
-        _ => false,
+        [word] => task_named(word.as_str()),
+        _ => None,
+    }
+}
+
+fn task_named(word: &str) -> Option<Task>
+    ensures { result ≡ task_of (word.now ∷ []) }
+{
+    if word == "replay" {
+        Some(Task::Replay)
+    } else if word == "upgrade" {
+        Some(Task::Upgrade)
+    } else {
+        None
     }
 }
 

@@ -10,6 +10,8 @@ pub const TIE: &str = "47444F4C 01 00000007 01 02
     00";
 
 /// Places of the tie's log.
+pub const VERSION: usize = 4;
+
 pub const FIRST_EVENT: usize = 12;
 
 pub const SECOND_EVENT: usize = 41;
