@@ -229,19 +229,12 @@ quit-same slow entries c e = cc
 pub grows_answers : (slow : SlowSite) (entries : List Entry) (cs : List ReadLine) → Grows slow.held (site_after slow entries cs).held (answers slow entries cs)
 unfolding answers site_after
 grows_answers slow entries [] = grows-not slow.held [] quiet-none
-grows_answers slow entries (c ∷ cs) = go (is_quit c) refl (grows_answers next (entries_after slow entries c) cs)
-  where
-    next : SlowSite
-    next = after_command slow entries c
-
-    last : SlowSite
-    last = site_after next (entries_after slow entries c) cs
-
-    more : List Effect
-    more = answers next (entries_after slow entries c) cs
-
-    go : (b : Bool) → is_quit c ≡ b → Grows next.held last.held more → Grows slow.held (cond b slow last).held (of_command slow entries c ++ cond b [] more)
-    go true quits ih =
-        grows-then slow.held next.held slow.held (of_command slow entries c) [] (grows-command slow entries c)
-        (subst (λ (s : SlowSite). Grows next.held s.held []) (quit-same slow entries c quits) (grows-not next.held [] quiet-none))
-    go false goes ih = grows-then slow.held next.held last.held (of_command slow entries c) more (grows-command slow entries c) ih
+grows_answers slow entries (c ∷ cs) =
+    let next = after_command slow entries c in
+    let last = site_after next (entries_after slow entries c) cs in
+    let more = answers next (entries_after slow entries c) cs in
+    let one = grows-command slow entries c in
+    (elim (is_quit c) as (λ b. is_quit c ≡ b → Grows slow.held (cond b slow last).held (of_command slow entries c ++ cond b [] more)) [
+      | true ↦ λ quits. grows-then slow.held next.held slow.held (of_command slow entries c) [] one (subst (λ (s : SlowSite). Grows next.held s.held []) (quit-same slow entries c quits) (grows-not next.held [] quiet-none))
+      | false ↦ λ goes_on. grows-then slow.held next.held last.held (of_command slow entries c) more one (grows_answers next (entries_after slow entries c) cs)
+    ]) refl
