@@ -211,7 +211,8 @@ grows-poll slow entries =
 
 grows-note : (slow : SlowSite) (note : Note) (lines : List (List ℕ)) → Grows slow.held (noted slow note).held (map Print lines)
 grows-note slow note lines =
-    cond_both (nat_le most_notes (slow.notes slow.me).number) _ _ (λ (x : SlowSite). Grows slow.held x.held (map Print lines)) (λ full. grows-says slow.held lines) (λ room. grows-says slow.held lines)
+    cond_both (nat_le most_notes (slow.notes slow.me).number) _ _ (λ (x : SlowSite). Grows slow.held x.held (map Print lines))
+    (λ full. grows-says slow.held lines) (λ room. grows-says slow.held lines)
 
 grows-command : (slow : SlowSite) (entries : List Entry) (c : ReadLine) → Grows slow.held (after_command slow entries c).held (of_command slow entries c)
 unfolding after_line
@@ -235,6 +236,7 @@ grows_answers slow entries (c ∷ cs) =
     let more = answers next (entries_after slow entries c) cs in
     let one = grows-command slow entries c in
     (elim (is_quit c) as (λ b. is_quit c ≡ b → Grows slow.held (cond b slow last).held (of_command slow entries c ++ cond b [] more)) [
-      | true ↦ λ quits. grows-then slow.held next.held slow.held (of_command slow entries c) [] one (subst (λ (s : SlowSite). Grows next.held s.held []) (quit-same slow entries c quits) (grows-not next.held [] quiet-none))
+      | true ↦ λ quits.
+          grows-then slow.held next.held slow.held (of_command slow entries c) [] one (subst (λ (s : SlowSite). Grows next.held s.held []) (quit-same slow entries c quits) (grows-not next.held [] quiet-none))
       | false ↦ λ goes_on. grows-then slow.held next.held last.held (of_command slow entries c) more one (grows_answers next (entries_after slow entries c) cs)
     ]) refl
