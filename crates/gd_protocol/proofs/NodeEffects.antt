@@ -108,37 +108,20 @@ grows-then a b c xs ys p q =
           omega (arith, both, all, later, p.costs, q.costs);
     }
 
--- these effects add nothing
-record Quiet (xs : List Effect) : Type 0 where
-  none : Records xs []
-  free : cost xs ≡ 0
-
-grows-not : (held : List Event) (xs : List Effect) → Quiet xs → Grows held held xs
-grows-not held xs q = record { added = []; held = sym (append-nil held); records = q.none; costs = q.free }
-
-quiet-none : Quiet []
-quiet-none = record { none = refl; free = refl }
-
-quiet-then : (xs ys : List Effect) → Quiet xs → Quiet ys → Quiet (xs ++ ys)
-quiet-then xs ys p q =
-    record {
-      none = records-then xs ys [] [] p.none q.none;
-      free = let both = sum_by-append works xs ys in omega (arith, both, p.free, q.free);
-    }
-
-quiet-prints : (lines : List (List ℕ)) → Quiet (map Print lines)
-quiet-prints [] = quiet-none
-quiet-prints (l ∷ ls) = quiet-then (Print l ∷ []) (map Print ls) (record { none = refl; free = refl }) (quiet-prints ls)
-
-quiet-tries : (slow : SlowSite) (site k : ℕ) → Quiet (tries_behind slow site k)
-unfolding tries_behind
-quiet-tries slow site zero = quiet-none
-quiet-tries slow site (suc k) =
-    quiet-then (try_for slow (site + 1)) (tries_behind slow (site + 1) k)
-    (cond_both (site + 1 == slow.me) _ _ Quiet (λ mine. quiet-none) (λ other. record { none = refl; free = refl })) (quiet-tries slow (site + 1) k)
+-- effects that record nothing and cost nothing add nothing
+grows-not : (held : List Event) (xs : List Effect) → Records xs [] → cost xs ≡ 0 → Grows held held xs
+grows-not held xs none free = record { added = []; held = sym (append-nil held); records = none; costs = free }
 
 grows-says : (held : List Event) (lines : List (List ℕ)) → Grows held held (map Print lines)
-grows-says held lines = grows-not held (map Print lines) (quiet-prints lines)
+grows-says held [] = grows-not held [] refl refl
+grows-says held (l ∷ ls) = grows-then held held held (Print l ∷ []) (map Print ls) (grows-not held (Print l ∷ []) refl refl) (grows-says held ls)
+
+grows-tries : (held : List Event) (slow : SlowSite) (site k : ℕ) → Grows held held (tries_behind slow site k)
+unfolding tries_behind
+grows-tries held slow site zero = grows-not held [] refl refl
+grows-tries held slow site (suc k) =
+    grows-then held held held (try_for slow (site + 1)) (tries_behind slow (site + 1) k)
+    (cond_both (site + 1 == slow.me) _ _ (Grows held held) (λ mine. grows-not held _ refl refl) (λ other. grows-not held _ refl refl)) (grows-tries held slow (site + 1) k)
 
 is-paid : (old new : List Event) (xs : List Effect) → Grows old new xs → IsPaid old new xs
 is-paid old new xs g = record { added = g.added; held = g.held; costs = g.costs }
@@ -146,27 +129,24 @@ is-paid old new xs g = record { added = g.added; held = g.held; costs = g.costs 
 -- ---- what a site does
 
 grows-own : (slow : SlowSite) (wanted : Edit) (r : Result Event EditRefusal) → edit slow wanted ≡ r → Grows slow.held (with_own slow r).held (of_own slow r)
-grows-own slow wanted (Err why) is = grows-not slow.held (of_own slow (Err why)) (record { none = refl; free = refl })
+grows-own slow wanted (Err why) is = grows-not slow.held (of_own slow (Err why)) refl refl
 grows-own slow wanted (Ok e) is =
     let new = with_own slow (Ok e) in
     let one = own_costs_one slow wanted e is in
     grows-then slow.held new.held new.held (Work 1 ∷ Record (spelling e) ∷ says (edit_reply (Ok e)) ∷ []) (tries new)
     (record { added = e ∷ []; held = refl; records = (refl, refl); costs = omega (arith, one) })
-    (grows-not new.held (tries new) (quiet-tries new 0 new.sites))
-
-grows-edit : (slow : SlowSite) (wanted : Edit) → Grows slow.held (with_own slow (edit slow wanted)).held (of_own slow (edit slow wanted))
-grows-edit slow wanted = grows-own slow wanted (edit slow wanted) refl
+    (grows-tries new.held new 0 new.sites)
 
 pub edit_is_paid : (slow : SlowSite) (wanted : Edit) → IsPaid slow.held (edited slow wanted).held (of_edit slow wanted)
-edit_is_paid slow wanted = is-paid slow.held (edited slow wanted).held (of_edit slow wanted) (grows-edit slow wanted)
+edit_is_paid slow wanted = is-paid slow.held (edited slow wanted).held (of_edit slow wanted) (grows-own slow wanted (edit slow wanted) refl)
 
 grows-offer : (slow : SlowSite) (e : Event) (o : Offer) → Grows slow.held (after_offer o slow e).held (of_offer slow e o)
 grows-offer slow e Next = record { added = e ∷ []; held = refl; records = (refl, refl); costs = omega arith }
-grows-offer slow e o = grows-not slow.held (of_offer slow e o) (record { none = refl; free = refl })
+grows-offer slow e o = grows-not slow.held (of_offer slow e o) refl refl
 
 grows-events : (slow : SlowSite) (es : List Event) → Grows slow.held (all_arrived slow es).held (of_events slow es)
 unfolding all_arrived of_events
-grows-events slow [] = grows-not slow.held [] quiet-none
+grows-events slow [] = grows-not slow.held [] refl refl
 grows-events slow (e ∷ es) =
     grows-then slow.held (arrived slow e).held (all_arrived (arrived slow e) es).held (of_event slow e) (of_events (arrived slow e) es)
     (grows-offer slow e (offer slow e)) (grows-events (arrived slow e) es)
@@ -176,7 +156,7 @@ unfolding take_frame
 grows-frame slow f = go (refusal slow f)
   where
     go : (why : Option FrameFault) → Grows slow.held (unless_refused why slow f).held (unless_refused_of slow f why)
-    go (Some why) = grows-not slow.held (unless_refused_of slow f (Some why)) (record { none = refl; free = refl })
+    go (Some why) = grows-not slow.held (unless_refused_of slow f (Some why)) refl refl
     go None =
         subst (λ (l : List Event). Grows slow.held l (of_events slow f.events)) (sym (held-finished (all_arrived slow f.events) f))
         (grows-events slow f.events)
@@ -190,7 +170,7 @@ grows-datagram slow bytes = go (is_too_long bytes) (frame bytes) _
     go : (long : Bool) (read : Result Frame Misread) (a : List ℕ) → Grows slow.held (cond long slow (after_read slow read)).held (cond long (Print a ∷ []) (of_read slow bytes read))
     go true read a = grows-says slow.held (a ∷ [])
     go false (Ok f) a = grows-frame slow f
-    go false (Err misread) a = grows-not slow.held (of_read slow bytes (Err misread)) (record { none = refl; free = refl })
+    go false (Err misread) a = grows-not slow.held (of_read slow bytes (Err misread)) refl refl
 
 grows-received : (most count : ℕ) (slow : SlowSite) (entries : List Entry) → Grows slow.held (received most count slow entries).site.held (of_received most slow entries)
 unfolding received of_received
@@ -198,7 +178,7 @@ grows-received (suc most) count slow (Packet bytes ∷ entries) =
     let next = after_datagram slow bytes in
     grows-then slow.held next.held (received most (suc count) next entries).site.held (of_datagram slow bytes) (of_received most next entries)
     (grows-datagram slow bytes) (grows-received most (suc count) next entries)
-grows-received most count slow entries = grows-not slow.held [] quiet-none
+grows-received most count slow entries = grows-not slow.held [] refl refl
 
 grows-poll : (slow : SlowSite) (entries : List Entry) → Grows slow.held (polled slow entries).site.held (of_poll slow entries)
 grows-poll slow entries =
@@ -206,8 +186,8 @@ grows-poll slow entries =
     let end = says (end_of_poll p.failed p.count) ∷ [] in
     grows-then slow.held p.site.held p.site.held (of_received most_datagrams slow entries ++ tries p.site) end
     (grows-then slow.held p.site.held p.site.held (of_received most_datagrams slow entries) (tries p.site)
-    (grows-received most_datagrams 0 slow entries) (grows-not p.site.held (tries p.site) (quiet-tries p.site 0 p.site.sites)))
-    (grows-not p.site.held end (record { none = refl; free = refl }))
+    (grows-received most_datagrams 0 slow entries) (grows-tries p.site.held p.site 0 p.site.sites))
+    (grows-not p.site.held end refl refl)
 
 grows-note : (slow : SlowSite) (note : Note) (lines : List (List ℕ)) → Grows slow.held (noted slow note).held (map Print lines)
 grows-note slow note lines =
@@ -216,7 +196,7 @@ grows-note slow note lines =
 
 grows-command : (slow : SlowSite) (entries : List Entry) (c : ReadLine) → Grows slow.held (after_command slow entries c).held (of_command slow entries c)
 unfolding after_line
-grows-command slow entries (Ok (command.Edit wish)) = grows-edit slow wish
+grows-command slow entries (Ok (command.Edit wish)) = grows-own slow wish (edit slow wish) refl
 grows-command slow entries (Ok (command.Name name)) = grows-note slow (renamed (slow.notes slow.me) name) (map reply_text (command_replies slow (command.Name name)))
 grows-command slow entries (Ok (command.Focus focus)) = grows-note slow (refocused (slow.notes slow.me) focus) (map reply_text (command_replies slow (command.Focus focus)))
 grows-command slow entries (Ok command.Poll) = grows-poll slow entries
@@ -229,7 +209,7 @@ quit-same slow entries c e = cc
 
 pub grows_answers : (slow : SlowSite) (entries : List Entry) (cs : List ReadLine) → Grows slow.held (site_after slow entries cs).held (answers slow entries cs)
 unfolding answers site_after
-grows_answers slow entries [] = grows-not slow.held [] quiet-none
+grows_answers slow entries [] = grows-not slow.held [] refl refl
 grows_answers slow entries (c ∷ cs) =
     let next = after_command slow entries c in
     let last = site_after next (entries_after slow entries c) cs in
@@ -237,6 +217,6 @@ grows_answers slow entries (c ∷ cs) =
     let one = grows-command slow entries c in
     (elim (is_quit c) as (λ b. is_quit c ≡ b → Grows slow.held (cond b slow last).held (of_command slow entries c ++ cond b [] more)) [
       | true ↦ λ quits.
-          grows-then slow.held next.held slow.held (of_command slow entries c) [] one (subst (λ (s : SlowSite). Grows next.held s.held []) (quit-same slow entries c quits) (grows-not next.held [] quiet-none))
+          grows-then slow.held next.held slow.held (of_command slow entries c) [] one (subst (λ (s : SlowSite). Grows next.held s.held []) (quit-same slow entries c quits) (grows-not next.held [] refl refl))
       | false ↦ λ goes_on. grows-then slow.held next.held last.held (of_command slow entries c) more one (grows_answers next (entries_after slow entries c) cs)
     ]) refl

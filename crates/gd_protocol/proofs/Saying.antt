@@ -2,7 +2,6 @@
 use Rattle.std.proofs.Common.{◌≡◌, ℕ, zero, suc, ◌+◌, ◌==◌, List, [], ◌∷◌, ◌++◌, map, Option, Some, None, Result, Ok, Err, refl, sym, ap, ◌∙◌}
 use Rattle.std.proofs.lemmas.Bool.{cond_both}
 use Rattle.std.proofs.lemmas.List.{append-nil, map-append}
-use Rattle.gd_base.specs.declared.edit.Edit.{Edit}
 use Rattle.gd_base.specs.declared.offer.Offer.{Offer}
 use Rattle.gd_base.specs.declared.offer.Offer.TheVariants.{Next}
 use Rattle.gd_base.specs.declared.refusal.EditRefusal.{EditRefusal}
@@ -13,7 +12,7 @@ use Rattle.gd_events.specs.Events.{Event}
 use Rattle.gd_grammar.specs.FrameBytes.{Frame}
 use Rattle.gd_lines.specs.Replies.{reply_text}
 use Rattle.gd_lines.specs.declared.reply.Reply.{Reply}
-use Rattle.gd_reference.specs.Judging.{edit, with_own}
+use Rattle.gd_reference.specs.Judging.{with_own}
 use Rattle.gd_reference.specs.Offers.{arrived, offer, refusal}
 use Rattle.gd_reference.specs.Said.{all_said}
 use Rattle.gd_reference.specs.SiteEffects.{edit_reply, events_replies, frame_replies, of_event, of_events, of_frame, of_offer, of_own, offer_replies, tries_behind, try_for, unless_refused_of, unless_refused_replies}
@@ -58,11 +57,8 @@ tries-print slow site (suc k) =
     ∙ cond_both (site + 1 == slow.me) _ _ (λ xs. printed xs ++ printed (tries_behind slow (site + 1) k) ≡ printed (tries_behind slow (site + 1) k)) (λ mine. refl) (λ other. refl)
     ∙ tries-print slow (site + 1) k
 
-own-is-said : (slow : SlowSite) (r : Result Event EditRefusal) → printed (of_own slow r) ≡ reply_text (edit_reply r)
-own-is-said slow (Err why) = append-nil (reply_text (edit_reply (Err why)))
-own-is-said slow (Ok e) =
+pub own_is_said : (slow : SlowSite) (r : Result Event EditRefusal) → printed (of_own slow r) ≡ reply_text (edit_reply r)
+own_is_said slow (Err why) = append-nil (reply_text (edit_reply (Err why)))
+own_is_said slow (Ok e) =
     let new = with_own slow (Ok e) in
     ap (λ (l : List ℕ). reply_text (edit_reply (Ok e)) ++ l) (tries-print new 0 new.sites) ∙ append-nil (reply_text (edit_reply (Ok e)))
-
-pub edit_is_said : (slow : SlowSite) (wanted : Edit) → printed (of_own slow (edit slow wanted)) ≡ reply_text (edit_reply (edit slow wanted))
-edit_is_said slow wanted = own-is-said slow (edit slow wanted)
