@@ -11,7 +11,7 @@ use Rattle.gd_grammar.specs.LogBytes.{count_of, last_clock, log, logged, turn_fa
 use Rattle.gd_base.specs.Sites.{is_site}
 use Rattle.gd_reference.specs.SlowSite.{SlowSite, is_by, journal_header, made_by, resumed}
 use Rattle.gd_reference.specs.SlowRun.{replayed, replayed_as, replay_effects}
-use Rattle.gd_protocol.proofs.Chains.{IsChain-back, last_clock-made_by, made_by-append}
+use Rattle.gd_protocol.proofs.Chains.{IsChain-back, last_clock-made_by, made_by-append, made_by-first}
 use Rattle.gd_base.proofs.SiteLemmas.{is_site-bounds}
 use Rattle.gd_protocol.specs.Kept.{IsChain}
 use Rattle.gd_protocol.specs.Sites.{IsWell}
@@ -20,10 +20,6 @@ use Rattle.gd_protocol.proofs.WellSites.{well_front}
 count-made_by : (site : ℕ) (es : List Event) → count_of site es ≡ length (made_by site es)
 unfolding made_by
 count-made_by site es = sym (length-filter (is_by site) es)
-
-made_by-first : (e : Event) (es : List Event) → made_by e.stamp.site (e ∷ es) ≡ e ∷ made_by e.stamp.site es
-unfolding made_by
-made_by-first e es = rw (eq-eqb e.stamp.site e.stamp.site refl) refl
 
 module _ (n : ℕ) (all : List Event) (chains : (t : ℕ) → IsChain t 0 0 (made_by t all)) where
   in-turn : (seen : List Event) (e : Event) (rest : List Event) → all ≡ seen ++ e ∷ rest → is_site n e.stamp.site ≡ true → turn_fault n seen e ≡ None
