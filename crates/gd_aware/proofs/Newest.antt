@@ -52,7 +52,8 @@ take_over puts site old note above h = inr (record {
   after = [];
   there = refl;
   some = omega (arith, above);
-  lower = All-weaker (Of site (UpTo old.number)) (Of site (Below note.number)) (λ (p : Put) (h : Of site (UpTo old.number) p) (e : p.site ≡ site). omega (arith, h e, above)) puts (up_to puts site old h);
+  lower = All-weaker (Of site (UpTo old.number)) (Of site (Below note.number))
+      (λ (p : Put) (h : Of site (UpTo old.number) p) (e : p.site ≡ site). omega (arith, h e, above)) puts (up_to puts site old h);
   no_greater = All-nil (Of site (UpTo note.number));
 })
 
@@ -80,7 +81,8 @@ one_more : (puts : List Put) (p : Put) (notes : List Note) (site : ℕ) → leng
 one_more puts p notes site len is_put is h =
     elim (cases_eq p.site site) [
       | inl e ↦ here puts p notes site len is e h
-      | inr differ ↦ subst (IsNewest (puts ++ p ∷ []) site) (sym (other_site notes p.site site p.note is_put is differ)) (pass puts p site (note_of notes site) (λ e. absurd (differ e)) h)
+      | inr differ ↦
+          subst (IsNewest (puts ++ p ∷ []) site) (sym (other_site notes p.site site p.note is_put is differ)) (pass puts p site (note_of notes site) (λ e. absurd (differ e)) h)
     ]
 
 abbrev Step : List Note → Put → List Note

@@ -217,6 +217,7 @@ grows_answers slow entries (c ∷ cs) =
     let one = grows-command slow entries c in
     (elim (is_quit c) as (λ b. is_quit c ≡ b → Grows slow.held (cond b slow last).held (of_command slow entries c ++ cond b [] more)) [
       | true ↦ λ quits.
-          grows-then slow.held next.held slow.held (of_command slow entries c) [] one (subst (λ (s : SlowSite). Grows next.held s.held []) (quit-same slow entries c quits) (grows-not next.held [] refl refl))
+          grows-then slow.held next.held slow.held (of_command slow entries c) [] one
+          (subst (λ (s : SlowSite). Grows next.held s.held []) (quit-same slow entries c quits) (grows-not next.held [] refl refl))
       | false ↦ λ goes_on. grows-then slow.held next.held last.held (of_command slow entries c) more one (grows_answers next (entries_after slow entries c) cs)
     ]) refl
