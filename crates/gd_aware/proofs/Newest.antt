@@ -1,7 +1,8 @@
 -- The newest note is kept: of each list of puts, by one put more.
-use Rattle.std.proofs.Common.{◌≡◌, ◌≢◌, ◌==◌, ◌∙◌, ℕ, ◌-◌, ◌<◌, ◌≤◌, List, [], ◌∷◌, ◌++◌, All, Bool, true, false, length, nat_lt, ◌⊎◌, inl, inr, if◌then◌else◌, ap, sym, subst, refl, arith}
+use Rattle.std.proofs.Common.{◌≡◌, ◌≢◌, ◌∙◌, ℕ, ◌-◌, ◌<◌, ◌≤◌, List, [], ◌∷◌, ◌++◌, All, length, nat_lt, inl, inr, ap, sym, subst, refl, arith}
 use Rattle.std.specs.List.{fold}
-use Rattle.std.proofs.lemmas.Bool.Decides.{nat_tests, eqb_tells}
+use Rattle.std.proofs.lemmas.Bool.{cases_eq, cond_both}
+use Rattle.std.proofs.lemmas.Bool.Decides.{nat_tests}
 use Rattle.std.proofs.lemmas.List.{length-set, get_or-replicate, get_or-set_same, get_or-set_other, append_assoc, append-nil}
 use Rattle.std.proofs.lemmas.List.Elements.{All-nil, All-cons, All-append, All-push, All-weaker, All-head, All-tail, All-same}
 use Rattle.gd_base.specs.declared.note.Note.{Note}
@@ -23,27 +24,18 @@ Below m n = n < m
 abbrev UpTo : ℕ → ℕ → Type 0
 UpTo m n = n ≤ m
 
-zero_up_to : (p : Put) (site m : ℕ) → Of site Zero p → Of site (UpTo m) p
-zero_up_to p site m h e = let n : p.note.number ≡ 0 = h e in omega (arith, n)
-
-below_up_to : (p : Put) (site m : ℕ) → Of site (Below m) p → Of site (UpTo m) p
-below_up_to p site m h e = let n : p.note.number < m = h e in omega (arith, n)
-
 -- none of the notes put for the site is above the kept one
 up_to : (puts : List Put) (site : ℕ) (note : Note) → IsNewest puts site note → All (Of site (UpTo note.number)) puts
-up_to puts site note (inl (is_none, none)) = All-weaker (Of site Zero) (Of site (UpTo note.number)) (λ p h. zero_up_to p site note.number h) puts none
+up_to puts site note (inl (is_none, none)) = All-weaker (Of site Zero) (Of site (UpTo note.number)) (λ (p : Put) (h : Of site Zero p) (e : p.site ≡ site). omega (arith, h e)) puts none
 up_to puts site note (inr g) =
     All-same (Of site (UpTo note.number)) puts _ g.there
     (All-append (Of site (UpTo note.number)) g.before _
-    (All-weaker (Of site (Below note.number)) (Of site (UpTo note.number)) (λ p h. below_up_to p site note.number h) g.before g.lower)
+    (All-weaker (Of site (Below note.number)) (Of site (UpTo note.number)) (λ (p : Put) (h : Of site (Below note.number) p) (e : p.site ≡ site). omega (arith, h e)) g.before g.lower)
     (All-cons (Of site (UpTo note.number)) _ g.after (λ e. omega arith) g.no_greater))
-
-none_above : (n m : ℕ) → n ≤ m → m ≡ 0 → n ≡ 0
-none_above n m h e = omega (arith, h, e)
 
 -- a put that isn't above the kept one, or is for another site
 pass : (puts : List Put) (p : Put) (site : ℕ) (note : Note) → (p.site ≡ site → p.note.number ≤ note.number) → IsNewest puts site note → IsNewest (puts ++ p ∷ []) site note
-pass puts p site note low (inl (is_none, none)) = inl (is_none, All-push (Of site Zero) puts p none (λ e. none_above p.note.number note.number (low e) (ap (λ (n : Note). n.number) is_none)))
+pass puts p site note low (inl (is_none, none)) = inl (is_none, All-push (Of site Zero) puts p none (λ e. omega (arith, low e, ap (λ (n : Note). n.number) is_none)))
 pass puts p site note low (inr g) = inr (record {
   before = g.before;
   after = g.after ++ p ∷ [];
@@ -53,9 +45,6 @@ pass puts p site note low (inr g) = inr (record {
   no_greater = All-push (Of site (UpTo note.number)) g.after p g.no_greater low;
 })
 
-up_to_below : (p : Put) (site m n : ℕ) → m < n → Of site (UpTo m) p → Of site (Below n) p
-up_to_below p site m n above h e = let k : p.note.number ≤ m = h e in omega (arith, k, above)
-
 -- a put for the site that is above the kept one
 take_over : (puts : List Put) (site : ℕ) (old note : Note) → old.number < note.number → IsNewest puts site old → IsNewest (puts ++ (record { site = site; note = note }) ∷ []) site note
 take_over puts site old note above h = inr (record {
@@ -63,14 +52,15 @@ take_over puts site old note above h = inr (record {
   after = [];
   there = refl;
   some = omega (arith, above);
-  lower = All-weaker (Of site (UpTo old.number)) (Of site (Below note.number)) (λ p h. up_to_below p site old.number note.number above h) puts (up_to puts site old h);
+  lower = All-weaker (Of site (UpTo old.number)) (Of site (Below note.number))
+      (λ (p : Put) (h : Of site (UpTo old.number) p) (e : p.site ≡ site). omega (arith, h e, above)) puts (up_to puts site old h);
   no_greater = All-nil (Of site (UpTo note.number));
 })
 
-newer_by : (puts : List Put) (site : ℕ) (old note : Note) (b : Bool) → nat_lt old.number note.number ≡ b → IsNewest puts site old
-    → IsNewest (puts ++ (record { site = site; note = note }) ∷ []) site (if b then note else old)
-newer_by puts site old note true above h = take_over puts site old note (grind (arith, nat_tests, above)) h
-newer_by puts site old note false low h = pass puts (record { site = site; note = note }) site old (λ e. grind (arith, nat_tests, low)) h
+put_newer : (puts : List Put) (site : ℕ) (old note : Note) → IsNewest puts site old → IsNewest (puts ++ (record { site = site; note = note }) ∷ []) site (newer old note)
+put_newer puts site old note h =
+    cond_both (nat_lt old.number note.number) note old (IsNewest (puts ++ (record { site = site; note = note }) ∷ []) site)
+    (λ above. take_over puts site old note (grind (arith, nat_tests, above)) h) (λ low. pass puts (record { site = site; note = note }) site old (λ e. grind (arith, nat_tests, low)) h)
 
 -- the note of a site once one was put for it, and once one was put for another
 same_site : (notes : List Note) (site : ℕ) (note : Note) → length notes ≡ SITES → IsSite site → note_of (noted notes site note) site ≡ newer (note_of notes site) note
@@ -85,16 +75,15 @@ Holds puts p notes site = IsNewest (puts ++ p ∷ []) site (note_of (noted notes
 here : (puts : List Put) (p : Put) (notes : List Note) (site : ℕ) → length notes ≡ SITES → IsSite site → p.site ≡ site → IsNewest puts site (note_of notes site) → Holds puts p notes site
 here puts p notes site len is e h =
     subst (λ s. IsSite s → IsNewest puts s (note_of notes s) → Holds puts p notes s) e
-    (λ is_put at. subst (IsNewest (puts ++ p ∷ []) p.site) (sym (same_site notes p.site p.note len is_put)) (newer_by puts p.site (note_of notes p.site) p.note _ refl at)) is h
-
-one_more_by : (puts : List Put) (p : Put) (notes : List Note) (site : ℕ) → length notes ≡ SITES → IsSite p.site → IsSite site
-    → (((p.site == site) ≡ true) × (p.site ≡ site)) ⊎ (((p.site == site) ≡ false) × (p.site ≢ site)) → IsNewest puts site (note_of notes site) → Holds puts p notes site
-one_more_by puts p notes site len is_put is (inl (t, e)) h = here puts p notes site len is e h
-one_more_by puts p notes site len is_put is (inr (t, differ)) h =
-    subst (IsNewest (puts ++ p ∷ []) site) (sym (other_site notes p.site site p.note is_put is differ)) (pass puts p site (note_of notes site) (λ e. absurd (differ e)) h)
+    (λ is_put at. subst (IsNewest (puts ++ p ∷ []) p.site) (sym (same_site notes p.site p.note len is_put)) (put_newer puts p.site (note_of notes p.site) p.note at)) is h
 
 one_more : (puts : List Put) (p : Put) (notes : List Note) (site : ℕ) → length notes ≡ SITES → IsSite p.site → IsSite site → IsNewest puts site (note_of notes site) → Holds puts p notes site
-one_more puts p notes site len is_put is h = one_more_by puts p notes site len is_put is (eqb_tells p.site site) h
+one_more puts p notes site len is_put is h =
+    elim (cases_eq p.site site) [
+      | inl e ↦ here puts p notes site len is e h
+      | inr differ ↦
+          subst (IsNewest (puts ++ p ∷ []) site) (sym (other_site notes p.site site p.note is_put is differ)) (pass puts p site (note_of notes site) (λ e. absurd (differ e)) h)
+    ]
 
 abbrev Step : List Note → Put → List Note
 Step notes p = noted notes p.site p.note

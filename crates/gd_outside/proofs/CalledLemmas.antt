@@ -1,12 +1,8 @@
 -- Calls on one source, one after another.
-use Rattle.std.proofs.Common.{[], ◌++◌, arith}
+use Rattle.std.proofs.Common.{◌++◌, arith}
 use Rattle.gd_outside.specs.Called.{SourceCalled}
 use Rattle.gd_outside.specs.Seen.{SeenSource}
-use Rattle.gd_outside.proofs.ToldLemmas.{hands_out_nothing, hands_out_then}
-
--- no call so far
-pub source_uncalled : (o : SeenSource) → SourceCalled o o ⊥
-source_uncalled o = record { taken = []; handed = hands_out_nothing o.left; count = omega arith; cause = λ failed. absurd failed }
+use Rattle.gd_outside.proofs.ToldLemmas.{hands_out_then}
 
 pub source_called_then : {a b c : SeenSource} {F G : Type 0} → SourceCalled a b F → SourceCalled b c G → SourceCalled a c G
 source_called_then h k = record {

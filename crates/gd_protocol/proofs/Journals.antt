@@ -12,21 +12,15 @@ use Rattle.gd_grammar.specs.Drawings.{log, logged}
 use Rattle.gd_base.specs.Sites.{is_site}
 use Rattle.gd_reference.specs.SlowSite.{SlowSite, is_by, journal_header, made_by, resumed}
 use Rattle.gd_reference.specs.SlowRun.{replayed, replayed_as, replay_effects}
-use Rattle.gd_reference.specs.World.{Step, after}
-use Rattle.gd_protocol.proofs.Chains.{IsChain-back, last_clock-made_by, made_by-append}
+use Rattle.gd_protocol.proofs.Chains.{IsChain-back, last_clock-made_by, made_by-append, made_by-first}
 use Rattle.gd_base.proofs.SiteLemmas.{is_site-bounds}
 use Rattle.gd_protocol.specs.Kept.{IsChain}
-use Rattle.gd_protocol.specs.Sites.{IsRun, IsWell}
-use Rattle.gd_protocol.proofs.Ranged.{sites_are_well_after}
+use Rattle.gd_protocol.specs.Sites.{IsWell}
 use Rattle.gd_protocol.proofs.WellSites.{well_front}
 
 count-made_by : (site : ℕ) (es : List Event) → count_of site es ≡ length (made_by site es)
 unfolding made_by
 count-made_by site es = sym (length-filter (is_by site) es)
-
-made_by-first : (e : Event) (es : List Event) → made_by e.stamp.site (e ∷ es) ≡ e ∷ made_by e.stamp.site es
-unfolding made_by
-made_by-first e es = rw (eq-eqb e.stamp.site e.stamp.site refl) refl
 
 module _ (n : ℕ) (all : List Event) (chains : (t : ℕ) → IsChain t 0 0 (made_by t all)) where
   in-turn : (seen : List Event) (e : Event) (rest : List Event) → all ≡ seen ++ e ∷ rest → is_site n e.stamp.site ≡ true → turn_fault n seen e ≡ None
@@ -50,9 +44,6 @@ well_journal slow h =
     let bounds = is_site-bounds slow.sites slow.me h.member in
     log-logged (journal_header slow) slow.held (record { site_above = bounds.0; site_below = bounds.1; few = h.met.1 }) h.met.2
     (all-next slow.sites slow.held h.chains [] slow.held refl h.sound h.by_members)
-
-pub journals_after : (sites session : ℕ) (steps : List Step) (s : ℕ) → IsRun sites session steps → is_site sites s ≡ true → log (logged (journal_header ((after sites session steps).at s)) ((after sites session steps).at s).held) ≡ Ok (journal_header ((after sites session steps).at s), ((after sites session steps).at s).held)
-journals_after sites session steps s run inside = well_journal ((after sites session steps).at s) (sites_are_well_after sites session steps s run inside)
 
 pub well_begun : (slow : SlowSite) (first rest : List Event) → slow.held ≡ first ++ rest → IsWell slow → log (logged (journal_header slow) first) ≡ Ok (journal_header slow, first)
 unfolding resumed

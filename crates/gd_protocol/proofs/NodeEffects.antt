@@ -1,28 +1,27 @@
 -- What the effects of a node record, what they cost, and what its site holds then.
 use Rattle.std.proofs.Common.{◌≡◌, ℕ, zero, suc, ◌+◌, Bool, true, false, cond, ◌==◌, nat_le, List, [], ◌∷◌, ◌++◌, map, sum, Option, Some, None, Result, Ok, Err, refl, sym, ap, ◌∙◌, subst, arith}
+use Rattle.std.proofs.lemmas.Bool.{cond_both}
 use Rattle.std.proofs.lemmas.List.{append_assoc, append-nil}
 use Rattle.std.proofs.lemmas.List.Sums.{sum_by-append}
 use Rattle.gd_base.specs.declared.edit.Edit.{Edit}
 use Rattle.gd_base.specs.declared.offer.Offer.{Offer}
-use Rattle.gd_base.specs.declared.offer.Offer.TheVariants.{Next, Repeat, Gap, Backdated}
+use Rattle.gd_base.specs.declared.offer.Offer.TheVariants.{Next}
 use Rattle.gd_base.specs.declared.note.Note.{Note}
 use Rattle.gd_base.specs.declared.refusal.EditRefusal.{EditRefusal}
 use Rattle.gd_base.specs.declared.refusal.FrameFault.{FrameFault}
-use Rattle.gd_effects.specs.Effects.{Effect, Head, Print, Record, Try, Work, cost, works, journal_after, journal_with}
+use Rattle.gd_effects.specs.Effects.{Effect, Head, Print, Record, Work, cost, works, journal_after, journal_with}
 use Rattle.gd_events.specs.Events.{Event}
-use Rattle.gd_grammar.specs.FrameBytes.{Frame, Misread, frame, frame_bytes}
+use Rattle.gd_grammar.specs.FrameBytes.{Frame, Misread, frame}
 use Rattle.gd_grammar.specs.HeaderBytes.{Header}
-use Rattle.gd_grammar.specs.Drawings.{logged}
-use Rattle.gd_grammar.specs.Drawings.{spelling}
+use Rattle.gd_grammar.specs.Drawings.{drawings, logged, spelling}
 use Rattle.gd_lines.specs.declared.command.Command.TheVariants as command
 use Rattle.gd_lines.specs.Replies.{reply_text}
 use Rattle.gd_logs.proofs.WriterLemmas.{logged-more}
 use Rattle.gd_model.specs.Arrivals.{cost_of, costs_from}
-use Rattle.gd_outside.specs.Seen.{Entry, Packet, Pause, Failure}
+use Rattle.gd_outside.specs.Seen.{Entry, Packet}
 use Rattle.gd_reference.specs.Judging.{edit, edited, with_own}
 use Rattle.gd_reference.specs.NodeRun.{ReadLine, after_command, after_datagram, answers, command_replies, end_of_poll, entries_after, is_quit, is_too_long, most_datagrams, of_command, of_datagram, of_poll, of_received, polled, received, site_after}
-use Rattle.gd_reference.specs.Offers.{after_offer, all_arrived, arrived, frame_for, offer, refusal, take_frame, unless_refused}
-use Rattle.gd_reference.specs.PerSite.{put}
+use Rattle.gd_reference.specs.Offers.{after_offer, all_arrived, arrived, offer, refusal, take_frame, unless_refused}
 use Rattle.gd_reference.specs.Said.{says}
 use Rattle.gd_reference.specs.SiteEffects.{after_read, edit_reply, of_edit, of_event, of_events, of_frame, of_offer, of_own, of_read, tries, tries_behind, try_for, unless_refused_of}
 use Rattle.gd_reference.specs.SlowSite.{SlowSite}
@@ -39,18 +38,14 @@ Records [] es = es ≡ []
 Records (Record bytes ∷ xs) [] = ⊥
 Records (Record bytes ∷ xs) (e ∷ es) = (bytes ≡ spelling e) × Records xs es
 Records (Head bytes ∷ xs) es = ⊥
-Records (Print bytes ∷ xs) es = Records xs es
-Records (Try to frame ∷ xs) es = Records xs es
-Records (Work n ∷ xs) es = Records xs es
+Records (x ∷ xs) es = Records xs es
 
 records-then : (xs ys : List Effect) (es fs : List Event) → Records xs es → Records ys fs → Records (xs ++ ys) (es ++ fs)
 records-then [] ys es fs p q = subst (λ (l : List Event). Records ys (l ++ fs)) (sym p) q
 records-then (Record bytes ∷ xs) ys [] fs p q = absurd p
 records-then (Record bytes ∷ xs) ys (e ∷ es) fs p q = (p.0, records-then xs ys es fs p.1 q)
 records-then (Head bytes ∷ xs) ys es fs p q = absurd p
-records-then (Print bytes ∷ xs) ys es fs p q = records-then xs ys es fs p q
-records-then (Try to frame ∷ xs) ys es fs p q = records-then xs ys es fs p q
-records-then (Work n ∷ xs) ys es fs p q = records-then xs ys es fs p q
+records-then (x ∷ xs) ys es fs p q = records-then xs ys es fs p q
 
 -- what the first of them record are the first of the events
 pub record Begun (front : List Effect) (es : List Event) : Type 0 where
@@ -68,9 +63,7 @@ begun_of [] back es p = record { first = []; rest = es; is = refl; records = ref
 begun_of (Record bytes ∷ xs) back [] p = absurd p
 begun_of (Record bytes ∷ xs) back (e ∷ es) p = begun-with e es bytes xs p.0 (begun_of xs back es p.1)
 begun_of (Head bytes ∷ xs) back es p = absurd p
-begun_of (Print bytes ∷ xs) back es p = let b = begun_of xs back es p in record { first = b.first; rest = b.rest; is = b.is; records = b.records }
-begun_of (Try to frame ∷ xs) back es p = let b = begun_of xs back es p in record { first = b.first; rest = b.rest; is = b.is; records = b.records }
-begun_of (Work n ∷ xs) back es p = let b = begun_of xs back es p in record { first = b.first; rest = b.rest; is = b.is; records = b.records }
+begun_of (x ∷ xs) back es p = let b = begun_of xs back es p in record { first = b.first; rest = b.rest; is = b.is; records = b.records }
 
 -- they take the log of some events to that of these too
 pub journal_of_records : (h : Header) (old : List Event) (xs : List Effect) (es : List Event) → Records xs es → journal_after (logged h old) xs ≡ logged h (old ++ es)
@@ -82,9 +75,7 @@ journal_of_records h old (Record bytes ∷ xs) (e ∷ es) p =
     ∙ journal_of_records h (old ++ e ∷ []) xs es p.1
     ∙ ap (logged h) (append_assoc old (e ∷ []) es)
 journal_of_records h old (Head bytes ∷ xs) es p = absurd p
-journal_of_records h old (Print bytes ∷ xs) es p = journal_of_records h old xs es p
-journal_of_records h old (Try to frame ∷ xs) es p = journal_of_records h old xs es p
-journal_of_records h old (Work n ∷ xs) es p = journal_of_records h old xs es p
+journal_of_records h old (x ∷ xs) es p = journal_of_records h old xs es p
 
 -- ---- what is added, and what it costs
 
@@ -117,39 +108,20 @@ grows-then a b c xs ys p q =
           omega (arith, both, all, later, p.costs, q.costs);
     }
 
--- these effects add nothing
-record Quiet (xs : List Effect) : Type 0 where
-  none : Records xs []
-  free : cost xs ≡ 0
-
-grows-not : (held : List Event) (xs : List Effect) → Quiet xs → Grows held held xs
-grows-not held xs q = record { added = []; held = sym (append-nil held); records = q.none; costs = q.free }
-
-quiet-none : Quiet []
-quiet-none = record { none = refl; free = refl }
-
-quiet-then : (xs ys : List Effect) → Quiet xs → Quiet ys → Quiet (xs ++ ys)
-quiet-then xs ys p q =
-    record {
-      none = records-then xs ys [] [] p.none q.none;
-      free = let both = sum_by-append works xs ys in omega (arith, both, p.free, q.free);
-    }
-
-quiet-prints : (lines : List (List ℕ)) → Quiet (map Print lines)
-quiet-prints [] = quiet-none
-quiet-prints (l ∷ ls) = quiet-then (Print l ∷ []) (map Print ls) (record { none = refl; free = refl }) (quiet-prints ls)
-
-quiet-tries : (slow : SlowSite) (site k : ℕ) → Quiet (tries_behind slow site k)
-unfolding tries_behind
-quiet-tries slow site zero = quiet-none
-quiet-tries slow site (suc k) = quiet-then (try_for slow (site + 1)) (tries_behind slow (site + 1) k) (one (site + 1 == slow.me)) (quiet-tries slow (site + 1) k)
-  where
-    one : (b : Bool) → Quiet (cond b [] (Try (site + 1) (frame_bytes (frame_for slow (site + 1))) ∷ []))
-    one true = quiet-none
-    one false = record { none = refl; free = refl }
+-- effects that record nothing and cost nothing add nothing
+grows-not : (held : List Event) (xs : List Effect) → Records xs [] → cost xs ≡ 0 → Grows held held xs
+grows-not held xs none free = record { added = []; held = sym (append-nil held); records = none; costs = free }
 
 grows-says : (held : List Event) (lines : List (List ℕ)) → Grows held held (map Print lines)
-grows-says held lines = grows-not held (map Print lines) (quiet-prints lines)
+grows-says held [] = grows-not held [] refl refl
+grows-says held (l ∷ ls) = grows-then held held held (Print l ∷ []) (map Print ls) (grows-not held (Print l ∷ []) refl refl) (grows-says held ls)
+
+grows-tries : (held : List Event) (slow : SlowSite) (site k : ℕ) → Grows held held (tries_behind slow site k)
+unfolding tries_behind
+grows-tries held slow site zero = grows-not held [] refl refl
+grows-tries held slow site (suc k) =
+    grows-then held held held (try_for slow (site + 1)) (tries_behind slow (site + 1) k)
+    (cond_both (site + 1 == slow.me) _ _ (Grows held held) (λ mine. grows-not held _ refl refl) (λ other. grows-not held _ refl refl)) (grows-tries held slow (site + 1) k)
 
 is-paid : (old new : List Event) (xs : List Effect) → Grows old new xs → IsPaid old new xs
 is-paid old new xs g = record { added = g.added; held = g.held; costs = g.costs }
@@ -157,29 +129,24 @@ is-paid old new xs g = record { added = g.added; held = g.held; costs = g.costs 
 -- ---- what a site does
 
 grows-own : (slow : SlowSite) (wanted : Edit) (r : Result Event EditRefusal) → edit slow wanted ≡ r → Grows slow.held (with_own slow r).held (of_own slow r)
-grows-own slow wanted (Err why) is = grows-not slow.held (of_own slow (Err why)) (record { none = refl; free = refl })
+grows-own slow wanted (Err why) is = grows-not slow.held (of_own slow (Err why)) refl refl
 grows-own slow wanted (Ok e) is =
     let new = with_own slow (Ok e) in
     let one = own_costs_one slow wanted e is in
     grows-then slow.held new.held new.held (Work 1 ∷ Record (spelling e) ∷ says (edit_reply (Ok e)) ∷ []) (tries new)
     (record { added = e ∷ []; held = refl; records = (refl, refl); costs = omega (arith, one) })
-    (grows-not new.held (tries new) (quiet-tries new 0 new.sites))
-
-grows-edit : (slow : SlowSite) (wanted : Edit) → Grows slow.held (with_own slow (edit slow wanted)).held (of_own slow (edit slow wanted))
-grows-edit slow wanted = grows-own slow wanted (edit slow wanted) refl
+    (grows-tries new.held new 0 new.sites)
 
 pub edit_is_paid : (slow : SlowSite) (wanted : Edit) → IsPaid slow.held (edited slow wanted).held (of_edit slow wanted)
-edit_is_paid slow wanted = is-paid slow.held (edited slow wanted).held (of_edit slow wanted) (grows-edit slow wanted)
+edit_is_paid slow wanted = is-paid slow.held (edited slow wanted).held (of_edit slow wanted) (grows-own slow wanted (edit slow wanted) refl)
 
 grows-offer : (slow : SlowSite) (e : Event) (o : Offer) → Grows slow.held (after_offer o slow e).held (of_offer slow e o)
 grows-offer slow e Next = record { added = e ∷ []; held = refl; records = (refl, refl); costs = omega arith }
-grows-offer slow e Repeat = grows-not slow.held [] quiet-none
-grows-offer slow e Gap = grows-not slow.held [] quiet-none
-grows-offer slow e (Backdated clock sure) = grows-not slow.held (of_offer slow e (Backdated clock sure)) (record { none = refl; free = refl })
+grows-offer slow e o = grows-not slow.held (of_offer slow e o) refl refl
 
 grows-events : (slow : SlowSite) (es : List Event) → Grows slow.held (all_arrived slow es).held (of_events slow es)
 unfolding all_arrived of_events
-grows-events slow [] = grows-not slow.held [] quiet-none
+grows-events slow [] = grows-not slow.held [] refl refl
 grows-events slow (e ∷ es) =
     grows-then slow.held (arrived slow e).held (all_arrived (arrived slow e) es).held (of_event slow e) (of_events (arrived slow e) es)
     (grows-offer slow e (offer slow e)) (grows-events (arrived slow e) es)
@@ -189,7 +156,7 @@ unfolding take_frame
 grows-frame slow f = go (refusal slow f)
   where
     go : (why : Option FrameFault) → Grows slow.held (unless_refused why slow f).held (unless_refused_of slow f why)
-    go (Some why) = grows-not slow.held (unless_refused_of slow f (Some why)) (record { none = refl; free = refl })
+    go (Some why) = grows-not slow.held (unless_refused_of slow f (Some why)) refl refl
     go None =
         subst (λ (l : List Event). Grows slow.held l (of_events slow f.events)) (sym (held-finished (all_arrived slow f.events) f))
         (grows-events slow f.events)
@@ -203,18 +170,15 @@ grows-datagram slow bytes = go (is_too_long bytes) (frame bytes) _
     go : (long : Bool) (read : Result Frame Misread) (a : List ℕ) → Grows slow.held (cond long slow (after_read slow read)).held (cond long (Print a ∷ []) (of_read slow bytes read))
     go true read a = grows-says slow.held (a ∷ [])
     go false (Ok f) a = grows-frame slow f
-    go false (Err misread) a = grows-not slow.held (of_read slow bytes (Err misread)) (record { none = refl; free = refl })
+    go false (Err misread) a = grows-not slow.held (of_read slow bytes (Err misread)) refl refl
 
 grows-received : (most count : ℕ) (slow : SlowSite) (entries : List Entry) → Grows slow.held (received most count slow entries).site.held (of_received most slow entries)
 unfolding received of_received
-grows-received zero count slow entries = grows-not slow.held [] quiet-none
-grows-received (suc most) count slow [] = grows-not slow.held [] quiet-none
-grows-received (suc most) count slow (Pause ∷ entries) = grows-not slow.held [] quiet-none
-grows-received (suc most) count slow (Failure ∷ entries) = grows-not slow.held [] quiet-none
 grows-received (suc most) count slow (Packet bytes ∷ entries) =
     let next = after_datagram slow bytes in
     grows-then slow.held next.held (received most (suc count) next entries).site.held (of_datagram slow bytes) (of_received most next entries)
     (grows-datagram slow bytes) (grows-received most (suc count) next entries)
+grows-received most count slow entries = grows-not slow.held [] refl refl
 
 grows-poll : (slow : SlowSite) (entries : List Entry) → Grows slow.held (polled slow entries).site.held (of_poll slow entries)
 grows-poll slow entries =
@@ -222,57 +186,38 @@ grows-poll slow entries =
     let end = says (end_of_poll p.failed p.count) ∷ [] in
     grows-then slow.held p.site.held p.site.held (of_received most_datagrams slow entries ++ tries p.site) end
     (grows-then slow.held p.site.held p.site.held (of_received most_datagrams slow entries) (tries p.site)
-    (grows-received most_datagrams 0 slow entries) (grows-not p.site.held (tries p.site) (quiet-tries p.site 0 p.site.sites)))
-    (grows-not p.site.held end (record { none = refl; free = refl }))
+    (grows-received most_datagrams 0 slow entries) (grows-tries p.site.held p.site 0 p.site.sites))
+    (grows-not p.site.held end refl refl)
 
 grows-note : (slow : SlowSite) (note : Note) (lines : List (List ℕ)) → Grows slow.held (noted slow note).held (map Print lines)
-grows-note slow note lines = go (nat_le most_notes (slow.notes slow.me).number)
-  where
-    go : (full : Bool) → Grows slow.held (cond full slow (record slow { notes = put slow.notes slow.me note })).held (map Print lines)
-    go true = grows-says slow.held lines
-    go false = grows-says slow.held lines
+grows-note slow note lines =
+    cond_both (nat_le most_notes (slow.notes slow.me).number) _ _ (λ (x : SlowSite). Grows slow.held x.held (map Print lines))
+    (λ full. grows-says slow.held lines) (λ room. grows-says slow.held lines)
 
 grows-command : (slow : SlowSite) (entries : List Entry) (c : ReadLine) → Grows slow.held (after_command slow entries c).held (of_command slow entries c)
 unfolding after_line
-grows-command slow entries (Ok (command.Edit wish)) = grows-edit slow wish
+grows-command slow entries (Ok (command.Edit wish)) = grows-own slow wish (edit slow wish) refl
 grows-command slow entries (Ok (command.Name name)) = grows-note slow (renamed (slow.notes slow.me) name) (map reply_text (command_replies slow (command.Name name)))
 grows-command slow entries (Ok (command.Focus focus)) = grows-note slow (refocused (slow.notes slow.me) focus) (map reply_text (command_replies slow (command.Focus focus)))
-grows-command slow entries (Ok command.Show) = grows-says slow.held (map reply_text (command_replies slow command.Show))
-grows-command slow entries (Ok command.Status) = grows-says slow.held (map reply_text (command_replies slow command.Status))
-grows-command slow entries (Ok command.Who) = grows-says slow.held (map reply_text (command_replies slow command.Who))
 grows-command slow entries (Ok command.Poll) = grows-poll slow entries
-grows-command slow entries (Ok command.Quit) = grows-says slow.held []
-grows-command slow entries (Ok command.Blank) = grows-says slow.held []
+grows-command slow entries (Ok c) = grows-says slow.held (map reply_text (command_replies slow c))
 grows-command slow entries (Err fault) = grows-says slow.held (_ ∷ [])
 
 quit-same : (slow : SlowSite) (entries : List Entry) (c : ReadLine) → is_quit c ≡ true → after_command slow entries c ≡ slow
 quit-same slow entries (Ok command.Quit) e = refl
-quit-same slow entries (Ok (command.Edit wish)) e = cc
-quit-same slow entries (Ok (command.Name name)) e = cc
-quit-same slow entries (Ok (command.Focus focus)) e = cc
-quit-same slow entries (Ok command.Show) e = cc
-quit-same slow entries (Ok command.Status) e = cc
-quit-same slow entries (Ok command.Who) e = cc
-quit-same slow entries (Ok command.Poll) e = cc
-quit-same slow entries (Ok command.Blank) e = cc
-quit-same slow entries (Err fault) e = cc
+quit-same slow entries c e = cc
 
 pub grows_answers : (slow : SlowSite) (entries : List Entry) (cs : List ReadLine) → Grows slow.held (site_after slow entries cs).held (answers slow entries cs)
 unfolding answers site_after
-grows_answers slow entries [] = grows-not slow.held [] quiet-none
-grows_answers slow entries (c ∷ cs) = go (is_quit c) refl (grows_answers next (entries_after slow entries c) cs)
-  where
-    next : SlowSite
-    next = after_command slow entries c
-
-    last : SlowSite
-    last = site_after next (entries_after slow entries c) cs
-
-    more : List Effect
-    more = answers next (entries_after slow entries c) cs
-
-    go : (b : Bool) → is_quit c ≡ b → Grows next.held last.held more → Grows slow.held (cond b slow last).held (of_command slow entries c ++ cond b [] more)
-    go true quits ih =
-        grows-then slow.held next.held slow.held (of_command slow entries c) [] (grows-command slow entries c)
-        (subst (λ (s : SlowSite). Grows next.held s.held []) (quit-same slow entries c quits) (grows-not next.held [] quiet-none))
-    go false goes ih = grows-then slow.held next.held last.held (of_command slow entries c) more (grows-command slow entries c) ih
+grows_answers slow entries [] = grows-not slow.held [] refl refl
+grows_answers slow entries (c ∷ cs) =
+    let next = after_command slow entries c in
+    let last = site_after next (entries_after slow entries c) cs in
+    let more = answers next (entries_after slow entries c) cs in
+    let one = grows-command slow entries c in
+    (elim (is_quit c) as (λ b. is_quit c ≡ b → Grows slow.held (cond b slow last).held (of_command slow entries c ++ cond b [] more)) [
+      | true ↦ λ quits.
+          grows-then slow.held next.held slow.held (of_command slow entries c) [] one
+          (subst (λ (s : SlowSite). Grows next.held s.held []) (quit-same slow entries c quits) (grows-not next.held [] refl refl))
+      | false ↦ λ goes_on. grows-then slow.held next.held last.held (of_command slow entries c) more one (grows_answers next (entries_after slow entries c) cs)
+    ]) refl
