@@ -34,9 +34,33 @@ at_same {X} q k f y =
       | false ↦ λ e. refl
     ] refl
 
+-- what a test chose before doesn't matter where it chooses again
+pub cond_over : {X : Type 0} (t : Bool) (x y z : X) → cond t x (cond t y z) ≡ cond t x z
+cond_over true x y z = refl
+cond_over false x y z = refl
+
+-- of two that are the same a test chooses that one
+pub cond_same : {X : Type 0} (t : Bool) (x : X) → cond t x x ≡ x
+cond_same true x = refl
+cond_same false x = refl
+
 pub get-put_at : (b : Board) (k : Stamp) (x : Option Object) (q : Stamp) → map_of.get (put_at b k x) q ≡ cond (is_same q k) x (map_of.get b q)
 get-put_at b k None q = map_of.get-remove stamp_cmp-total b k q
 get-put_at b k (Some o) q = map_of.get-insert stamp_cmp-total b k o q
+
+-- boards that return the same are equal
+pub same_board : (b c : Board) → ((q : Stamp) → map_of.get b q ≡ map_of.get c q) → b ≡ c
+same_board = map_of.same_map stamp_cmp-total stamp_cmp-IsAntisymmetric
+
+-- to put an object where it stands, or to remove one that isn't there, changes nothing
+pub put_at-kept : (b : Board) (k : Stamp) (x : Option Object) → map_of.get b k ≡ x → put_at b k x ≡ b
+put_at-kept b k x e =
+    same_board _ b (λ q. get-put_at b k x q ∙ ap (λ y. cond (is_same q k) y (map_of.get b q)) (sym e) ∙ at_same q k (map_of.get b) (map_of.get b q) ∙ cond_same (is_same q k) (map_of.get b q))
+
+-- the second of two that are put at one id counts
+pub put_at-over : (b : Board) (k : Stamp) (x y : Option Object) → put_at (put_at b k x) k y ≡ put_at b k y
+put_at-over b k x y =
+    same_board _ _ (λ q. get-put_at (put_at b k x) k y q ∙ ap (cond (is_same q k) y) (get-put_at b k x q) ∙ cond_over (is_same q k) y x (map_of.get b q) ∙ sym (get-put_at b k y q))
 
 pub get-change : (b : Board) (k : Stamp) (f : Object → Object) (q : Stamp) → map_of.get (change b k f) q ≡ cond (is_same q k) (option_map f (map_of.get b q)) (map_of.get b q)
 get-change b k f q = get-put_at b k (option_map f (map_of.get b k)) q ∙ at_same q k (λ r. option_map f (map_of.get b r)) (map_of.get b q)
@@ -104,7 +128,3 @@ get-board_with s (Groups ms) b q =
 pub get-apply : (s : Stamp) (op : Op) (b : Board) (q : Stamp) → map_of.get (apply s op b) q ≡ after s (form s op) (map_of.get b) q
 unfolding apply
 get-apply s op b q = get-board_with s (form s op) b q
-
--- boards that return the same are equal
-pub same_board : (b c : Board) → ((q : Stamp) → map_of.get b q ≡ map_of.get c q) → b ≡ c
-same_board b c alike = map_of.same_map stamp_cmp-total stamp_cmp-IsAntisymmetric b c alike

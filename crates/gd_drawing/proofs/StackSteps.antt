@@ -8,6 +8,7 @@ use Rattle.std.proofs.lemmas.List.{append-nil}
 use Rattle.gd_base.specs.Stamps.{Stamp, is_same, is_before}
 use Rattle.gd_base.specs.declared.member.Member.{Member}
 use Rattle.gd_base.specs.declared.style.Style.TheVariants.{Stroke, Fill, Width}
+use Rattle.gd_base.proofs.Lists.{Every-append}
 use Rattle.gd_base.proofs.StampLemmas.{is_same-true, is_same-refl, is_same-comm, is_before-trans}
 use Rattle.gd_events.specs.declared.op.Op.{Op}
 use Rattle.gd_events.specs.declared.op.Op.TheVariants.{Restyle, Raise}
@@ -28,14 +29,14 @@ use Rattle.gd_model.specs.Ranks.{level, top, is_same_rank, level_cmp}
 use Rattle.gd_model.specs.Board.{Board, without_ranks, board_with, apply}
 use Rattle.gd_drawing.proofs.Lookups.{get-board_with}
 use Rattle.gd_drawing.proofs.Stacking.{level_cmp-total, level_test, same_levels, at_rank, Stands}
-use Rattle.gd_drawing.proofs.Entries.{Entries, mapped, sorted-mapped, find-mapped, sorted-append, all_before, under_from, all_before-more, all_before-mapped, all_before-where, all_before-append, present_before, absent, no_id, drawn-mapped, drawn-append, drawn-where, find-where}
+use Rattle.gd_drawing.proofs.Entries.{Entries, mapped, sorted-mapped, find-mapped, sorted-append, AllEarlier, under_from, AllEarlier-more, AllEarlier-mapped, AllEarlier-where, present_before, absent, no_id, drawn-mapped, drawn-append, drawn-where, find-where}
 
 -- what the event at s leaves: a list that stands for the board, that is the drawing, and that is before each later stamp
 pub record Step (s : Stamp) (b : Board) (d : Drawing) : Type 0 where
   pub entries : Entries
   pub stands : Stands b entries
   pub drawn : without_ranks entries ≡ d
-  pub later : (t : Stamp) → is_before s t ≡ true → all_before t entries ≡ true
+  pub later : (t : Stamp) → is_before s t ≡ true → AllEarlier t entries
 
 -- ---- contents
 
@@ -87,7 +88,7 @@ linked_cell (Some link) rank (Some o) =
     elim (is_same_rank rank o.rank) as (λ t. option_map (linked_body (Some link)) (cond t (Some (body o)) None) ≡ cond t (Some (linked_body (Some link) (body o))) None) [ true ↦ refl | false ↦ refl ]
 
 -- ---- the event at s, on a list that stands for a board and is before s
-module _ (s : Stamp) (b : Board) (es : Entries) (stands : Stands b es) (low : all_before s es ≡ true) where
+module _ (s : Stamp) (b : Board) (es : Entries) (stands : Stands b es) (low : AllEarlier s es) where
   -- one part of an object in the middle
   pub set_step : (id : Stamp) (c : Content) → keeps_rank c ≡ true → Step s (board_with s (Sets id c) b) (at_id id (set_body c) (without_ranks es))
   set_step id c e =
@@ -104,7 +105,7 @@ module _ (s : Stamp) (b : Board) (es : Entries) (stands : Stands b es) (low : al
               ∙ ap (at_rank r) (sym (get-board_with s (Sets id c) b k));
         };
         drawn = drawn-mapped f (λ x. cond (is_same id x.0) (set_body c x.1) x.1) (λ l v. refl) es;
-        later = λ t l. all_before-mapped t f es ∙ all_before-more s t es l low;
+        later = λ t l. AllEarlier-mapped t f es (AllEarlier-more s t es l low);
       }
 
   -- what is found at a rank where one object more stands at the level of the event
@@ -124,8 +125,8 @@ module _ (s : Stamp) (b : Board) (es : Entries) (stands : Stands b es) (low : al
   id_none k h e same = ap (λ i. h (map_of.get b i)) (is_same-true k s same) ∙ ap h (absent s b es stands low) ∙ e
 
   -- a list with one object more at the level of the event is before each later stamp
-  new_later : (v : Body) (fs : Entries) → all_before s fs ≡ true → (t : Stamp) → is_before s t ≡ true → all_before t (fs ++ (level (top s) s, v) ∷ []) ≡ true
-  new_later v fs h t l = all_before-append t (top s) s v fs (all_before-more s t fs l h) l l
+  new_later : (v : Body) (fs : Entries) → AllEarlier s fs → (t : Stamp) → is_before s t ≡ true → AllEarlier t (fs ++ (level (top s) s, v) ∷ [])
+  new_later v fs h t l = Every-append _ fs _ (AllEarlier-more s t fs l h) ((l, l), tt)
 
   -- the event's stamp is new
   not_present : is_some (map_of.get b s) ≡ false
@@ -163,7 +164,7 @@ module _ (s : Stamp) (b : Board) (es : Entries) (stands : Stands b es) (low : al
       let fs : Entries = mapped f es in
       let linked_at : Stamp → Option Object → Option Object = λ k x. option_map (linked (link_given s ms k)) x in
       let none : map_of.find level_cmp (level (top s) s) fs ≡ None = find-mapped f es (level (top s) s) ∙ ap (option_map (f (level (top s) s))) here_none in
-      let low_fs : all_before s fs ≡ true = all_before-mapped s f es ∙ low in
+      let low_fs : AllEarlier s fs = AllEarlier-mapped s f es low in
       record {
         entries = fs ++ (level (top s) s, new_group) ∷ [];
         stands = record {
@@ -193,9 +194,9 @@ module _ (s : Stamp) (b : Board) (es : Entries) (stands : Stands b es) (low : al
   rest_sorted id = is_sorted-where_key level_cmp (λ l. not (is_same id l.id)) es stands.sorted
 
   -- it is before s
-  rest_low : (id : Stamp) → all_before s (rest id) ≡ true
+  rest_low : (id : Stamp) → AllEarlier s (rest id)
   unfolding rest
-  rest_low id = all_before-where s (λ l. not (is_same id l.id)) es low
+  rest_low id = AllEarlier-where s (λ l. not (is_same id l.id)) es low
 
   -- it has the objects of other ids
   rest_found : (id : Stamp) (r : Rank) (k : Stamp) → map_of.find level_cmp (level r k) (rest id) ≡ cond (not (is_same k id)) (at_rank r (map_of.get b k)) None
@@ -222,7 +223,7 @@ module _ (s : Stamp) (b : Board) (es : Entries) (stands : Stands b es) (low : al
           found = λ r k. rest_found id r k ∙ gone_cell (is_same k id) r (map_of.get b k) ∙ ap (at_rank r) (sym (get-board_with s (Deletes id) b k));
         };
         drawn = rest_drawn id;
-        later = λ t l. all_before-more s t (rest id) l (rest_low id);
+        later = λ t l. AllEarlier-more s t (rest id) l (rest_low id);
       }
 
   -- the object of that id alone
@@ -304,7 +305,7 @@ module _ (s : Stamp) (b : Board) (es : Entries) (stands : Stands b es) (low : al
               ∙ ap (at_rank r) (sym (get-board_with s (Sets id (ToRank (top s))) b k));
         };
         drawn = rest_drawn id ∙ sym (append-nil (without id (without_ranks es))) ∙ ap (λ d. without id (without_ranks es) ++ d) (sym (ap without_ranks (alone_none id e)) ∙ alone_drawn id);
-        later = λ t l. all_before-more s t (rest id) l (rest_low id);
+        later = λ t l. AllEarlier-more s t (rest id) l (rest_low id);
       }
   raise_by id (Some o) e =
       record {
@@ -322,8 +323,7 @@ module _ (s : Stamp) (b : Board) (es : Entries) (stands : Stands b es) (low : al
             drawn-append (rest id) ((level (top s) id, body o) ∷ [])
             ∙ (λ i. rest_drawn id i ++ (sym (ap without_ranks (alone_one id o e)) ∙ alone_drawn id) i);
         later = λ t l.
-            all_before-append t (top s) id (body o) (rest id) (all_before-more s t (rest id) l (rest_low id)) l
-            (is_before-trans id s t (present_before s b es stands low id o e).1 l);
+            Every-append _ (rest id) _ (AllEarlier-more s t (rest id) l (rest_low id)) ((l, is_before-trans id s t (present_before s b es stands low id o e).1 l), tt);
       }
 
   -- an object that goes to the end
