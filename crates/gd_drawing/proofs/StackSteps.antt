@@ -27,8 +27,8 @@ use Rattle.gd_model.specs.declared.rank.Rank.{Rank}
 use Rattle.gd_model.specs.declared.rank.Level.{Level}
 use Rattle.gd_model.specs.Ranks.{level, top, is_same_rank, level_cmp}
 use Rattle.gd_model.specs.Board.{Board, without_ranks, board_with, apply}
-use Rattle.gd_drawing.proofs.Lookups.{get-board_with}
-use Rattle.gd_drawing.proofs.Stacking.{level_cmp-total, level_test, same_levels, at_rank, Stands}
+use Rattle.gd_drawing.proofs.Lookups.{at_same, cond_over, cond_same, get-board_with}
+use Rattle.gd_drawing.proofs.Stacking.{level_cmp-total, level_test, same_levels, level_step, at_rank, Stands}
 use Rattle.gd_drawing.proofs.Entries.{Entries, mapped, sorted-mapped, find-mapped, sorted-append, AllEarlier, under_from, AllEarlier-more, AllEarlier-mapped, AllEarlier-where, present_before, absent, no_id, drawn-mapped, drawn-append, drawn-where, find-where}
 
 -- what the event at s leaves: a list that stands for the board, that is the drawing, and that is before each later stamp
@@ -108,14 +108,6 @@ module _ (s : Stamp) (b : Board) (es : Entries) (stands : Stands b es) (low : Al
         later = λ t l. AllEarlier-mapped t f es (AllEarlier-more s t es l low);
       }
 
-  -- what is found at a rank where one object more stands at the level of the event
-  new_cell : (v : Body) (r : Rank) (same_rank same_id : Bool) (y : Option Body) (z : Option Object) → is_same_rank r (top s) ≡ same_rank → y ≡ at_rank r z → (same_id ≡ true → z ≡ None)
-      → cond (same_rank && same_id) (Some v) y ≡ at_rank r (cond same_id (Some (ranked v s)) z)
-  new_cell v r true true y z e h none = ap (λ t. cond t (Some v) None) (sym e)
-  new_cell v r false true y z e h none = h ∙ ap (at_rank r) (none refl) ∙ ap (λ t. cond t (Some v) None) (sym e)
-  new_cell v r true false y z e h none = h
-  new_cell v r false false y z e h none = h
-
   -- nothing stands at the level of the event
   here_none : map_of.find level_cmp (level (top s) s) es ≡ None
   here_none = stands.found (top s) s ∙ ap (at_rank (top s)) (absent s b es stands low)
@@ -135,10 +127,16 @@ module _ (s : Stamp) (b : Board) (es : Entries) (stands : Stands b es) (low : Al
   -- so a new object is put in, and not kept
   get-new : (v : Body) (k : Stamp) → cond (is_same k s) (Some (ranked v s)) (map_of.get b k) ≡ cond (is_same k s) (Some (unwrap_or (map_of.get b k) (ranked v s))) (map_of.get b k)
   get-new v k =
-      elim (is_same k s) as (λ t. is_same k s ≡ t → cond t (Some (ranked v s)) (map_of.get b k) ≡ cond t (Some (unwrap_or (map_of.get b k) (ranked v s))) (map_of.get b k)) [
-        | true ↦ λ is. ap (λ x. Some (unwrap_or x (ranked v s))) (sym (id_none k (λ x. x) refl is))
-        | false ↦ λ is. refl
-      ] refl
+      let made : Option Object → Option Object = λ x. Some (unwrap_or x (ranked v s)) in
+      ap (λ x. cond (is_same k s) (made x) (map_of.get b k)) (sym (absent s b es stands low)) ∙ at_same k s (λ q. made (map_of.get b q)) (map_of.get b k)
+
+  -- one object more at the level of the event, in a list that finds at each rank what x has of it
+  found-new : (v : Body) (fs : Entries) (x : Option Object) (r : Rank) (k : Stamp) → map_of.find level_cmp (level (top s) s) fs ≡ None → map_of.find level_cmp (level r k) fs ≡ at_rank r x
+      → (is_same k s ≡ true → x ≡ None) → map_of.find level_cmp (level r k) (fs ++ (level (top s) s, v) ∷ []) ≡ at_rank r (cond (is_same k s) (Some (ranked v s)) x)
+  found-new v fs x r k none found apart =
+      find-append level_cmp level_cmp-total fs (level (top s) s) v (level r k) none
+      ∙ (λ i. cond (level_test r k (top s) s i) (Some v) (found i))
+      ∙ level_step (is_same_rank r (top s)) (is_same k s) (ranked v s) r x refl apart
 
   -- a new object at the end
   pub create_step : (v : Body) → Step s (board_with s (Creates v) b) (draw s (Creates v) (without_ranks es))
@@ -148,9 +146,7 @@ module _ (s : Stamp) (b : Board) (es : Entries) (stands : Stands b es) (low : Al
         stands = record {
           sorted = sorted-append (level (top s) s) v es stands.sorted (under_from s s es low);
           found = λ r k.
-              find-append level_cmp level_cmp-total es (level (top s) s) v (level r k) here_none
-              ∙ ap (λ t. cond t (Some v) (map_of.find level_cmp (level r k) es)) (level_test r k (top s) s)
-              ∙ new_cell v r (is_same_rank r (top s)) (is_same k s) _ (map_of.get b k) refl (stands.found r k) (id_none k (λ x. x) refl)
+              found-new v es (map_of.get b k) r k here_none (stands.found r k) (id_none k (λ x. x) refl)
               ∙ ap (at_rank r) (get-new v k ∙ sym (get-board_with s (Creates v) b k));
         };
         drawn = drawn-append es ((level (top s) s, v) ∷ []) ∙ ap (λ t. cond t (without_ranks es) (without_ranks es ++ (s, v) ∷ [])) (sym (no_id s es low));
@@ -170,9 +166,7 @@ module _ (s : Stamp) (b : Board) (es : Entries) (stands : Stands b es) (low : Al
         stands = record {
           sorted = sorted-append (level (top s) s) new_group fs (subst T (sym (sorted-mapped f es)) stands.sorted) (under_from s s fs low_fs);
           found = λ r k.
-              find-append level_cmp level_cmp-total fs (level (top s) s) new_group (level r k) none
-              ∙ ap (λ t. cond t (Some new_group) (map_of.find level_cmp (level r k) fs)) (level_test r k (top s) s)
-              ∙ new_cell new_group r (is_same_rank r (top s)) (is_same k s) _ (linked_at k (map_of.get b k)) refl
+              found-new new_group fs (linked_at k (map_of.get b k)) r k none
               (find-mapped f es (level r k) ∙ ap (option_map (f (level r k))) (stands.found r k) ∙ linked_cell (link_given s ms k) r (map_of.get b k))
               (id_none k (linked_at k) refl)
               ∙ ap (at_rank r) (ap (λ t. cond t (map_of.get b k) (cond (is_same k s) (Some (ranked new_group s)) (linked_at k (map_of.get b k)))) (sym not_present) ∙ sym (get-board_with s (Groups ms) b k));
@@ -199,19 +193,18 @@ module _ (s : Stamp) (b : Board) (es : Entries) (stands : Stands b es) (low : Al
   rest_low id = AllEarlier-where s (λ l. not (is_same id l.id)) es low
 
   -- it has the objects of other ids
-  rest_found : (id : Stamp) (r : Rank) (k : Stamp) → map_of.find level_cmp (level r k) (rest id) ≡ cond (not (is_same k id)) (at_rank r (map_of.get b k)) None
+  rest_found : (id : Stamp) (r : Rank) (k : Stamp) → map_of.find level_cmp (level r k) (rest id) ≡ at_rank r (cond (is_same k id) None (map_of.get b k))
   unfolding rest
-  rest_found id r k = find-where (λ i. not (is_same id i)) es r k ∙ (λ i. cond (not (is_same-comm id k i)) (stands.found r k i) None)
+  rest_found id r k = find-where (λ i. not (is_same id i)) es r k ∙ (λ i. cond (not (is_same-comm id k i)) (stands.found r k i) None) ∙ by (is_same k id)
+    where
+      by : (t : Bool) → cond (not t) (at_rank r (map_of.get b k)) None ≡ at_rank r (cond t None (map_of.get b k))
+      by true = refl
+      by false = refl
 
   -- and is the drawing without that id
   rest_drawn : (id : Stamp) → without_ranks (rest id) ≡ without id (without_ranks es)
   unfolding rest
   rest_drawn id = drawn-where (λ i. not (is_same id i)) es
-
-  -- what is found at a rank where the object of that id is gone
-  gone_cell : (same : Bool) (r : Rank) (x : Option Object) → cond (not same) (at_rank r x) None ≡ at_rank r (cond same None x)
-  gone_cell true r x = refl
-  gone_cell false r x = refl
 
   -- an object that goes
   pub delete_step : (id : Stamp) → Step s (board_with s (Deletes id) b) (draw s (Deletes id) (without_ranks es))
@@ -220,7 +213,7 @@ module _ (s : Stamp) (b : Board) (es : Entries) (stands : Stands b es) (low : Al
         entries = rest id;
         stands = record {
           sorted = rest_sorted id;
-          found = λ r k. rest_found id r k ∙ gone_cell (is_same k id) r (map_of.get b k) ∙ ap (at_rank r) (sym (get-board_with s (Deletes id) b k));
+          found = λ r k. rest_found id r k ∙ ap (at_rank r) (sym (get-board_with s (Deletes id) b k));
         };
         drawn = rest_drawn id;
         later = λ t l. AllEarlier-more s t (rest id) l (rest_low id);
@@ -236,61 +229,47 @@ module _ (s : Stamp) (b : Board) (es : Entries) (stands : Stands b es) (low : Al
   alone_sorted id = is_sorted-where_key level_cmp (λ l. is_same id l.id) es stands.sorted
 
   -- it has that object
-  alone_found : (id : Stamp) (r : Rank) (k : Stamp) → map_of.find level_cmp (level r k) (alone id) ≡ cond (is_same k id) (at_rank r (map_of.get b k)) None
+  alone_found : (id : Stamp) (r : Rank) (k : Stamp) → map_of.find level_cmp (level r k) (alone id) ≡ at_rank r (cond (is_same k id) (map_of.get b id) None)
   unfolding alone
-  alone_found id r k = find-where (λ i. is_same id i) es r k ∙ (λ i. cond (is_same-comm id k i) (stands.found r k i) None)
+  alone_found id r k =
+      find-where (λ i. is_same id i) es r k
+      ∙ (λ i. cond (is_same-comm id k i) (stands.found r k i) None)
+      ∙ by (is_same k id)
+      ∙ ap (at_rank r) (sym (at_same k id (map_of.get b) None))
+    where
+      by : (t : Bool) → cond t (at_rank r (map_of.get b k)) None ≡ at_rank r (cond t (map_of.get b k) None)
+      by true = refl
+      by false = refl
 
   -- and is what the drawing has of that id
   alone_drawn : (id : Stamp) → without_ranks (alone id) ≡ filter (has_id id) (without_ranks es)
   unfolding alone
   alone_drawn id = drawn-where (λ i. is_same id i) es
 
-  -- nothing is found of an absent id
-  none_cell : (same : Bool) (r : Rank) (x : Option Object) → (same ≡ true → x ≡ None) → cond same (at_rank r x) None ≡ None
-  none_cell true r x h = ap (at_rank r) (h refl)
-  none_cell false r x h = refl
-
-  -- what is found of one object
-  one_cell : (same_rank same : Bool) (r : Rank) (o : Object) (x : Option Object) → is_same_rank r o.rank ≡ same_rank → (same ≡ true → x ≡ Some o)
-      → cond same (at_rank r x) None ≡ cond (same_rank && same) (Some (body o)) None
-  one_cell true true r o x e h = ap (at_rank r) (h refl) ∙ ap (λ t. cond t (Some (body o)) None) e
-  one_cell false true r o x e h = ap (at_rank r) (h refl) ∙ ap (λ t. cond t (Some (body o)) None) e
-  one_cell true false r o x e h = refl
-  one_cell false false r o x e h = refl
-
-  -- what the board returns at the same id
-  is_at : (id : Stamp) (x : Option Object) → map_of.get b id ≡ x → (k : Stamp) → is_same k id ≡ true → map_of.get b k ≡ x
-  is_at id x e k same = ap (map_of.get b) (is_same-true k id same) ∙ e
-
   -- an absent id has nothing
   alone_none : (id : Stamp) → map_of.get b id ≡ None → alone id ≡ []
   alone_none id e =
-      same_levels (alone id) [] (alone_sorted id) tt (λ l. alone_found id l.rank l.id ∙ none_cell (is_same l.id id) l.rank (map_of.get b l.id) (is_at id None e l.id))
+      same_levels (alone id) [] (alone_sorted id) tt
+      (λ l. alone_found id l.rank l.id ∙ ap (λ x. at_rank l.rank (cond (is_same l.id id) x None)) e ∙ ap (at_rank l.rank) (cond_same (is_same l.id id) None))
 
   -- an id that is there has its object, once
   alone_one : (id : Stamp) (o : Object) → map_of.get b id ≡ Some o → alone id ≡ (level o.rank id, body o) ∷ []
   alone_one id o e =
       same_levels (alone id) ((level o.rank id, body o) ∷ []) (alone_sorted id) tt
       (λ l. alone_found id l.rank l.id
-      ∙ one_cell (is_same_rank l.rank o.rank) (is_same l.id id) l.rank o (map_of.get b l.id) refl (is_at id (Some o) e l.id)
+      ∙ ap (λ x. at_rank l.rank (cond (is_same l.id id) x None)) e
+      ∙ sym (level_step (is_same_rank l.rank o.rank) (is_same l.id id) o l.rank None refl (λ t. refl))
       ∙ ap (λ t. cond t (Some (body o)) None) (sym (level_test l.rank l.id o.rank id)))
 
-  -- what is found at a rank after a raise of an absent id
-  stay_cell : (same : Bool) (r : Rank) (x : Option Object) → (same ≡ true → x ≡ None) → cond (not same) (at_rank r x) None ≡ at_rank r (cond same (option_map (set (ToRank (top s))) x) x)
-  stay_cell true r x h = ap (λ y. at_rank r (option_map (set (ToRank (top s))) y)) (sym (h refl))
-  stay_cell false r x h = refl
-
-  -- what is found at a rank after a raise of an object
-  top_cell : (same_rank same : Bool) (r : Rank) (o : Object) (x : Option Object) → is_same_rank r (top s) ≡ same_rank → (same ≡ true → x ≡ Some o)
-      → cond (same_rank && same) (Some (body o)) (cond (not same) (at_rank r x) None) ≡ at_rank r (cond same (option_map (set (ToRank (top s))) x) x)
-  top_cell true true r o x e h = ap (λ t. cond t (Some (body o)) None) (sym e) ∙ ap (λ y. at_rank r (option_map (set (ToRank (top s))) y)) (sym (h refl))
-  top_cell false true r o x e h = ap (λ t. cond t (Some (body o)) None) (sym e) ∙ ap (λ y. at_rank r (option_map (set (ToRank (top s))) y)) (sym (h refl))
-  top_cell true false r o x e h = refl
-  top_cell false false r o x e h = refl
+  -- what the board returns after a raise, by what it returned at that id
+  raised : (id k : Stamp) (x : Option Object) → map_of.get b id ≡ x → (let on_top = option_map (set (ToRank (top s))) in cond (is_same k id) (on_top x) (map_of.get b k) ≡ cond (is_same k id) (on_top (map_of.get b k)) (map_of.get b k))
+  raised id k x e =
+      let on_top = option_map (set (ToRank (top s))) in
+      ap (λ y. cond (is_same k id) (on_top y) (map_of.get b k)) (sym e) ∙ at_same k id (λ q. on_top (map_of.get b q)) (map_of.get b k)
 
   -- the list without that id has nothing at its new level
   not_in_rest : (id : Stamp) → map_of.find level_cmp (level (top s) id) (rest id) ≡ None
-  not_in_rest id = rest_found id (top s) id ∙ ap (λ t. cond (not t) (at_rank (top s) (map_of.get b id)) None) (is_same-refl id)
+  not_in_rest id = rest_found id (top s) id ∙ ap (λ t. at_rank (top s) (cond t None (map_of.get b id))) (is_same-refl id)
 
   -- a raise, by what the board returns at the id
   raise_by : (id : Stamp) (x : Option Object) → map_of.get b id ≡ x → Step s (board_with s (Sets id (ToRank (top s))) b) (to_top id (without_ranks es))
@@ -300,9 +279,7 @@ module _ (s : Stamp) (b : Board) (es : Entries) (stands : Stands b es) (low : Al
         stands = record {
           sorted = rest_sorted id;
           found = λ r k.
-              rest_found id r k
-              ∙ stay_cell (is_same k id) r (map_of.get b k) (is_at id None e k)
-              ∙ ap (at_rank r) (sym (get-board_with s (Sets id (ToRank (top s))) b k));
+              rest_found id r k ∙ ap (at_rank r) (raised id k None e ∙ sym (get-board_with s (Sets id (ToRank (top s))) b k));
         };
         drawn = rest_drawn id ∙ sym (append-nil (without id (without_ranks es))) ∙ ap (λ d. without id (without_ranks es) ++ d) (sym (ap without_ranks (alone_none id e)) ∙ alone_drawn id);
         later = λ t l. AllEarlier-more s t (rest id) l (rest_low id);
@@ -314,10 +291,9 @@ module _ (s : Stamp) (b : Board) (es : Entries) (stands : Stands b es) (low : Al
           sorted = sorted-append (level (top s) id) (body o) (rest id) (rest_sorted id) (under_from s id (rest id) (rest_low id));
           found = λ r k.
               find-append level_cmp level_cmp-total (rest id) (level (top s) id) (body o) (level r k) (not_in_rest id)
-              ∙ ap (λ t. cond t (Some (body o)) (map_of.find level_cmp (level r k) (rest id))) (level_test r k (top s) id)
-              ∙ ap (λ y. cond (is_same_rank r (top s) && is_same k id) (Some (body o)) y) (rest_found id r k)
-              ∙ top_cell (is_same_rank r (top s)) (is_same k id) r o (map_of.get b k) refl (is_at id (Some o) e k)
-              ∙ ap (at_rank r) (sym (get-board_with s (Sets id (ToRank (top s))) b k));
+              ∙ (λ i. cond (level_test r k (top s) id i) (Some (body o)) (rest_found id r k i))
+              ∙ level_step (is_same_rank r (top s)) (is_same k id) (set (ToRank (top s)) o) r (cond (is_same k id) None (map_of.get b k)) refl (λ t. ap (λ c. cond c None (map_of.get b k)) t)
+              ∙ ap (at_rank r) (cond_over (is_same k id) _ None (map_of.get b k) ∙ raised id k (Some o) e ∙ sym (get-board_with s (Sets id (ToRank (top s))) b k));
         };
         drawn =
             drawn-append (rest id) ((level (top s) id, body o) ∷ [])
