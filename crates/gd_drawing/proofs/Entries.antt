@@ -6,10 +6,11 @@ use Rattle.std.specs.FinMap as map_of
 use Rattle.std.specs.FinMap.Entries.{below_all, find-where_key, where_key}
 use Rattle.std.specs.Ordering.{is_lt, eq_by_cmp}
 use Rattle.std.specs.Cmp.{Equal-is}
+use Rattle.std.proofs.lemmas.Bool.{false≢true}
 use Rattle.gd_base.specs.Stamps.{Stamp, is_same, is_before}
 use Rattle.gd_base.proofs.Lists.{Every-weaker}
 use Rattle.gd_base.proofs.StampLemmas.{is_same-comm, is_before-apart, is_before-trans}
-use Rattle.gd_base.proofs.StampOrder.{is_before-asym}
+use Rattle.gd_drawing.proofs.Chains.{not_itself}
 use Rattle.gd_model.specs.declared.object.Object.{Object}
 use Rattle.gd_model.specs.declared.object.Body.{Body}
 use Rattle.gd_model.specs.Objects.{body}
@@ -120,14 +121,10 @@ pub present_before : (s : Stamp) (b : Board) (es : Entries) → Stands b es → 
 present_before s b es stands h id o e =
     found_before s es (level o.rank id) h (ap is_some (stands.found o.rank id ∙ ap (at_rank o.rank) e) ∙ own_rank o)
 
--- no stamp is before itself
-not_before_itself : (s : Stamp) → is_before s s ≡ true → ⊥
-not_before_itself s e = let none = is_before-asym s s e in cc
-
 -- the id s is absent, by what the board returns at s
 absent_by : (s : Stamp) (b : Board) (es : Entries) → Stands b es → AllEarlier s es → (x : Option Object) → map_of.get b s ≡ x → x ≡ None
 absent_by s b es stands h None e = refl
-absent_by s b es stands h (Some o) e = absurd (not_before_itself s (present_before s b es stands h s o e).1)
+absent_by s b es stands h (Some o) e = absurd (false≢true (sym (not_itself s) ∙ (present_before s b es stands h s o e).1))
 
 -- the board has no object of the id s, where all ids are before it
 pub absent : (s : Stamp) (b : Board) (es : Entries) → Stands b es → AllEarlier s es → map_of.get b s ≡ None
@@ -145,11 +142,6 @@ no_id s (e ∷ es) h =
 pub drawn-mapped : (f : Level → Body → Body) (g : Stamp × Body → Body) → ((l : Level) (v : Body) → f l v ≡ g (l.id, v)) → (es : Entries) → without_ranks (mapped f es) ≡ map (λ e. (e.0, g e)) (without_ranks es)
 drawn-mapped f g same [] = refl
 drawn-mapped f g same (e ∷ es) = λ i. (e.0.id, same e.0 e.1 i) ∷ drawn-mapped f g same es i
-
--- a list and more behind it
-pub drawn-append : (es fs : Entries) → without_ranks (es ++ fs) ≡ without_ranks es ++ without_ranks fs
-drawn-append [] fs = refl
-drawn-append (e ∷ es) fs = ap (λ d. (e.0.id, e.1) ∷ d) (drawn-append es fs)
 
 -- what is chosen by ids alone
 pub drawn-where : (p : Stamp → Bool) (es : Entries) → without_ranks (where_key level_cmp (λ l. p l.id) es) ≡ filter (λ e. p e.0) (without_ranks es)

@@ -3,7 +3,7 @@ use Rattle.std.proofs.Common.{◌≡◌, Bool, true, false, cond, List, [], ◌�
 use Rattle.std.specs.Prelude.{is_some, option_map, unwrap_or}
 use Rattle.std.specs.FinMap as map_of
 use Rattle.gd_base.specs.Stamps.{is_same, is_before}
-use Rattle.gd_base.proofs.StampLemmas.{stamp_cmp-total, stamp_cmp-IsAntisymmetric, is_same-true}
+use Rattle.gd_base.proofs.StampLemmas.{stamp_cmp-total, stamp_cmp-IsAntisymmetric, is_same-true, is_same-refl}
 use Rattle.gd_base.specs.Stamps.{Stamp}
 use Rattle.gd_base.specs.declared.member.Member.{Member}
 use Rattle.gd_events.specs.declared.op.Op.{Op}
@@ -43,6 +43,10 @@ cond_over false x y z = refl
 pub cond_same : {X : Type 0} (t : Bool) (x : X) → cond t x x ≡ x
 cond_same true x = refl
 cond_same false x = refl
+
+-- a stamp is itself
+pub at_itself : {X : Type 0} (s : Stamp) (x y : X) → cond (is_same s s) x y ≡ x
+at_itself s x y = ap (λ b. cond b x y) (is_same-refl s)
 
 pub get-put_at : (b : Board) (k : Stamp) (x : Option Object) (q : Stamp) → map_of.get (put_at b k x) q ≡ cond (is_same q k) x (map_of.get b q)
 get-put_at b k None q = map_of.get-remove stamp_cmp-total b k q

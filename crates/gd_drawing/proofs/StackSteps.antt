@@ -4,7 +4,7 @@ use Rattle.std.specs.Prelude.{is_some, option_map, unwrap_or}
 use Rattle.std.specs.List.{filter}
 use Rattle.std.specs.FinMap as map_of
 use Rattle.std.specs.FinMap.Entries.{find-append, is_sorted-where_key, where_key}
-use Rattle.std.proofs.lemmas.List.{append-nil}
+use Rattle.std.proofs.lemmas.List.{append-nil, map-append}
 use Rattle.gd_base.specs.Stamps.{Stamp, is_same, is_before}
 use Rattle.gd_base.specs.declared.member.Member.{Member}
 use Rattle.gd_base.specs.declared.style.Style.TheVariants.{Stroke, Fill, Width}
@@ -29,7 +29,7 @@ use Rattle.gd_model.specs.Ranks.{level, top, is_same_rank, level_cmp}
 use Rattle.gd_model.specs.Board.{Board, without_ranks, board_with, apply}
 use Rattle.gd_drawing.proofs.Lookups.{at_same, cond_over, cond_same, get-board_with}
 use Rattle.gd_drawing.proofs.Stacking.{level_cmp-total, level_test, same_levels, level_step, at_rank, Stands}
-use Rattle.gd_drawing.proofs.Entries.{Entries, mapped, sorted-mapped, find-mapped, sorted-append, AllEarlier, under_from, AllEarlier-more, AllEarlier-mapped, AllEarlier-where, present_before, absent, no_id, drawn-mapped, drawn-append, drawn-where, find-where}
+use Rattle.gd_drawing.proofs.Entries.{Entries, mapped, sorted-mapped, find-mapped, sorted-append, AllEarlier, under_from, AllEarlier-more, AllEarlier-mapped, AllEarlier-where, present_before, absent, no_id, drawn-mapped, drawn-where, find-where}
 
 -- what the event at s leaves: a list that stands for the board, that is the drawing, and that is before each later stamp
 pub record Step (s : Stamp) (b : Board) (d : Drawing) : Type 0 where
@@ -149,7 +149,7 @@ module _ (s : Stamp) (b : Board) (es : Entries) (stands : Stands b es) (low : Al
               found-new v es (map_of.get b k) r k here_none (stands.found r k) (id_none k (λ x. x) refl)
               ∙ ap (at_rank r) (get-new v k ∙ sym (get-board_with s (Creates v) b k));
         };
-        drawn = drawn-append es ((level (top s) s, v) ∷ []) ∙ ap (λ t. cond t (without_ranks es) (without_ranks es ++ (s, v) ∷ [])) (sym (no_id s es low));
+        drawn = map-append _ es ((level (top s) s, v) ∷ []) ∙ ap (λ t. cond t (without_ranks es) (without_ranks es ++ (s, v) ∷ [])) (sym (no_id s es low));
         later = new_later v es low;
       }
 
@@ -172,39 +172,31 @@ module _ (s : Stamp) (b : Board) (es : Entries) (stands : Stands b es) (low : Al
               ∙ ap (at_rank r) (ap (λ t. cond t (map_of.get b k) (cond (is_same k s) (Some (ranked new_group s)) (linked_at k (map_of.get b k)))) (sym not_present) ∙ sym (get-board_with s (Groups ms) b k));
         };
         drawn =
-            drawn-append fs ((level (top s) s, new_group) ∷ [])
+            map-append _ fs ((level (top s) s, new_group) ∷ [])
             ∙ ap (λ d. d ++ (s, new_group) ∷ []) (drawn-mapped f (λ x. linked_body (link_given s ms x.0) x.1) (λ l v. refl) es)
             ∙ ap (λ t. cond t (without_ranks es) (map (λ e. (e.0, linked_body (link_given s ms e.0) e.1)) (without_ranks es) ++ (s, new_group) ∷ [])) (sym (no_id s es low));
         later = new_later new_group fs low_fs;
       }
 
   -- the list without the object of that id
-  rest : Stamp → Entries
+  abbrev rest : Stamp → Entries
   rest id = where_key level_cmp (λ l. not (is_same id l.id)) es
 
   -- it is by level
   rest_sorted : (id : Stamp) → T (map_of.is_sorted level_cmp (rest id))
-  unfolding rest
   rest_sorted id = is_sorted-where_key level_cmp (λ l. not (is_same id l.id)) es stands.sorted
 
   -- it is before s
   rest_low : (id : Stamp) → AllEarlier s (rest id)
-  unfolding rest
   rest_low id = AllEarlier-where s (λ l. not (is_same id l.id)) es low
 
   -- it has the objects of other ids
   rest_found : (id : Stamp) (r : Rank) (k : Stamp) → map_of.find level_cmp (level r k) (rest id) ≡ at_rank r (cond (is_same k id) None (map_of.get b k))
-  unfolding rest
   rest_found id r k = find-where (λ i. not (is_same id i)) es r k ∙ (λ i. cond (not (is_same-comm id k i)) (stands.found r k i) None) ∙ by (is_same k id)
     where
       by : (t : Bool) → cond (not t) (at_rank r (map_of.get b k)) None ≡ at_rank r (cond t None (map_of.get b k))
       by true = refl
       by false = refl
-
-  -- and is the drawing without that id
-  rest_drawn : (id : Stamp) → without_ranks (rest id) ≡ without id (without_ranks es)
-  unfolding rest
-  rest_drawn id = drawn-where (λ i. not (is_same id i)) es
 
   -- an object that goes
   pub delete_step : (id : Stamp) → Step s (board_with s (Deletes id) b) (draw s (Deletes id) (without_ranks es))
@@ -215,22 +207,16 @@ module _ (s : Stamp) (b : Board) (es : Entries) (stands : Stands b es) (low : Al
           sorted = rest_sorted id;
           found = λ r k. rest_found id r k ∙ ap (at_rank r) (sym (get-board_with s (Deletes id) b k));
         };
-        drawn = rest_drawn id;
+        drawn = drawn-where (λ i. not (is_same id i)) es;
         later = λ t l. AllEarlier-more s t (rest id) l (rest_low id);
       }
 
   -- the object of that id alone
-  alone : Stamp → Entries
+  abbrev alone : Stamp → Entries
   alone id = where_key level_cmp (λ l. is_same id l.id) es
-
-  -- it is by level
-  alone_sorted : (id : Stamp) → T (map_of.is_sorted level_cmp (alone id))
-  unfolding alone
-  alone_sorted id = is_sorted-where_key level_cmp (λ l. is_same id l.id) es stands.sorted
 
   -- it has that object
   alone_found : (id : Stamp) (r : Rank) (k : Stamp) → map_of.find level_cmp (level r k) (alone id) ≡ at_rank r (cond (is_same k id) (map_of.get b id) None)
-  unfolding alone
   alone_found id r k =
       find-where (λ i. is_same id i) es r k
       ∙ (λ i. cond (is_same-comm id k i) (stands.found r k i) None)
@@ -241,21 +227,16 @@ module _ (s : Stamp) (b : Board) (es : Entries) (stands : Stands b es) (low : Al
       by true = refl
       by false = refl
 
-  -- and is what the drawing has of that id
-  alone_drawn : (id : Stamp) → without_ranks (alone id) ≡ filter (has_id id) (without_ranks es)
-  unfolding alone
-  alone_drawn id = drawn-where (λ i. is_same id i) es
-
   -- an absent id has nothing
   alone_none : (id : Stamp) → map_of.get b id ≡ None → alone id ≡ []
   alone_none id e =
-      same_levels (alone id) [] (alone_sorted id) tt
+      same_levels (alone id) [] (is_sorted-where_key level_cmp (λ l. is_same id l.id) es stands.sorted) tt
       (λ l. alone_found id l.rank l.id ∙ ap (λ x. at_rank l.rank (cond (is_same l.id id) x None)) e ∙ ap (at_rank l.rank) (cond_same (is_same l.id id) None))
 
   -- an id that is there has its object, once
   alone_one : (id : Stamp) (o : Object) → map_of.get b id ≡ Some o → alone id ≡ (level o.rank id, body o) ∷ []
   alone_one id o e =
-      same_levels (alone id) ((level o.rank id, body o) ∷ []) (alone_sorted id) tt
+      same_levels (alone id) ((level o.rank id, body o) ∷ []) (is_sorted-where_key level_cmp (λ l. is_same id l.id) es stands.sorted) tt
       (λ l. alone_found id l.rank l.id
       ∙ ap (λ x. at_rank l.rank (cond (is_same l.id id) x None)) e
       ∙ sym (level_step (is_same_rank l.rank o.rank) (is_same l.id id) o l.rank None refl (λ t. refl))
@@ -281,7 +262,7 @@ module _ (s : Stamp) (b : Board) (es : Entries) (stands : Stands b es) (low : Al
           found = λ r k.
               rest_found id r k ∙ ap (at_rank r) (raised id k None e ∙ sym (get-board_with s (Sets id (ToRank (top s))) b k));
         };
-        drawn = rest_drawn id ∙ sym (append-nil (without id (without_ranks es))) ∙ ap (λ d. without id (without_ranks es) ++ d) (sym (ap without_ranks (alone_none id e)) ∙ alone_drawn id);
+        drawn = drawn-where (λ i. not (is_same id i)) es ∙ sym (append-nil (without id (without_ranks es))) ∙ ap (λ d. without id (without_ranks es) ++ d) (sym (ap without_ranks (alone_none id e)) ∙ drawn-where (is_same id) es);
         later = λ t l. AllEarlier-more s t (rest id) l (rest_low id);
       }
   raise_by id (Some o) e =
@@ -296,8 +277,8 @@ module _ (s : Stamp) (b : Board) (es : Entries) (stands : Stands b es) (low : Al
               ∙ ap (at_rank r) (cond_over (is_same k id) _ None (map_of.get b k) ∙ raised id k (Some o) e ∙ sym (get-board_with s (Sets id (ToRank (top s))) b k));
         };
         drawn =
-            drawn-append (rest id) ((level (top s) id, body o) ∷ [])
-            ∙ (λ i. rest_drawn id i ++ (sym (ap without_ranks (alone_one id o e)) ∙ alone_drawn id) i);
+            map-append _ (rest id) ((level (top s) id, body o) ∷ [])
+            ∙ (λ i. drawn-where (λ k. not (is_same id k)) es i ++ (sym (ap without_ranks (alone_one id o e)) ∙ drawn-where (is_same id) es) i);
         later = λ t l.
             Every-append _ (rest id) _ (AllEarlier-more s t (rest id) l (rest_low id)) ((l, is_before-trans id s t (present_before s b es stands low id o e).1 l), tt);
       }
