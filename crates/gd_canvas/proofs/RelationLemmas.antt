@@ -1,6 +1,7 @@
 -- Touches of an operation as a first one and the links of members, and what each form covers.
 use Rattle.std.proofs.Common.{◌≡◌, not, Bool, true, false, ◌&&◌, List, [], ◌∷◌, map, refl, sym, ap, ◌∙◌}
 use Rattle.std.specs.List.{list_all}
+use Rattle.std.proofs.lemmas.List.Folds.{list_all-map}
 use Rattle.gd_base.specs.Stamps.{Stamp}
 use Rattle.gd_events.specs.declared.op.Op.{Op}
 use Rattle.gd_events.specs.declared.op.Op.TheVariants.{Group}
@@ -10,10 +11,6 @@ use Rattle.gd_model.specs.Forms.{form}
 use Rattle.gd_model.specs.Relations.{Touch, link_touch, meets, misses, touches, independent, covers_by}
 use Rattle.gd_canvas.specs.Aims.{aim_of, touch_of, members_of, aim_covers}
 
-all-mapped : {A B : Type 0} (p : B → Bool) (f : A → B) (xs : List A) → list_all (λ x. p (f x)) xs ≡ list_all p (map f xs)
-all-mapped p f [] = refl
-all-mapped p f (x ∷ xs) = ap (λ b. p (f x) && b) (all-mapped p f xs)
-
 -- an operation touches its first touch and the links of its members
 touches-parts : (stamp : Stamp) (op : Op) → touches stamp op ≡ touch_of stamp op ∷ map link_touch (members_of op)
 touches-parts stamp (Group members) = refl
@@ -21,7 +18,7 @@ touches-parts stamp op = refl
 
 -- a test of each touch is one of the first, and of each member's link
 all-touches : (p : Touch → Bool) (stamp : Stamp) (op : Op) → list_all p (touches stamp op) ≡ (p (touch_of stamp op) && list_all (λ m. p (link_touch m)) (members_of op))
-all-touches p stamp op = ap (list_all p) (touches-parts stamp op) ∙ ap (λ b. p (touch_of stamp op) && b) (sym (all-mapped p link_touch (members_of op)))
+all-touches p stamp op = ap (list_all p) (touches-parts stamp op) ∙ ap (λ b. p (touch_of stamp op) && b) (list_all-map p link_touch (members_of op))
 
 -- where the first touch passes, the links decide
 pub links_decide : (p : Touch → Bool) (stamp : Stamp) (op : Op) (first : Touch) (links : Bool) → first ≡ touch_of stamp op → p first ≡ true
