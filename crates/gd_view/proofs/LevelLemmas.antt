@@ -1,7 +1,7 @@
 -- The levels gathered from the slots are those of the stack.
 use Rattle.std.proofs.Common.{◌≡◌, ℕ, zero, suc, ◌<◌, Bool, true, false, cond, ◌&&◌, List, [], ◌∷◌, ◌++◌, map, length, drop, Option, None, Some, refl, sym, ap, ◌∙◌, subst, T, arith, Ordering}
 use Rattle.std.specs.Prelude.{option_map, option_to_list}
-use Rattle.std.specs.Ordering.{is_eq, is_lt, eq_by_cmp, match_ordering}
+use Rattle.std.specs.Ordering.{eq_by_cmp, match_ordering}
 use Rattle.std.specs.declared.cmp.Ordering.TheVariants.{Less, Equal, Greater}
 use Rattle.std.specs.List.{IsDistinct, AllByRecursion, filter_map, cons_option}
 use Rattle.std.specs.FinMap as map_of
@@ -15,15 +15,16 @@ use Rattle.gd_model.specs.declared.object.Object.{Object}
 use Rattle.gd_model.specs.declared.object.Body.{Body}
 use Rattle.gd_model.specs.Objects.{body}
 use Rattle.gd_model.specs.Board.{Board, stack}
-use Rattle.gd_drawing.proofs.Stacking.{level_cmp-total, level_cmp-IsAntisymmetric, level_test, at_rank, get-stack, t_first, t_second}
+use Rattle.gd_drawing.proofs.Stacking.{level_cmp-total, level_cmp-IsAntisymmetric, level_test, at_rank, level_step, not_found, get-stack, t_first, t_second}
 use Rattle.gd_canvas.specs.Slots.{Slots, board_of, ids, object_of, object_at}
 use Rattle.gd_canvas.proofs.SlotLemmas.{get-step, get-none}
 use Rattle.gd_model.specs.Board.{without_ranks, listed}
 use Rattle.gd_model.specs.Drawing.{Drawing}
 use Rattle.gd_model.specs.Shown.{shown, shown_items}
 use Rattle.gd_base.specs.declared.item.Item.{Item}
-use Rattle.gd_view.proofs.WalkLemmas.{no_length}
-use Rattle.std.proofs.lemmas.List.{append-nil, append_assoc}
+use Rattle.gd_drawing.proofs.Entries.{level_from_eq}
+use Rattle.gd_drawing.proofs.Listed.{some_ranked}
+use Rattle.std.proofs.lemmas.List.{append-nil, append_assoc, nil_from_length}
 use Rattle.gd_model.specs.declared.rank.Rank.{Rank}
 use Rattle.gd_model.specs.declared.rank.Level.{Level}
 use Rattle.gd_model.specs.Ranks.{level, level_cmp, is_same_rank}
@@ -62,13 +63,7 @@ found_step r k id None x rest is apart es h = h ∙ is ∙ gone (is_same k id) a
 found_step r k id (Some o) x rest is apart es h =
     ap (λ t. cond t (Some (body o)) (map_of.find level_cmp (level r k) es)) (level_test r k o.rank id)
     ∙ ap (cond (is_same_rank r o.rank && is_same k id) (Some (body o))) (h ∙ is)
-    ∙ both (is_same_rank r o.rank) (is_same k id) refl apart
-  where
-    both : (a b : Bool) → is_same_rank r o.rank ≡ a → (b ≡ true → x ≡ None) → cond (a && b) (Some (body o)) (at_rank r x) ≡ at_rank r (cond b (Some o) x)
-    both true true e h = sym (ap (λ t. cond t (Some (body o)) None) e)
-    both true false e h = refl
-    both false true e h = ap (at_rank r) (h refl) ∙ sym (ap (λ t. cond t (Some (body o)) None) e)
-    both false false e h = refl
+    ∙ level_step (is_same_rank r o.rank) (is_same k id) o r x refl apart
 
 -- a level finds the object of its id and rank
 find-slots : (es : Slots) → IsDistinct is_same (ids es) → (r : Rank) (k : Stamp) → map_of.find level_cmp (level r k) (slot_levels es) ≡ at_rank r (map_of.get (board_of es) k)
@@ -119,7 +114,7 @@ gathered (e ∷ es) (suc k) ls more below h is = gathered es k ls more (omega ar
 
 -- no slot, no level
 no_keys : level_keys [] ≡ []
-no_keys = ap (map (λ e. e.0)) (no_length (map_of.entries (map_of.empty {X = Body} {R = level_cmp})) (sym (map_of.len-entries (map_of.empty {X = Body} {R = level_cmp})) ∙ map_of.len-empty level_cmp Body))
+no_keys = ap (map (λ e. e.0)) (nil_from_length (map_of.entries (map_of.empty {X = Body} {R = level_cmp})) (sym (map_of.len-entries (map_of.empty {X = Body} {R = level_cmp})) ∙ map_of.len-empty level_cmp Body))
 
 -- behind the last slot there is none
 pub gathered_none : (es : Slots) (n : ℕ) (ls : List Level) → n ≡ length es → ls ≡ [] → ls ≡ level_keys (slot_levels (drop n es))
@@ -132,26 +127,6 @@ gathered_all es ls d h = h ∙ ap map_of.keys (stack-slots es d)
 
 -- ---- the items, by level
 
--- less is not equal
-apart_from : (r : Ordering) → T (is_lt r) → is_eq r ≡ false
-apart_from Less h = refl
-apart_from Equal h = absurd h
-apart_from Greater h = absurd h
-
--- a level before all of a list is not in it
-not_below : (q : Level) (es : List (Level × Body)) → T (below_all level_cmp q es) → map_of.find level_cmp q es ≡ None
-not_below q [] h = refl
-not_below q (e ∷ es) h = ap (λ t. cond t (Some e.1) (map_of.find level_cmp q es)) (apart_from (level_cmp q e.0) (t_first _ _ h)) ∙ not_below q es (t_second _ _ h)
-
--- the test tells levels apart
-same_level : (p q : Level) → eq_by_cmp level_cmp p q ≡ true → p ≡ q
-same_level p q e = level_cmp-IsAntisymmetric p q (equal (level_cmp p q) e)
-  where
-    equal : (r : Ordering) → is_eq r ≡ true → r ≡ Equal
-    equal Less e = cc
-    equal Equal e = refl
-    equal Greater e = cc
-
 -- a level is itself
 at_itself : (q : Level) → eq_by_cmp level_cmp q q ≡ true
 at_itself q = level_test q.rank q.id q.rank q.id ∙ (λ i. is_same_rank-refl q.rank i && is_same-refl q.id i)
@@ -161,7 +136,7 @@ found_later : (q : Level) (v : Body) (e : Level × Body) (es : List (Level × Bo
     → map_of.find level_cmp q (e ∷ es) ≡ Some v
 found_later q v e es h f =
     elim (eq_by_cmp level_cmp q e.0) as (λ t. eq_by_cmp level_cmp q e.0 ≡ t → cond t (Some e.1) (map_of.find level_cmp q es) ≡ Some v) [
-      | true ↦ λ is. let none : map_of.find level_cmp q es ≡ None = not_below q es (subst (λ p. T (below_all level_cmp p es)) (sym (same_level q e.0 is)) h) in cc
+      | true ↦ λ is. let none : map_of.find level_cmp q es ≡ None = not_found level_cmp q es (subst (λ p. T (below_all level_cmp p es)) (sym (level_from_eq q e.0 is)) h) in cc
       | false ↦ λ is. f
     ] refl
 
@@ -175,20 +150,11 @@ items_in b d (e ∷ es) h f =
     let rest = items_in b d es (t_second _ _ h) (λ q v g. f q v (found_later q v e es (t_first _ _ h) g)) in
     ap (λ y. cons_option (item_of d e.0.id y) (filter_map (shown d) (without_ranks es))) (sym here) ∙ ap (cons_option (item_of d e.0.id (option_map body (map_of.get b e.0.id)))) rest
 
--- what a level finds is the object of its id
-ranked_body : (r : Rank) (v : Body) (x : Option Object) → at_rank r x ≡ Some v → option_map body x ≡ Some v
-ranked_body r v None h = cc
-ranked_body r v (Some o) h =
-    elim (is_same_rank r o.rank) as (λ t. cond t (Some (body o)) None ≡ Some v → Some (body o) ≡ Some v) [
-      | true ↦ λ g. g
-      | false ↦ λ g. cc
-    ] h
-
 -- the shown objects in list order, by the levels
 pub shown_by_levels : (b : Board) → filter_map (item_at_level b) (map_of.keys (stack b)) ≡ shown_items (listed b)
 shown_by_levels b =
     sym (items_in b (listed b) (map_of.entries (stack b)) (map_of.entries_sorted (stack b))
-    (λ q v f. ranked_body q.rank v (map_of.get b q.id) (sym (get-stack b q.rank q.id) ∙ map_of.get-entries (stack b) q ∙ f)))
+    (λ q v f. sym (some_ranked q.rank v (map_of.get b q.id) (sym f ∙ sym (map_of.get-entries (stack b) q) ∙ get-stack b q.rank q.id))))
 
 -- an item in front, where there is one
 option_first : (x : Option Item) (xs : List Item) → cons_option x xs ≡ option_to_list x ++ xs

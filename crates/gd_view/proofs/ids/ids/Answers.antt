@@ -14,8 +14,3 @@ loop-place-preserved c =
     ids_gathered c.args.canvas.now (c.loop-place.place - 1) c.loop-place.ids.keys c.add.new.ids.keys c.slots-place.ensures.distinct (omega (arith, c.loop-place-test.true, c.loop-place.auto.place, c.slots-place.ensures.count))
     (c.loop-place.invariant ∙ ap (λ n. map_of.keys (board_of (drop n c.args.canvas.now))) next)
     (c.in_ok-add.ensures ∙ ap (λ l. with_id l c.loop-place.ids.keys) c.id_at.ensures)
-
-pub returns : goal.returns
-returns c =
-    let none : c.loop-place.place ≡ 0 = omega (arith, c.loop-place-test.false) in
-    c.loop-place.invariant ∙ ap (λ n. map_of.keys (board_of (drop n c.args.canvas.now))) none
