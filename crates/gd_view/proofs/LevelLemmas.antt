@@ -164,18 +164,3 @@ option_first (Some i) xs = refl
 -- before the first level
 pub listed_first : (b : Board) (ls : List Level) (items : List Item) → ls ≡ map_of.keys (stack b) → items ≡ [] → items ++ filter_map (item_at_level b) ls ≡ shown_items (listed b)
 listed_first b ls items h none = (λ i. none i ++ filter_map (item_at_level b) (h i)) ∙ shown_by_levels b
-
--- one level
-pub listed_next : (b : Board) (ls rest : List Level) (l : Level) (items more : List Item) (x : Option Item) → items ++ filter_map (item_at_level b) ls ≡ shown_items (listed b)
-    → ls ≡ l ∷ rest → x ≡ item_of (listed b) l.id (option_map body (map_of.get b l.id)) → more ≡ items ++ option_to_list x
-    → more ++ filter_map (item_at_level b) rest ≡ shown_items (listed b)
-listed_next b ls rest l items more x h e is pushed =
-    ap (λ xs. xs ++ filter_map (item_at_level b) rest) pushed
-    ∙ append_assoc items (option_to_list x) (filter_map (item_at_level b) rest)
-    ∙ ap (λ xs. items ++ xs) (sym (option_first x (filter_map (item_at_level b) rest)) ∙ ap (λ y. cons_option y (filter_map (item_at_level b) rest)) is)
-    ∙ ap (λ ks. items ++ filter_map (item_at_level b) ks) (sym e)
-    ∙ h
-
--- after the last level
-pub listed_last : (b : Board) (ls : List Level) (items : List Item) → items ++ filter_map (item_at_level b) ls ≡ shown_items (listed b) → ls ≡ [] → items ≡ shown_items (listed b)
-listed_last b ls items h e = sym (append-nil items) ∙ ap (λ ks. items ++ filter_map (item_at_level b) ks) (sym e) ∙ h
