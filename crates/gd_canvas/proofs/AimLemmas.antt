@@ -7,10 +7,14 @@ use Rattle.gd_base.specs.declared.member.Member.{Member}
 use Rattle.gd_events.specs.declared.op.Op.{Op}
 use Rattle.gd_events.specs.declared.op.Op.TheVariants.{Group}
 use Rattle.gd_model.specs.declared.before.Before.{Before}
-use Rattle.gd_model.specs.declared.before.Before.TheVariants.{Made, Gone, Grouped}
+use Rattle.gd_model.specs.declared.before.Before.TheVariants.{Nothing, Made, Gone, Grouped}
+use Rattle.gd_model.specs.declared.form.Form.{Form}
+use Rattle.gd_model.specs.declared.form.Form.TheVariants as form_of
 use Rattle.gd_model.specs.Forms.{form}
 use Rattle.gd_model.specs.Board.{Board}
 use Rattle.gd_model.specs.Undoing.{content_of, set_back, set_links, undone_by}
+use Rattle.gd_model.specs.Objects.{ranked}
+use Rattle.gd_model.specs.Splices.{splice_set, splice_deleted, splice_twice, splice_made, splice_by}
 use Rattle.gd_canvas.specs.Aims.{aim_of, members_of}
 use Rattle.gd_canvas.specs.declared.forms.Aim.{Aim}
 use Rattle.gd_canvas.specs.declared.forms.Aim.TheVariants.{Sets, Creates, Deletes, Groups}
@@ -27,3 +31,22 @@ undone_aim a members v b = b
 pub undone_aims : (stamp : Stamp) (op : Op) (v : Before) (b : Board) → undone_by stamp (form stamp op) v b ≡ undone_aim (aim_of stamp (form stamp op)) (members_of op) v b
 undone_aims stamp (Group members) (Grouped links) b = refl
 undone_aims stamp op v b = refl
+
+-- the before-values of an event of that form at the stamp s and of one of that aim, which covers it and had v without it
+abbrev pub splice_aim : Stamp → Form → Aim → Before → Before × Before
+splice_aim s (form_of.Sets id c) (Sets i p) v = splice_set c v
+splice_aim s (form_of.Sets id c) (Deletes i) v = splice_deleted c v
+splice_aim s (form_of.Deletes id) (Deletes i) v = splice_twice v
+splice_aim s (form_of.Creates new) (Deletes i) v = splice_made (ranked new s) v
+splice_aim s e a v = (Nothing, Nothing)
+
+-- the splice goes by the aim of the event that covers the other one
+pub splice_aims : (s : Stamp) (e : Op) (t : Stamp) (f : Op) (v : Before) → splice_by s (form s e) (form t f) v ≡ splice_aim s (form s e) (aim_of t (form t f)) v
+splice_aims s e t f v = by (form s e) (form t f)
+  where
+    by : (e f : Form) → splice_by s e f v ≡ splice_aim s e (aim_of t f) v
+    by (form_of.Sets id c) (form_of.Sets i d) = refl
+    by (form_of.Sets id c) (form_of.Deletes i) = refl
+    by (form_of.Deletes id) (form_of.Deletes i) = refl
+    by (form_of.Creates new) (form_of.Deletes i) = refl
+    by e f = refl
