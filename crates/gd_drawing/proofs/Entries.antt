@@ -7,7 +7,7 @@ use Rattle.std.specs.FinMap.Entries.{below_all, find-where_key, where_key}
 use Rattle.std.specs.Ordering.{is_lt, eq_by_cmp}
 use Rattle.std.specs.Cmp.{Equal-is}
 use Rattle.std.proofs.lemmas.Bool.{false≢true}
-use Rattle.gd_base.specs.Stamps.{Stamp, is_same, is_before}
+use Rattle.gd_base.specs.Stamps.{Stamp, is_before}
 use Rattle.gd_base.proofs.Lists.{Every-weaker}
 use Rattle.gd_base.proofs.StampLemmas.{is_same-comm, is_before-apart, is_before-trans}
 use Rattle.gd_drawing.proofs.Chains.{not_itself}

@@ -1,7 +1,6 @@
 -- One event on the stack: in the middle, at the end, or gone.
-use Rattle.std.proofs.Common.{◌≡◌, Bool, true, false, cond, not, ◌&&◌, [], ◌∷◌, ◌++◌, List, map, Option, None, Some, refl, sym, ap, ◌∙◌, subst, T}
+use Rattle.std.proofs.Common.{◌≡◌, Bool, true, false, cond, not, [], ◌∷◌, ◌++◌, List, map, Option, None, Some, refl, sym, ap, ◌∙◌, subst, T}
 use Rattle.std.specs.Prelude.{is_some, option_map, unwrap_or}
-use Rattle.std.specs.List.{filter}
 use Rattle.std.specs.FinMap as map_of
 use Rattle.std.specs.FinMap.Entries.{find-append, is_sorted-where_key, where_key}
 use Rattle.std.proofs.lemmas.List.{append-nil, map-append}
@@ -22,7 +21,7 @@ use Rattle.gd_drawing.proofs.Linking.{linked}
 use Rattle.gd_model.specs.declared.form.Form.{Form}
 use Rattle.gd_model.specs.declared.form.Form.TheVariants.{Sets, Creates, Deletes, Groups}
 use Rattle.gd_model.specs.Forms.{form}
-use Rattle.gd_model.specs.Drawing.{Drawing, has_id, link_given, at_id, without, to_top, draw}
+use Rattle.gd_model.specs.Drawing.{Drawing, link_given, at_id, without, to_top, draw}
 use Rattle.gd_model.specs.declared.rank.Rank.{Rank}
 use Rattle.gd_model.specs.declared.rank.Level.{Level}
 use Rattle.gd_model.specs.Ranks.{level, top, is_same_rank, level_cmp}

@@ -1,5 +1,5 @@
 -- A chain that is followed link by link.
-use Rattle.std.proofs.Common.{◌≡◌, ℕ, zero, suc, ◌≤◌, Bool, true, false, cond, Option, None, Some, refl, sym, ap, ◌∙◌, arith, pos, ◌+ℤ◌}
+use Rattle.std.proofs.Common.{◌≡◌, ℕ, zero, suc, Bool, true, false, cond, Option, None, Some, refl, sym, ap, ◌∙◌, arith, pos, ◌+ℤ◌}
 use Rattle.std.proofs.lemmas.Int.{ints}
 use Rattle.std.specs.Prelude.{option_map, is_some}
 use Rattle.std.specs.FinMap as map_of

@@ -2,7 +2,7 @@
 use Rattle.std.proofs.Common.{◌≡◌, ℕ, zero, suc, ◌+◌, ◌<◌, ◌≤◌, Bool, true, false, cond, List, [], ◌∷◌, ◌++◌, length, drop, Option, None, Some, refl, sym, ap, ◌∙◌, subst, arith, add-one, drop-drop}
 use Rattle.std.specs.Prelude.{is_none, option_to_list, reverse}
 use Rattle.std.specs.List.{AllByRecursion as Every, filter, flat_map}
-use Rattle.std.proofs.lemmas.List.{append-nil, append_assoc, reverse-append, reverse-reverse, length-drop}
+use Rattle.std.proofs.lemmas.List.{append-nil, append_assoc, reverse-append, length-drop}
 use Rattle.std.proofs.Math.ListN.{get_or}
 use Rattle.std.proofs.Math.Seq.{drop-cons, drop-length}
 use Rattle.gd_base.specs.Stamps.{is_same}

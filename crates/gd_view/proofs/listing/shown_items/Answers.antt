@@ -1,6 +1,4 @@
-use Rattle.std.proofs.Common.{◌≡◌, length, rules}
 use Rattle.gd_canvas.specs.Slots.{board_of}
-use Rattle.std.proofs.lemmas.List.{nil_from_length}
 use Rattle.gd_view.proofs.LevelLemmas.{listed_first}
 use Rattle.gd_view.proofs.listing.shown_items.Goals as goal
 
