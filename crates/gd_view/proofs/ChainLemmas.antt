@@ -28,10 +28,6 @@ joined s x = option_map (joined_by s) x
 abbrev pub after_link : Above → Link → Body → Above
 after_link s l g = with_link s (first_parent s.parent (parent_by l g)) l g
 
--- the group of a link to a greater id
-pub group_found : (b : Board) (below : Stamp) (l : Link) (x : Option Object) → is_before below l.parent ≡ true → x ≡ map_of.get b l.parent → option_map body x ≡ group_in (listed b) below l
-group_found b below l x is e = ap (option_map body) e ∙ sym (find-listed b l.parent) ∙ ap (λ t. cond t (map_of.find stamp_cmp l.parent (listed b)) None) (sym is)
-
 -- the part of a chain that is known and the rest of it, along at most n links, make the whole
 pub record Followed (n : ℕ) (d : Drawing) (id : Stamp) (start : Option Link) (left : ℕ) (sum : Above) (below : Stamp) (next : Option Link) : Type 0 where
   pub whole : joined sum (above_in left d below next) ≡ above_in n d id start

@@ -155,7 +155,3 @@ pub shown_by_levels : (b : Board) → filter_map (item_at_level b) (map_of.keys 
 shown_by_levels b =
     sym (items_in b (listed b) (map_of.entries (stack b)) (map_of.entries_sorted (stack b))
     (λ q v f. sym (some_ranked q.rank v (map_of.get b q.id) (sym f ∙ sym (map_of.get-entries (stack b) q) ∙ get-stack b q.rank q.id))))
-
--- before the first level
-pub listed_first : (b : Board) (ls : List Level) (items : List Item) → ls ≡ map_of.keys (stack b) → items ≡ [] → items ++ filter_map (item_at_level b) ls ≡ shown_items (listed b)
-listed_first b ls items h none = (λ i. none i ++ filter_map (item_at_level b) (h i)) ∙ shown_by_levels b

@@ -129,16 +129,12 @@ pub record Summed (b : Board) (ks : List Stamp) (k : Known) (turn : ℕ) : Type 
   pub count : turn ≡ length done
   pub sums : Sums (listed b) done k
 
--- what stands above an object of the board, by what the board returns
-pub at_found : (b : Board) (id : Stamp) (x : Option Object) → x ≡ map_of.get b id → above_of (listed b) id (option_map body x) ≡ above_at (listed b) id
-at_found b id x e = ap (λ y. above_of (listed b) id (option_map body y)) e ∙ ap (above_of (listed b) id) (sym (find-listed b id))
-
 -- an id that is no key has nothing
 no_key : (b : Board) (q : Stamp) → is_member q (map_of.keys b) ≡ false → None ≡ above_at (listed b) q
 no_key b q h = by (map_of.get b q) refl (map_of.contains_key-keys b q ∙ h)
   where
     by : (x : Option Object) → x ≡ map_of.get b q → is_some x ≡ false → None ≡ above_at (listed b) q
-    by None e h = at_found b q None e
+    by None e h = ap (λ y. above_of (listed b) q (option_map body y)) e ∙ ap (above_of (listed b) q) (sym (find-listed b q))
     by (Some o) e h = cc
 
 -- what is kept for the keys alone is what is kept for all
