@@ -117,13 +117,13 @@ no_keys : level_keys [] ≡ []
 no_keys = ap (map (λ e. e.0)) (nil_from_length (map_of.entries (map_of.empty {X = Body} {R = level_cmp})) (sym (map_of.len-entries (map_of.empty {X = Body} {R = level_cmp})) ∙ map_of.len-empty level_cmp Body))
 
 -- behind the last slot there is none
-pub gathered_none : (es : Slots) (n : ℕ) (ls : List Level) → n ≡ length es → ls ≡ [] → ls ≡ level_keys (slot_levels (drop n es))
+pub gathered_none : (es : Slots) (n : ℕ) → n ≡ length es → level_keys (slot_levels (drop n es)) ≡ []
 unfolding slot_levels
-gathered_none es n ls e is = is ∙ sym no_keys ∙ sym (ap (λ l. level_keys (slot_levels l)) (ap (λ m. drop m es) e ∙ drop-length es))
+gathered_none es n e = ap (λ l. level_keys (slot_levels l)) (ap (λ m. drop m es) e ∙ drop-length es) ∙ no_keys
 
 -- once all slots are gathered, they are the stack
-pub gathered_all : (es : Slots) (ls : List Level) → IsDistinct is_same (ids es) → ls ≡ level_keys (slot_levels es) → ls ≡ map_of.keys (stack (board_of es))
-gathered_all es ls d h = h ∙ ap map_of.keys (stack-slots es d)
+pub gathered_all : (es : Slots) → IsDistinct is_same (ids es) → level_keys (slot_levels es) ≡ map_of.keys (stack (board_of es))
+gathered_all es d = ap map_of.keys (stack-slots es d)
 
 -- ---- the items, by level
 

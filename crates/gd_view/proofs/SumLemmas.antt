@@ -85,8 +85,8 @@ unfolding board_of
 no_ids = ap (map (λ e. e.0)) (nil_from_length (map_of.entries (map_of.empty {X = Object} {R = stamp_cmp})) (sym (map_of.len-entries (map_of.empty {X = Object} {R = stamp_cmp})) ∙ map_of.len-empty stamp_cmp Object))
 
 -- behind the last slot there is none
-pub ids_none : (es : Slots) (n : ℕ) (ks : List Stamp) → n ≡ length es → ks ≡ [] → ks ≡ map_of.keys (board_of (drop n es))
-ids_none es n ks e is = is ∙ sym no_ids ∙ sym (ap (λ l. map_of.keys (board_of l)) (ap (λ m. drop m es) e ∙ drop-length es))
+pub ids_none : (es : Slots) (n : ℕ) → n ≡ length es → map_of.keys (board_of (drop n es)) ≡ []
+ids_none es n e = ap (λ l. map_of.keys (board_of l)) (ap (λ m. drop m es) e ∙ drop-length es) ∙ no_ids
 
 -- ---- the loop
 

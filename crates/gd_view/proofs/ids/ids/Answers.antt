@@ -2,11 +2,8 @@ use Rattle.std.proofs.Common.{◌≡◌, ◌-◌, suc, drop, ap, ◌∙◌, arit
 use Rattle.std.specs.FinMap as map_of
 use Rattle.gd_canvas.specs.Slots.{board_of}
 use Rattle.gd_view.specs.Sums.{with_id}
-use Rattle.gd_view.proofs.SumLemmas.{ids_gathered, ids_none}
+use Rattle.gd_view.proofs.SumLemmas.{ids_gathered}
 use Rattle.gd_view.proofs.ids.ids.Goals as goal
-
-pub loop-place-init : goal.loop-place-init
-loop-place-init c = ids_none c.args.canvas.now c.slots-place.result c.new-ids.result.keys c.slots-place.ensures.count c.new-ids.ensures.empty
 
 pub loop-place-preserved : goal.loop-place-preserved
 loop-place-preserved c =

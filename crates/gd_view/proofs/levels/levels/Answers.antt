@@ -1,10 +1,7 @@
 use Rattle.std.proofs.Common.{◌≡◌, ◌-◌, suc, drop, ap, ◌∙◌, arith}
 use Rattle.gd_view.specs.Levels.{with_level}
-use Rattle.gd_view.proofs.LevelLemmas.{slot_levels, level_keys, gathered, gathered_none, gathered_all}
+use Rattle.gd_view.proofs.LevelLemmas.{slot_levels, level_keys, gathered}
 use Rattle.gd_view.proofs.levels.levels.Goals as goal
-
-pub loop-place-init : goal.loop-place-init
-loop-place-init c = gathered_none c.args.canvas.now c.slots-place.result c.new-levels.result.keys c.slots-place.ensures.count c.new-levels.ensures.empty
 
 pub loop-place-preserved : goal.loop-place-preserved
 loop-place-preserved c =
@@ -12,8 +9,3 @@ loop-place-preserved c =
     gathered c.args.canvas.now (c.loop-place.place - 1) c.loop-place.levels.keys c.add.new.levels.keys (omega (arith, c.loop-place-test.true, c.loop-place.auto.place, c.slots-place.ensures.count))
     (c.loop-place.invariant ∙ ap (λ n. level_keys (slot_levels (drop n c.args.canvas.now))) next)
     (c.in_ok-add.ensures ∙ ap (λ l. with_level l c.loop-place.levels.keys) c.level_at.ensures)
-
-pub returns : goal.returns
-returns c =
-    let none : c.loop-place.place ≡ 0 = omega (arith, c.loop-place-test.false) in
-    gathered_all c.args.canvas.now c.loop-place.levels.keys c.slots-place.ensures.distinct (c.loop-place.invariant ∙ ap (λ n. level_keys (slot_levels (drop n c.args.canvas.now))) none)
