@@ -69,22 +69,26 @@ rank-where : (c : Content) (o : Object) (b : Bool) → keeps_rank c ≡ true →
 rank-where c o true e = rank-put c o e
 rank-where c o false e = refl
 
+-- what is found at a rank after an object was changed as its body is, and kept its rank
+at_rank-changed : (f : Object → Object) (g : Body → Body) (rank : Rank) (x : Option Object) → ((o : Object) → g (body o) ≡ body (f o)) → ((o : Object) → o.rank ≡ (f o).rank)
+    → option_map g (at_rank rank x) ≡ at_rank rank (option_map f x)
+at_rank-changed f g rank None h k = refl
+at_rank-changed f g rank (Some o) h k = inside (is_same_rank rank o.rank) ∙ (λ i. cond (is_same_rank rank (k o i)) (Some (h o i)) None)
+  where
+    inside : (t : Bool) → option_map g (cond t (Some (body o)) None) ≡ cond t (Some (g (body o))) None
+    inside true = refl
+    inside false = refl
+
 -- what is found at a rank after a content went into the object of that id
 set_cell : (c : Content) (rank : Rank) (same : Bool) (x : Option Object) → keeps_rank c ≡ true
     → option_map (λ y. cond same (set_body c y) y) (at_rank rank x) ≡ at_rank rank (cond same (option_map (set c) x) x)
 set_cell c rank false x e = same_body (at_rank rank x)
-set_cell c rank true None e = refl
-set_cell c rank true (Some o) e =
-    elim (is_same_rank rank o.rank) as (λ t. option_map (set_body c) (cond t (Some (body o)) None) ≡ cond t (Some (set_body c (body o))) None) [ true ↦ refl | false ↦ refl ]
-    ∙ (λ i. cond (is_same_rank rank (sym (rank-where c o (fits c o.kind) e) i)) (Some (sym (body-where c o (fits c o.kind)) i)) None)
+set_cell c rank true x e = at_rank-changed (set c) (set_body c) rank x (λ o. sym (body-where c o (fits c o.kind))) (λ o. sym (rank-where c o (fits c o.kind) e))
 
 -- what is found at a rank after an object was linked
 linked_cell : (link : Option Link) (rank : Rank) (x : Option Object) → option_map (linked_body link) (at_rank rank x) ≡ at_rank rank (option_map (linked link) x)
-linked_cell link rank None = refl
-linked_cell None rank (Some o) =
-    elim (is_same_rank rank o.rank) as (λ t. option_map (linked_body None) (cond t (Some (body o)) None) ≡ cond t (Some (body o)) None) [ true ↦ refl | false ↦ refl ]
-linked_cell (Some link) rank (Some o) =
-    elim (is_same_rank rank o.rank) as (λ t. option_map (linked_body (Some link)) (cond t (Some (body o)) None) ≡ cond t (Some (linked_body (Some link) (body o))) None) [ true ↦ refl | false ↦ refl ]
+linked_cell None rank x = at_rank-changed (linked None) (linked_body None) rank x (λ o. refl) (λ o. refl)
+linked_cell (Some link) rank x = at_rank-changed (linked (Some link)) (linked_body (Some link)) rank x (λ o. refl) (λ o. refl)
 
 -- ---- the event at s, on a list that stands for a board and is before s
 module _ (s : Stamp) (b : Board) (es : Entries) (stands : Stands b es) (low : AllEarlier s es) where

@@ -24,7 +24,6 @@ use Rattle.gd_model.specs.Board.{Board, listed}
 use Rattle.gd_model.specs.Shown.{above, above_by, through}
 use Rattle.gd_drawing.proofs.Chains.{above-link}
 use Rattle.gd_drawing.proofs.Stacking.{t_first, t_second, of_t}
-use Rattle.gd_drawing.proofs.Lookups.{put_at-kept}
 use Rattle.gd_canvas.specs.Slots.{Slots, board_of, ids, object_of, object_at}
 use Rattle.gd_model.specs.declared.above.Above.{Above}
 use Rattle.gd_view.specs.declared.known.Known.{Known}
@@ -33,7 +32,6 @@ use Rattle.gd_view.specs.Sums.{known, above_of, above_at, with_id, AreKnown}
 use Rattle.gd_drawing.proofs.Listed.{find-listed}
 use Rattle.std.proofs.lemmas.List.{append_assoc, length-append, length-map, nil_from_length}
 use Rattle.gd_view.proofs.ChainLemmas.{by_group}
-use Rattle.gd_view.proofs.LevelLemmas.{apart_none, put_key}
 use Rattle.gd_view.proofs.WalkLemmas.{put_found}
 
 -- ---- one object
@@ -61,32 +59,6 @@ put_sum j k id x h q =
     by : (t : Bool) → option_flatten (cond t (Some x) (index_map.get is_same j.sums q)) ≡ cond t x (known j q)
     by true = refl
     by false = refl
-
--- ---- the ids of the slots
-
--- one slot more
-ids_step : (e : Stamp × Option Object) (es : Slots) (ks : List Stamp) → Every (λ y. is_same e.0 y ≡ false) (ids es) → ks ≡ map_of.keys (board_of es)
-    → with_id (option_map (λ p. p.0) (object_of (Some e))) ks ≡ map_of.keys (board_of (e ∷ es))
-unfolding board_of
-ids_step (id, None) es ks d h = h ∙ ap map_of.keys (sym (put_at-kept (board_of es) id None (apart_none id es d)))
-ids_step (id, Some o) es ks d h = put_key stamp_cmp id o ks (map_of.entries (board_of es)) h ∙ ap (map (λ e. e.0)) (sym (map_of.entries-insert stamp_cmp-total (board_of es) id o))
-
--- the slot at the place k, put to those behind it
-pub ids_gathered : (es : Slots) (k : ℕ) (ks more : List Stamp) → IsDistinct is_same (ids es) → k < length es → ks ≡ map_of.keys (board_of (drop (suc k) es)) → more ≡ with_id (option_map (λ p. p.0) (object_at es k)) ks
-    → more ≡ map_of.keys (board_of (drop k es))
-unfolding IsDistinct
-ids_gathered [] k ks more d below h is = absurd (omega arith)
-ids_gathered (e ∷ es) zero ks more d below h is = is ∙ ids_step e es ks d.0 h
-ids_gathered (e ∷ es) (suc k) ks more d below h is = ids_gathered es k ks more d.1 (omega arith) h is
-
--- no slot, no id
-no_ids : map_of.keys (board_of []) ≡ []
-unfolding board_of
-no_ids = ap (map (λ e. e.0)) (nil_from_length (map_of.entries (map_of.empty {X = Object} {R = stamp_cmp})) (sym (map_of.len-entries (map_of.empty {X = Object} {R = stamp_cmp})) ∙ map_of.len-empty stamp_cmp Object))
-
--- behind the last slot there is none
-pub ids_none : (es : Slots) (n : ℕ) → n ≡ length es → map_of.keys (board_of (drop n es)) ≡ []
-ids_none es n e = ap (λ l. map_of.keys (board_of l)) (ap (λ m. drop m es) e ∙ drop-length es) ∙ no_ids
 
 -- ---- the loop
 

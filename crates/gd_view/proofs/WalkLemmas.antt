@@ -2,7 +2,7 @@
 use Rattle.std.proofs.Common.{◌≡◌, ℕ, zero, suc, ◌+◌, ◌<◌, ◌≤◌, Bool, true, false, cond, List, [], ◌∷◌, ◌++◌, length, drop, Option, None, Some, refl, sym, ap, ◌∙◌, subst, arith, add-one, drop-drop}
 use Rattle.std.specs.Prelude.{is_none, option_to_list, reverse}
 use Rattle.std.specs.List.{AllByRecursion as Every, filter, flat_map}
-use Rattle.std.proofs.lemmas.List.{append-nil, append_assoc, reverse-append, length-drop}
+use Rattle.std.proofs.lemmas.List.{append-nil, append_assoc, reverse-append, length-append, length-drop}
 use Rattle.std.proofs.Math.ListN.{get_or}
 use Rattle.std.proofs.Math.Seq.{drop-cons, drop-length}
 use Rattle.gd_base.specs.Stamps.{is_same}
@@ -225,7 +225,7 @@ walk_inside {all = all} {links = links} w rest k e =
     let same : length links ≡ length all = ap length w.next ∙ length-nexts 0 all in
     (here, omega arith)
 
--- one item is printed, and less is left
+-- one item is printed
 pub walk_goes_on : {all : List Item} {f : Firsts} {links : List (Option ℕ)} {out : List Item} {stack : List ℕ} → Walking all f links out stack
     → climbs all ≡ true
     → (rest : List ℕ) (k : ℕ) (d i : Item) (x later own : Option ℕ) (one two : List ℕ) (printed : List Item)
@@ -236,7 +236,7 @@ pub walk_goes_on : {all : List Item} {f : Firsts} {links : List (Option ℕ)} {o
     → one ≡ rest ++ option_to_list later
     → two ≡ one ++ option_to_list own
     → printed ≡ out ++ i ∷ []
-    → Walking all f links printed two × (length (pending all two) < length (pending all stack))
+    → Walking all f links printed two
 walk_goes_on {all = all} {f = f} {links = links} {out = out} {stack = stack} w c rest k d i x later own one two printed e is next child first second pushed =
     let inside = subst (within (length all)) e w.inside in
     let here : k < length all = (Every-back _ rest (k ∷ []) inside).0 in
@@ -247,19 +247,26 @@ walk_goes_on {all = all} {f = f} {links = links} {out = out} {stack = stack} w c
     let was : pending all stack ≡ i ∷ (branch_of all own ++ branch_of all later) ++ pending all rest =
     ap (pending all) e ∙ opened_some all rest k ∙ ap (λ bs. bs ++ pending all rest) (branch_step all c k d here ∙ sym (λ j. is j ∷ (branch_of all (below j) ++ branch_of all (behind j)))) in
     let now : pending all stack ≡ i ∷ pending all two = was ∙ ap (λ ps. i ∷ ps) (append_assoc (branch_of all own) (branch_of all later) (pending all rest) ∙ sym left) in
-    let fewer = ap length now in
     let last : within (length all) (option_to_list later) = subst (λ o. within (length all) (option_to_list o)) (sym behind) (first-within (length all) (suc k) _ (drop (suc k) all) (let n = length-drop (suc k) all in omega arith)) in
-    let mine : within (length all) (option_to_list own) = subst (λ o. within (length all) (option_to_list o)) (sym below) (first-within (length all) 0 _ all (omega arith)) in (
-      record {
-        first = w.first;
-        next = w.next;
-        whole = ap (λ ps. ps ++ pending all two) pushed ∙ append_assoc out (i ∷ []) (pending all two) ∙ ap (λ ps. out ++ ps) (sym now) ∙ w.whole;
-        inside =
-            subst (within (length all)) (sym second)
-            (Every-append _ one _ (subst (within (length all)) (sym first) (Every-append _ rest _ (Every-prefix _ rest (k ∷ []) inside) last)) mine);
-      },
-      omega (arith, fewer),
-    )
+    let mine : within (length all) (option_to_list own) = subst (λ o. within (length all) (option_to_list o)) (sym below) (first-within (length all) 0 _ all (omega arith)) in
+    record {
+      first = w.first;
+      next = w.next;
+      whole = ap (λ ps. ps ++ pending all two) pushed ∙ append_assoc out (i ∷ []) (pending all two) ∙ ap (λ ps. out ++ ps) (sym now) ∙ w.whole;
+      inside =
+          subst (within (length all)) (sym second)
+          (Every-append _ one _ (subst (within (length all)) (sym first) (Every-append _ rest _ (Every-prefix _ rest (k ∷ []) inside) last)) mine);
+    }
+
+-- so less is left
+pub walk_shrinks : {all : List Item} {f : Firsts} {links : List (Option ℕ)} {out printed : List Item} {stack two : List ℕ} → Walking all f links out stack → Walking all f links printed two
+    → (i : Item) → printed ≡ out ++ i ∷ [] → length (pending all two) < length (pending all stack)
+walk_shrinks {all = all} {out = out} {printed = printed} {stack = stack} {two = two} w v i pushed =
+    let before = length-append out (pending all stack) in
+    let behind = length-append printed (pending all two) in
+    let whole : length (out ++ pending all stack) ≡ length (printed ++ pending all two) = ap length (w.whole ∙ sym v.whole) in
+    let more : length printed ≡ length out + 1 = ap length pushed ∙ length-append out (i ∷ []) in
+    omega arith
 
 -- nothing is left on an empty stack
 pub walk_ends : {all : List Item} {f : Firsts} {links : List (Option ℕ)} {out : List Item} {stack : List ℕ} → Walking all f links out stack → stack ≡ [] → out ≡ in_printed_order all
