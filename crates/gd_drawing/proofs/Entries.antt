@@ -5,6 +5,7 @@ use Rattle.std.specs.List.{AllByRecursion as Every, filter}
 use Rattle.std.specs.FinMap as map_of
 use Rattle.std.specs.FinMap.Entries.{below_all, find-where_key, where_key}
 use Rattle.std.specs.Ordering.{is_lt, eq_by_cmp}
+use Rattle.std.specs.Bool.{passes}
 use Rattle.std.specs.Cmp.{Equal-is}
 use Rattle.std.proofs.lemmas.Bool.{false≢true}
 use Rattle.gd_base.specs.Stamps.{Stamp, is_before}
@@ -20,7 +21,7 @@ use Rattle.gd_model.specs.declared.rank.Level.{Level}
 use Rattle.gd_model.specs.Ranks.{level, top, given_at, level_cmp}
 use Rattle.gd_model.specs.Board.{Board, without_ranks}
 use Rattle.gd_drawing.proofs.RankLemmas.{is_same_rank-refl, below_top}
-use Rattle.gd_drawing.proofs.Stacking.{level_cmp-IsAntisymmetric, level_below, at_rank, t_first, t_second, t_both, t_of, Stands}
+use Rattle.gd_drawing.proofs.Stacking.{level_cmp-IsAntisymmetric, level_below, at_rank, t_first, t_second, t_both, Stands}
 
 abbrev pub Entries : Type 0
 Entries = List (Level × Body)
@@ -62,7 +63,7 @@ AllUnder l es = Every (λ e. is_lt (level_cmp e.0 l) ≡ true) es
 
 -- a level that is below all, and below the level of one more, is below all with that one
 below-append : (l m : Level) (v : Body) (es : Entries) → T (below_all level_cmp l es) → is_lt (level_cmp l m) ≡ true → T (below_all level_cmp l (es ++ (m, v) ∷ []))
-below-append l m v [] h k = t_both _ true (t_of _ k) tt
+below-append l m v [] h k = t_both _ true (passes _ k) tt
 below-append l m v (e ∷ es) h k = t_both _ _ (t_first _ _ h) (below-append l m v es (t_second _ _ h) k)
 
 -- a list by level stays so with one more at the end, at a greater level

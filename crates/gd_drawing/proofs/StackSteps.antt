@@ -123,11 +123,7 @@ module _ (s : Stamp) (b : Board) (es : Entries) (stands : Stands b es) (low : Al
   new_later : (v : Body) (fs : Entries) → AllEarlier s fs → (t : Stamp) → is_before s t ≡ true → AllEarlier t (fs ++ (level (top s) s, v) ∷ [])
   new_later v fs h t l = Every-append _ fs _ (AllEarlier-more s t fs l h) ((l, l), tt)
 
-  -- the event's stamp is new
-  not_present : is_some (map_of.get b s) ≡ false
-  not_present = ap is_some (absent s b es stands low)
-
-  -- so a new object is put in, and not kept
+  -- a new object is put in, and not kept
   get-new : (v : Body) (k : Stamp) → cond (is_same k s) (Some (ranked v s)) (map_of.get b k) ≡ cond (is_same k s) (Some (unwrap_or (map_of.get b k) (ranked v s))) (map_of.get b k)
   get-new v k =
       let made : Option Object → Option Object = λ x. Some (unwrap_or x (ranked v s)) in
@@ -172,7 +168,7 @@ module _ (s : Stamp) (b : Board) (es : Entries) (stands : Stands b es) (low : Al
               found-new new_group fs (linked_at k (map_of.get b k)) r k none
               (find-mapped f es (level r k) ∙ ap (option_map (f (level r k))) (stands.found r k) ∙ linked_cell (link_given s ms k) r (map_of.get b k))
               (id_none k (linked_at k) refl)
-              ∙ ap (at_rank r) (ap (λ t. cond t (map_of.get b k) (cond (is_same k s) (Some (ranked new_group s)) (linked_at k (map_of.get b k)))) (sym not_present) ∙ sym (get-board_with s (Groups ms) b k));
+              ∙ ap (at_rank r) (ap (λ t. cond t (map_of.get b k) (cond (is_same k s) (Some (ranked new_group s)) (linked_at k (map_of.get b k)))) (sym (ap is_some (absent s b es stands low))) ∙ sym (get-board_with s (Groups ms) b k));
         };
         drawn =
             map-append _ fs ((level (top s) s, new_group) ∷ [])

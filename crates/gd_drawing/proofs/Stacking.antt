@@ -71,11 +71,6 @@ pub t_both : (a b : Bool) → T a → T b → T (a && b)
 t_both true b h k = k
 t_both false b h k = h
 
--- a test whose answer is true holds
-pub t_of : (b : Bool) → b ≡ true → T b
-t_of true e = tt
-t_of false e = cc
-
 -- the answer to a test that holds is true
 pub of_t : (b : Bool) → T b → b ≡ true
 of_t true h = refl

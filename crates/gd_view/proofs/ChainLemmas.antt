@@ -101,12 +101,8 @@ in_front l g a =
     by true = refl
     by false = refl
 
--- no link is followed beyond the bound
-at_bound : (s : Above) (d : Drawing) (below : Stamp) (l : Link) → None ≡ joined s (above_in zero d below (Some l))
-at_bound s d below l = refl
-
 -- a link that is left where no more may be followed
 pub cut : {n : ℕ} {d : Drawing} {id : Stamp} {start : Option Link} {left : ℕ} {sum : Above} {below : Stamp} (next : Option Link) → Followed n d id start left sum below next
     → is_some next ≡ true → left ≡ 0 → None ≡ above_in n d id start
 cut None f e h = cc
-cut {d = d} {sum = sum} {below = below} (Some l) f e h = at_bound sum d below l ∙ ap (λ m. joined sum (above_in m d below (Some l))) (sym h) ∙ f.whole
+cut {d = d} {sum = sum} {below = below} (Some l) f e h = ap (λ m. joined sum (above_in m d below (Some l))) (sym h) ∙ f.whole
