@@ -1,5 +1,5 @@
 -- Touches of an operation as a first one and the links of members, and what each form covers.
-use Rattle.std.proofs.Common.{◌≡◌, not, Bool, true, false, ◌&&◌, ◌∷◌, map, refl, sym, ap, ◌∙◌}
+use Rattle.std.proofs.Common.{◌≡◌, not, Bool, ◌&&◌, ◌∷◌, map, refl, ap, ◌∙◌}
 use Rattle.std.specs.List.{list_all}
 use Rattle.std.proofs.lemmas.List.Folds.{list_all-map}
 use Rattle.gd_base.specs.Stamps.{Stamp}

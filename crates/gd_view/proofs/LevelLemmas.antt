@@ -1,5 +1,5 @@
 -- The levels gathered from the slots are those of the stack.
-use Rattle.std.proofs.Common.{◌≡◌, ℕ, zero, suc, ◌<◌, Bool, true, false, cond, ◌&&◌, List, [], ◌∷◌, ◌++◌, map, length, drop, Option, None, Some, refl, sym, ap, ◌∙◌, subst, T, arith, Ordering}
+use Rattle.std.proofs.Common.{◌≡◌, ℕ, zero, suc, ◌<◌, true, false, cond, ◌&&◌, List, [], ◌∷◌, map, length, drop, Option, None, Some, refl, sym, ap, ◌∙◌, subst, T, arith, Ordering}
 use Rattle.std.specs.Prelude.{option_map}
 use Rattle.std.specs.Ordering.{eq_by_cmp, match_ordering}
 use Rattle.std.specs.declared.cmp.Ordering.TheVariants.{Less, Equal, Greater}
@@ -27,7 +27,6 @@ use Rattle.gd_base.specs.declared.item.Item.{Item}
 use Rattle.gd_drawing.proofs.Entries.{level_from_eq}
 use Rattle.gd_drawing.proofs.Listed.{some_ranked}
 use Rattle.std.proofs.lemmas.List.{nil_from_length}
-use Rattle.gd_model.specs.declared.rank.Rank.{Rank}
 use Rattle.gd_model.specs.declared.rank.Level.{Level}
 use Rattle.gd_model.specs.Ranks.{level, level_cmp, is_same_rank}
 use Rattle.gd_drawing.proofs.RankLemmas.{is_same_rank-refl}

@@ -1,19 +1,18 @@
 -- What stands above all objects, by what is known of greater ids.
-use Rattle.std.proofs.Common.{◌≡◌, ℕ, zero, suc, ◌+◌, ◌<◌, ◌≤◌, Bool, true, false, cond, ◌||◌, List, [], ◌∷◌, ◌++◌, map, length, drop, Option, None, Some, refl, sym, ap, ◌∙◌, subst, T, arith}
+use Rattle.std.proofs.Common.{◌≡◌, ℕ, suc, ◌+◌, ◌<◌, ◌≤◌, Bool, true, false, cond, ◌||◌, List, [], ◌∷◌, ◌++◌, map, length, Option, None, Some, refl, sym, ap, ◌∙◌, subst, T, arith}
 use Rattle.std.specs.Prelude.{option_map, is_some, IfSome}
 use Rattle.std.specs.Option.{option_flatten}
-use Rattle.std.specs.List.{IsDistinct, AllByRecursion as Every, list_any}
+use Rattle.std.specs.List.{AllByRecursion as Every, list_any}
 use Rattle.std.specs.FinMap as map_of
 use Rattle.std.specs.FinMap.Entries.{put, below_all}
 use Rattle.std.proofs.lemmas.Int.{ints}
-use Rattle.std.proofs.Math.Seq.{drop-length}
 use Rattle.indexmap.specs.IndexMap as index_map
 use Rattle.gd_base.specs.declared.ranges.TheConstants.{SESSION_EVENTS}
 use Rattle.gd_base.specs.Stamps.{stamp_cmp, is_same, is_before}
 use Rattle.gd_base.specs.contracts.stamp.StampPartialEq.TheImpl.{eq-value}
 use Rattle.gd_base.proofs.Insertions.{Rises}
 use Rattle.gd_base.proofs.Lists.{Every-back}
-use Rattle.gd_base.proofs.StampLemmas.{stamp_cmp-total, is_same-true, is_same-comm, is_before-apart, is_before-trans}
+use Rattle.gd_base.proofs.StampLemmas.{is_same-true, is_same-comm, is_before-apart, is_before-trans}
 use Rattle.gd_base.specs.Stamps.{Stamp}
 use Rattle.gd_model.specs.declared.object.Link.{Link}
 use Rattle.gd_model.specs.declared.object.Object.{Object}
@@ -24,13 +23,12 @@ use Rattle.gd_model.specs.Board.{Board, listed}
 use Rattle.gd_model.specs.Shown.{above, above_by, through}
 use Rattle.gd_drawing.proofs.Chains.{above-link}
 use Rattle.gd_drawing.proofs.Stacking.{t_first, t_second, of_t}
-use Rattle.gd_canvas.specs.Slots.{Slots, board_of, ids, object_of, object_at}
 use Rattle.gd_model.specs.declared.above.Above.{Above}
 use Rattle.gd_view.specs.declared.known.Known.{Known}
 use Rattle.gd_view.specs.Chains.{group_in, Within}
-use Rattle.gd_view.specs.Sums.{known, above_of, above_at, with_id, AreKnown}
+use Rattle.gd_view.specs.Sums.{known, above_of, above_at, AreKnown}
 use Rattle.gd_drawing.proofs.Listed.{find-listed}
-use Rattle.std.proofs.lemmas.List.{append_assoc, length-append, length-map, nil_from_length}
+use Rattle.std.proofs.lemmas.List.{append_assoc, length-append, length-map}
 use Rattle.gd_view.proofs.ChainLemmas.{by_group}
 use Rattle.gd_view.proofs.WalkLemmas.{put_found}
 

@@ -17,15 +17,14 @@ returns-in_default-group_at-clause-above c =
     (omega (arith, c.loop-turn-test.true))
 
 pub loop-turn-preserved : goal.loop-turn-preserved
-loop-turn-preserved c =
-    (
-      step c.loop-turn.next c.loop-turn.invariant.0 c.in-Some.link c.in-Some-group_at.group.now (c.args.most - (c.loop-turn.turn + 1)) c.with_link-sum.result c.in-Some.is
-          (ap (λ x. option_map body (option_copied x)) (sym c.in-Some-group_at.is) ∙ c.group_at.ensures)
-          (omega (arith, c.loop-turn-test.true))
-          (c.with_link-sum.ensures.sum
-          ∙ ap (λ p. with_link c.loop-turn.sum p c.in-Some.link (body c.in-Some-group_at.group.now)) (c.first_parent-parent.ensures ∙ ap (first_parent c.loop-turn.sum.parent) c.parent_by.ensures)),
-      subst (λ n. Within n c.with_link-sum.result) (omega arith) c.with_link-sum.ensures.within,
-    )
+loop-turn-preserved c = (
+  step c.loop-turn.next c.loop-turn.invariant.0 c.in-Some.link c.in-Some-group_at.group.now (c.args.most - (c.loop-turn.turn + 1)) c.with_link-sum.result c.in-Some.is
+      (ap (λ x. option_map body (option_copied x)) (sym c.in-Some-group_at.is) ∙ c.group_at.ensures)
+      (omega (arith, c.loop-turn-test.true))
+      (c.with_link-sum.ensures.sum
+      ∙ ap (λ p. with_link c.loop-turn.sum p c.in-Some.link (body c.in-Some-group_at.group.now)) (c.first_parent-parent.ensures ∙ ap (first_parent c.loop-turn.sum.parent) c.parent_by.ensures)),
+  subst (λ n. Within n c.with_link-sum.result) (omega arith) c.with_link-sum.ensures.within,
+)
 
 pub returns-else-is_none-clause-above : goal.returns-else-is_none-clause-above
 returns-else-is_none-clause-above c =
