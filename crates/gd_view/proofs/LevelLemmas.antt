@@ -88,10 +88,12 @@ module _ {K : Type 0} (keys : Board → List K) (more : Option (Stamp × Object)
   gathered (e ∷ es) zero ks all d below h is = is ∙ ap (more (object_of (Some e))) h ∙ one_more e es d.0
   gathered (e ∷ es) (suc k) ks all d below h is = gathered es k ks all d.1 (omega arith) h is
 
+-- the ids of the objects
 pub ids_gathered : (es : Slots) (k : ℕ) (ks all : List Stamp) → IsDistinct is_same (ids es) → k < length es → ks ≡ map_of.keys (board_of (drop (suc k) es)) → all ≡ with_id (option_map (λ p. p.0) (object_at es k)) ks
     → all ≡ map_of.keys (board_of (drop k es))
 ids_gathered = gathered (λ (b : Board). map_of.keys b) (λ x. with_id (option_map (λ p. p.0) x)) (λ ks. refl) (λ b id o absent. keys-insert stamp_cmp-total b id o)
 
+-- their levels
 pub levels_gathered : (es : Slots) (k : ℕ) (ls all : List Level) → IsDistinct is_same (ids es) → k < length es → ls ≡ map_of.keys (stack (board_of (drop (suc k) es))) → all ≡ with_level (level_of (object_at es k)) ls
     → all ≡ map_of.keys (stack (board_of (drop k es)))
 levels_gathered =
@@ -103,7 +105,7 @@ pub slots_none : (es : Slots) (n : ℕ) → n ≡ length es → board_of (drop n
 unfolding board_of
 slots_none es n e = ap board_of (ap (λ m. drop m es) e ∙ drop-length es)
 
--- nothing has no key
+-- no objects have no ids, and no levels
 no_entries : {K : Type 0} (X : Type 0) (R : K → K → Ordering) → map_of.entries (map_of.empty {X = X} {R = R}) ≡ []
 no_entries X R = nil_from_length _ (sym (map_of.len-entries (map_of.empty {X = X} {R = R})) ∙ map_of.len-empty R X)
 
