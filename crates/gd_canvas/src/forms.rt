@@ -3,10 +3,10 @@
 ghost use Rattle.std.specs.Prelude.{◌≡◌};
 ghost use Rattle.gd_model.specs.Forms.{form, styled};
 ghost use Rattle.gd_model.specs.Objects.{part_of};
-ghost use Rattle.gd_canvas.specs.Aims.{aim_of, touch_of};
+ghost use Rattle.gd_canvas.specs.Aims.{aim_of, members_of, touch_of};
 
 use crate::new_objects;
-use gd_base::{Stamp, Style};
+use gd_base::{Member, Stamp, Style};
 use gd_events::Op;
 use gd_model::{Content, Form, Part, Rank};
 
@@ -58,6 +58,16 @@ pub fn aim_of(stamp: Stamp, op: &Op) -> Aim
         Op::Group { .. } => Aim::Groups(stamp),
         Op::Ungroup { id } => Aim::Sets(*id, Part::Flag),
         Op::Raise { id } => Aim::Sets(*id, Part::Rank),
+    }
+}
+
+/// The members of a new group.
+pub fn members_of(op: &Op) -> &[Member]
+    ensures { result.now ≡ members_of op.now }
+{
+    match op {
+        Op::Group { members } => members.as_slice(),
+        _ => &[],
     }
 }
 

@@ -14,6 +14,7 @@ use gd_model::Part;
 
 /// Whether no touch of `e`, at the stamp `s`, meets one of `f`, at `t`. It looks at the objects first: most events are on
 /// different ones.
+#[tactic(auto, using(crate::proofs::RelationLemmas::independent_parts))]
 pub fn independent(s: Stamp, e: &Op, t: Stamp, f: &Op) -> bool
     ensures { result ≡ independent s e.now t f.now }
 {
@@ -59,6 +60,7 @@ fn first_meets(s: Stamp, e: &Op, t: Stamp, f: &Op) -> bool
 }
 
 /// Whether the touch meets none of `f`'s.
+#[tactic(auto, using(crate::proofs::RelationLemmas::misses_parts))]
 fn misses(id: Stamp, part: Part, t: Stamp, f: &Op) -> bool
     ensures { result ≡ misses (touches t f.now) (id, part) }
 {

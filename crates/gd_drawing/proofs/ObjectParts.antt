@@ -1,6 +1,6 @@
 -- The parts of an object, each seen by itself: what is set in an object follows from what is seen of the part that is
 -- set, and changes no other part.
-use Rattle.std.proofs.Common.{◌≡◌, pos, Bool, true, false, cond, [], Option, None, Some, refl, ap, ◌∙◌}
+use Rattle.std.proofs.Common.{◌≡◌, pos, Bool, true, false, cond, [], Option, None, Some, refl, sym, ap, ◌∙◌}
 use Rattle.std.specs.Prelude.{option_map, unwrap_or}
 use Rattle.gd_model.specs.declared.before.Before.TheVariants.{Nothing}
 use Rattle.gd_model.specs.declared.content.Content.{Content}
@@ -107,9 +107,12 @@ cond_elsewhere : (c : Content) (p : Part) (o : Object) (b : Bool) → is_same_pa
 cond_elsewhere c p o true n w = put_elsewhere c p o n w
 cond_elsewhere c p o false n w = refl
 
-pub seen-whole : (x : Option Object) → seen part.Whole x ≡ x
-seen-whole None = refl
-seen-whole (Some o) = refl
+pub whole-same : {x y : Option Object} → seen part.Whole x ≡ seen part.Whole y → x ≡ y
+whole-same {x} {y} e = sym (seen-whole x) ∙ e ∙ seen-whole y
+  where
+    seen-whole : (z : Option Object) → seen part.Whole z ≡ z
+    seen-whole None = refl
+    seen-whole (Some o) = refl
 
 -- what is set follows from what is seen of the part
 pub set_by_part : (c : Content) (x : Option Object) → seen (part_of c) (option_map (set c) (seen (part_of c) x)) ≡ seen (part_of c) (option_map (set c) x)

@@ -1,13 +1,13 @@
 -- One event on the stack: in the middle, at the end, or gone.
-use Rattle.std.proofs.Common.{◌≡◌, Bool, true, false, cond, not, ◌&&◌, [], ◌∷◌, ◌++◌, List, map, Option, None, Some, refl, sym, ap, ◌∙◌, subst, T}
+use Rattle.std.proofs.Common.{◌≡◌, Bool, true, false, cond, not, [], ◌∷◌, ◌++◌, List, map, Option, None, Some, refl, sym, ap, ◌∙◌, subst, T}
 use Rattle.std.specs.Prelude.{is_some, option_map, unwrap_or}
-use Rattle.std.specs.List.{filter}
 use Rattle.std.specs.FinMap as map_of
 use Rattle.std.specs.FinMap.Entries.{find-append, is_sorted-where_key, where_key}
-use Rattle.std.proofs.lemmas.List.{append-nil}
+use Rattle.std.proofs.lemmas.List.{append-nil, map-append}
 use Rattle.gd_base.specs.Stamps.{Stamp, is_same, is_before}
 use Rattle.gd_base.specs.declared.member.Member.{Member}
 use Rattle.gd_base.specs.declared.style.Style.TheVariants.{Stroke, Fill, Width}
+use Rattle.gd_base.proofs.Lists.{Every-append}
 use Rattle.gd_base.proofs.StampLemmas.{is_same-true, is_same-refl, is_same-comm, is_before-trans}
 use Rattle.gd_events.specs.declared.op.Op.{Op}
 use Rattle.gd_events.specs.declared.op.Op.TheVariants.{Restyle, Raise}
@@ -21,21 +21,21 @@ use Rattle.gd_drawing.proofs.Linking.{linked}
 use Rattle.gd_model.specs.declared.form.Form.{Form}
 use Rattle.gd_model.specs.declared.form.Form.TheVariants.{Sets, Creates, Deletes, Groups}
 use Rattle.gd_model.specs.Forms.{form}
-use Rattle.gd_model.specs.Drawing.{Drawing, has_id, link_given, at_id, without, to_top, draw}
+use Rattle.gd_model.specs.Drawing.{Drawing, link_given, at_id, without, to_top, draw}
 use Rattle.gd_model.specs.declared.rank.Rank.{Rank}
 use Rattle.gd_model.specs.declared.rank.Level.{Level}
 use Rattle.gd_model.specs.Ranks.{level, top, is_same_rank, level_cmp}
 use Rattle.gd_model.specs.Board.{Board, without_ranks, board_with, apply}
-use Rattle.gd_drawing.proofs.Lookups.{get-board_with}
-use Rattle.gd_drawing.proofs.Stacking.{level_cmp-total, level_test, same_levels, at_rank, Stands}
-use Rattle.gd_drawing.proofs.Entries.{Entries, mapped, sorted-mapped, find-mapped, sorted-append, all_before, under_from, all_before-more, all_before-mapped, all_before-where, all_before-append, present_before, absent, no_id, drawn-mapped, drawn-append, drawn-where, find-where}
+use Rattle.gd_drawing.proofs.Lookups.{at_same, cond_over, cond_same, get-board_with}
+use Rattle.gd_drawing.proofs.Stacking.{level_cmp-total, level_test, same_levels, level_step, at_rank, Stands}
+use Rattle.gd_drawing.proofs.Entries.{Entries, mapped, sorted-mapped, find-mapped, sorted-append, AllEarlier, under_from, AllEarlier-more, AllEarlier-mapped, AllEarlier-where, present_before, absent, no_id, drawn-mapped, drawn-where, find-where}
 
 -- what the event at s leaves: a list that stands for the board, that is the drawing, and that is before each later stamp
 pub record Step (s : Stamp) (b : Board) (d : Drawing) : Type 0 where
   pub entries : Entries
   pub stands : Stands b entries
   pub drawn : without_ranks entries ≡ d
-  pub later : (t : Stamp) → is_before s t ≡ true → all_before t entries ≡ true
+  pub later : (t : Stamp) → is_before s t ≡ true → AllEarlier t entries
 
 -- ---- contents
 
@@ -69,25 +69,29 @@ rank-where : (c : Content) (o : Object) (b : Bool) → keeps_rank c ≡ true →
 rank-where c o true e = rank-put c o e
 rank-where c o false e = refl
 
+-- what is found at a rank after an object was changed as its body is, and kept its rank
+at_rank-changed : (f : Object → Object) (g : Body → Body) (rank : Rank) (x : Option Object) → ((o : Object) → g (body o) ≡ body (f o)) → ((o : Object) → o.rank ≡ (f o).rank)
+    → option_map g (at_rank rank x) ≡ at_rank rank (option_map f x)
+at_rank-changed f g rank None h k = refl
+at_rank-changed f g rank (Some o) h k = inside (is_same_rank rank o.rank) ∙ (λ i. cond (is_same_rank rank (k o i)) (Some (h o i)) None)
+  where
+    inside : (t : Bool) → option_map g (cond t (Some (body o)) None) ≡ cond t (Some (g (body o))) None
+    inside true = refl
+    inside false = refl
+
 -- what is found at a rank after a content went into the object of that id
 set_cell : (c : Content) (rank : Rank) (same : Bool) (x : Option Object) → keeps_rank c ≡ true
     → option_map (λ y. cond same (set_body c y) y) (at_rank rank x) ≡ at_rank rank (cond same (option_map (set c) x) x)
 set_cell c rank false x e = same_body (at_rank rank x)
-set_cell c rank true None e = refl
-set_cell c rank true (Some o) e =
-    elim (is_same_rank rank o.rank) as (λ t. option_map (set_body c) (cond t (Some (body o)) None) ≡ cond t (Some (set_body c (body o))) None) [ true ↦ refl | false ↦ refl ]
-    ∙ (λ i. cond (is_same_rank rank (sym (rank-where c o (fits c o.kind) e) i)) (Some (sym (body-where c o (fits c o.kind)) i)) None)
+set_cell c rank true x e = at_rank-changed (set c) (set_body c) rank x (λ o. sym (body-where c o (fits c o.kind))) (λ o. sym (rank-where c o (fits c o.kind) e))
 
 -- what is found at a rank after an object was linked
 linked_cell : (link : Option Link) (rank : Rank) (x : Option Object) → option_map (linked_body link) (at_rank rank x) ≡ at_rank rank (option_map (linked link) x)
-linked_cell link rank None = refl
-linked_cell None rank (Some o) =
-    elim (is_same_rank rank o.rank) as (λ t. option_map (linked_body None) (cond t (Some (body o)) None) ≡ cond t (Some (body o)) None) [ true ↦ refl | false ↦ refl ]
-linked_cell (Some link) rank (Some o) =
-    elim (is_same_rank rank o.rank) as (λ t. option_map (linked_body (Some link)) (cond t (Some (body o)) None) ≡ cond t (Some (linked_body (Some link) (body o))) None) [ true ↦ refl | false ↦ refl ]
+linked_cell None rank x = at_rank-changed (linked None) (linked_body None) rank x (λ o. refl) (λ o. refl)
+linked_cell (Some link) rank x = at_rank-changed (linked (Some link)) (linked_body (Some link)) rank x (λ o. refl) (λ o. refl)
 
 -- ---- the event at s, on a list that stands for a board and is before s
-module _ (s : Stamp) (b : Board) (es : Entries) (stands : Stands b es) (low : all_before s es ≡ true) where
+module _ (s : Stamp) (b : Board) (es : Entries) (stands : Stands b es) (low : AllEarlier s es) where
   -- one part of an object in the middle
   pub set_step : (id : Stamp) (c : Content) → keeps_rank c ≡ true → Step s (board_with s (Sets id c) b) (at_id id (set_body c) (without_ranks es))
   set_step id c e =
@@ -104,16 +108,8 @@ module _ (s : Stamp) (b : Board) (es : Entries) (stands : Stands b es) (low : al
               ∙ ap (at_rank r) (sym (get-board_with s (Sets id c) b k));
         };
         drawn = drawn-mapped f (λ x. cond (is_same id x.0) (set_body c x.1) x.1) (λ l v. refl) es;
-        later = λ t l. all_before-mapped t f es ∙ all_before-more s t es l low;
+        later = λ t l. AllEarlier-mapped t f es (AllEarlier-more s t es l low);
       }
-
-  -- what is found at a rank where one object more stands at the level of the event
-  new_cell : (v : Body) (r : Rank) (same_rank same_id : Bool) (y : Option Body) (z : Option Object) → is_same_rank r (top s) ≡ same_rank → y ≡ at_rank r z → (same_id ≡ true → z ≡ None)
-      → cond (same_rank && same_id) (Some v) y ≡ at_rank r (cond same_id (Some (ranked v s)) z)
-  new_cell v r true true y z e h none = ap (λ t. cond t (Some v) None) (sym e)
-  new_cell v r false true y z e h none = h ∙ ap (at_rank r) (none refl) ∙ ap (λ t. cond t (Some v) None) (sym e)
-  new_cell v r true false y z e h none = h
-  new_cell v r false false y z e h none = h
 
   -- nothing stands at the level of the event
   here_none : map_of.find level_cmp (level (top s) s) es ≡ None
@@ -124,20 +120,22 @@ module _ (s : Stamp) (b : Board) (es : Entries) (stands : Stands b es) (low : al
   id_none k h e same = ap (λ i. h (map_of.get b i)) (is_same-true k s same) ∙ ap h (absent s b es stands low) ∙ e
 
   -- a list with one object more at the level of the event is before each later stamp
-  new_later : (v : Body) (fs : Entries) → all_before s fs ≡ true → (t : Stamp) → is_before s t ≡ true → all_before t (fs ++ (level (top s) s, v) ∷ []) ≡ true
-  new_later v fs h t l = all_before-append t (top s) s v fs (all_before-more s t fs l h) l l
+  new_later : (v : Body) (fs : Entries) → AllEarlier s fs → (t : Stamp) → is_before s t ≡ true → AllEarlier t (fs ++ (level (top s) s, v) ∷ [])
+  new_later v fs h t l = Every-append _ fs _ (AllEarlier-more s t fs l h) ((l, l), tt)
 
-  -- the event's stamp is new
-  not_present : is_some (map_of.get b s) ≡ false
-  not_present = ap is_some (absent s b es stands low)
-
-  -- so a new object is put in, and not kept
+  -- a new object is put in, and not kept
   get-new : (v : Body) (k : Stamp) → cond (is_same k s) (Some (ranked v s)) (map_of.get b k) ≡ cond (is_same k s) (Some (unwrap_or (map_of.get b k) (ranked v s))) (map_of.get b k)
   get-new v k =
-      elim (is_same k s) as (λ t. is_same k s ≡ t → cond t (Some (ranked v s)) (map_of.get b k) ≡ cond t (Some (unwrap_or (map_of.get b k) (ranked v s))) (map_of.get b k)) [
-        | true ↦ λ is. ap (λ x. Some (unwrap_or x (ranked v s))) (sym (id_none k (λ x. x) refl is))
-        | false ↦ λ is. refl
-      ] refl
+      let made : Option Object → Option Object = λ x. Some (unwrap_or x (ranked v s)) in
+      ap (λ x. cond (is_same k s) (made x) (map_of.get b k)) (sym (absent s b es stands low)) ∙ at_same k s (λ q. made (map_of.get b q)) (map_of.get b k)
+
+  -- one object more at the level of the event, in a list that finds at each rank what x has of it
+  found-new : (v : Body) (fs : Entries) (x : Option Object) (r : Rank) (k : Stamp) → map_of.find level_cmp (level (top s) s) fs ≡ None → map_of.find level_cmp (level r k) fs ≡ at_rank r x
+      → (is_same k s ≡ true → x ≡ None) → map_of.find level_cmp (level r k) (fs ++ (level (top s) s, v) ∷ []) ≡ at_rank r (cond (is_same k s) (Some (ranked v s)) x)
+  found-new v fs x r k none found apart =
+      find-append level_cmp level_cmp-total fs (level (top s) s) v (level r k) none
+      ∙ (λ i. cond (level_test r k (top s) s i) (Some v) (found i))
+      ∙ level_step (is_same_rank r (top s)) (is_same k s) (ranked v s) r x refl apart
 
   -- a new object at the end
   pub create_step : (v : Body) → Step s (board_with s (Creates v) b) (draw s (Creates v) (without_ranks es))
@@ -147,12 +145,10 @@ module _ (s : Stamp) (b : Board) (es : Entries) (stands : Stands b es) (low : al
         stands = record {
           sorted = sorted-append (level (top s) s) v es stands.sorted (under_from s s es low);
           found = λ r k.
-              find-append level_cmp level_cmp-total es (level (top s) s) v (level r k) here_none
-              ∙ ap (λ t. cond t (Some v) (map_of.find level_cmp (level r k) es)) (level_test r k (top s) s)
-              ∙ new_cell v r (is_same_rank r (top s)) (is_same k s) _ (map_of.get b k) refl (stands.found r k) (id_none k (λ x. x) refl)
+              found-new v es (map_of.get b k) r k here_none (stands.found r k) (id_none k (λ x. x) refl)
               ∙ ap (at_rank r) (get-new v k ∙ sym (get-board_with s (Creates v) b k));
         };
-        drawn = drawn-append es ((level (top s) s, v) ∷ []) ∙ ap (λ t. cond t (without_ranks es) (without_ranks es ++ (s, v) ∷ [])) (sym (no_id s es low));
+        drawn = map-append _ es ((level (top s) s, v) ∷ []) ∙ ap (λ t. cond t (without_ranks es) (without_ranks es ++ (s, v) ∷ [])) (sym (no_id s es low));
         later = new_later v es low;
       }
 
@@ -163,54 +159,43 @@ module _ (s : Stamp) (b : Board) (es : Entries) (stands : Stands b es) (low : al
       let fs : Entries = mapped f es in
       let linked_at : Stamp → Option Object → Option Object = λ k x. option_map (linked (link_given s ms k)) x in
       let none : map_of.find level_cmp (level (top s) s) fs ≡ None = find-mapped f es (level (top s) s) ∙ ap (option_map (f (level (top s) s))) here_none in
-      let low_fs : all_before s fs ≡ true = all_before-mapped s f es ∙ low in
+      let low_fs : AllEarlier s fs = AllEarlier-mapped s f es low in
       record {
         entries = fs ++ (level (top s) s, new_group) ∷ [];
         stands = record {
           sorted = sorted-append (level (top s) s) new_group fs (subst T (sym (sorted-mapped f es)) stands.sorted) (under_from s s fs low_fs);
           found = λ r k.
-              find-append level_cmp level_cmp-total fs (level (top s) s) new_group (level r k) none
-              ∙ ap (λ t. cond t (Some new_group) (map_of.find level_cmp (level r k) fs)) (level_test r k (top s) s)
-              ∙ new_cell new_group r (is_same_rank r (top s)) (is_same k s) _ (linked_at k (map_of.get b k)) refl
+              found-new new_group fs (linked_at k (map_of.get b k)) r k none
               (find-mapped f es (level r k) ∙ ap (option_map (f (level r k))) (stands.found r k) ∙ linked_cell (link_given s ms k) r (map_of.get b k))
               (id_none k (linked_at k) refl)
-              ∙ ap (at_rank r) (ap (λ t. cond t (map_of.get b k) (cond (is_same k s) (Some (ranked new_group s)) (linked_at k (map_of.get b k)))) (sym not_present) ∙ sym (get-board_with s (Groups ms) b k));
+              ∙ ap (at_rank r) (ap (λ t. cond t (map_of.get b k) (cond (is_same k s) (Some (ranked new_group s)) (linked_at k (map_of.get b k)))) (sym (ap is_some (absent s b es stands low))) ∙ sym (get-board_with s (Groups ms) b k));
         };
         drawn =
-            drawn-append fs ((level (top s) s, new_group) ∷ [])
+            map-append _ fs ((level (top s) s, new_group) ∷ [])
             ∙ ap (λ d. d ++ (s, new_group) ∷ []) (drawn-mapped f (λ x. linked_body (link_given s ms x.0) x.1) (λ l v. refl) es)
             ∙ ap (λ t. cond t (without_ranks es) (map (λ e. (e.0, linked_body (link_given s ms e.0) e.1)) (without_ranks es) ++ (s, new_group) ∷ [])) (sym (no_id s es low));
         later = new_later new_group fs low_fs;
       }
 
   -- the list without the object of that id
-  rest : Stamp → Entries
+  abbrev rest : Stamp → Entries
   rest id = where_key level_cmp (λ l. not (is_same id l.id)) es
 
   -- it is by level
   rest_sorted : (id : Stamp) → T (map_of.is_sorted level_cmp (rest id))
-  unfolding rest
   rest_sorted id = is_sorted-where_key level_cmp (λ l. not (is_same id l.id)) es stands.sorted
 
   -- it is before s
-  rest_low : (id : Stamp) → all_before s (rest id) ≡ true
-  unfolding rest
-  rest_low id = all_before-where s (λ l. not (is_same id l.id)) es low
+  rest_low : (id : Stamp) → AllEarlier s (rest id)
+  rest_low id = AllEarlier-where s (λ l. not (is_same id l.id)) es low
 
   -- it has the objects of other ids
-  rest_found : (id : Stamp) (r : Rank) (k : Stamp) → map_of.find level_cmp (level r k) (rest id) ≡ cond (not (is_same k id)) (at_rank r (map_of.get b k)) None
-  unfolding rest
-  rest_found id r k = find-where (λ i. not (is_same id i)) es r k ∙ (λ i. cond (not (is_same-comm id k i)) (stands.found r k i) None)
-
-  -- and is the drawing without that id
-  rest_drawn : (id : Stamp) → without_ranks (rest id) ≡ without id (without_ranks es)
-  unfolding rest
-  rest_drawn id = drawn-where (λ i. not (is_same id i)) es
-
-  -- what is found at a rank where the object of that id is gone
-  gone_cell : (same : Bool) (r : Rank) (x : Option Object) → cond (not same) (at_rank r x) None ≡ at_rank r (cond same None x)
-  gone_cell true r x = refl
-  gone_cell false r x = refl
+  rest_found : (id : Stamp) (r : Rank) (k : Stamp) → map_of.find level_cmp (level r k) (rest id) ≡ at_rank r (cond (is_same k id) None (map_of.get b k))
+  rest_found id r k = find-where (λ i. not (is_same id i)) es r k ∙ (λ i. cond (not (is_same-comm id k i)) (stands.found r k i) None) ∙ by (is_same k id)
+    where
+      by : (t : Bool) → cond (not t) (at_rank r (map_of.get b k)) None ≡ at_rank r (cond t None (map_of.get b k))
+      by true = refl
+      by false = refl
 
   -- an object that goes
   pub delete_step : (id : Stamp) → Step s (board_with s (Deletes id) b) (draw s (Deletes id) (without_ranks es))
@@ -219,77 +204,52 @@ module _ (s : Stamp) (b : Board) (es : Entries) (stands : Stands b es) (low : al
         entries = rest id;
         stands = record {
           sorted = rest_sorted id;
-          found = λ r k. rest_found id r k ∙ gone_cell (is_same k id) r (map_of.get b k) ∙ ap (at_rank r) (sym (get-board_with s (Deletes id) b k));
+          found = λ r k. rest_found id r k ∙ ap (at_rank r) (sym (get-board_with s (Deletes id) b k));
         };
-        drawn = rest_drawn id;
-        later = λ t l. all_before-more s t (rest id) l (rest_low id);
+        drawn = drawn-where (λ i. not (is_same id i)) es;
+        later = λ t l. AllEarlier-more s t (rest id) l (rest_low id);
       }
 
   -- the object of that id alone
-  alone : Stamp → Entries
+  abbrev alone : Stamp → Entries
   alone id = where_key level_cmp (λ l. is_same id l.id) es
 
-  -- it is by level
-  alone_sorted : (id : Stamp) → T (map_of.is_sorted level_cmp (alone id))
-  unfolding alone
-  alone_sorted id = is_sorted-where_key level_cmp (λ l. is_same id l.id) es stands.sorted
-
   -- it has that object
-  alone_found : (id : Stamp) (r : Rank) (k : Stamp) → map_of.find level_cmp (level r k) (alone id) ≡ cond (is_same k id) (at_rank r (map_of.get b k)) None
-  unfolding alone
-  alone_found id r k = find-where (λ i. is_same id i) es r k ∙ (λ i. cond (is_same-comm id k i) (stands.found r k i) None)
-
-  -- and is what the drawing has of that id
-  alone_drawn : (id : Stamp) → without_ranks (alone id) ≡ filter (has_id id) (without_ranks es)
-  unfolding alone
-  alone_drawn id = drawn-where (λ i. is_same id i) es
-
-  -- nothing is found of an absent id
-  none_cell : (same : Bool) (r : Rank) (x : Option Object) → (same ≡ true → x ≡ None) → cond same (at_rank r x) None ≡ None
-  none_cell true r x h = ap (at_rank r) (h refl)
-  none_cell false r x h = refl
-
-  -- what is found of one object
-  one_cell : (same_rank same : Bool) (r : Rank) (o : Object) (x : Option Object) → is_same_rank r o.rank ≡ same_rank → (same ≡ true → x ≡ Some o)
-      → cond same (at_rank r x) None ≡ cond (same_rank && same) (Some (body o)) None
-  one_cell true true r o x e h = ap (at_rank r) (h refl) ∙ ap (λ t. cond t (Some (body o)) None) e
-  one_cell false true r o x e h = ap (at_rank r) (h refl) ∙ ap (λ t. cond t (Some (body o)) None) e
-  one_cell true false r o x e h = refl
-  one_cell false false r o x e h = refl
-
-  -- what the board returns at the same id
-  is_at : (id : Stamp) (x : Option Object) → map_of.get b id ≡ x → (k : Stamp) → is_same k id ≡ true → map_of.get b k ≡ x
-  is_at id x e k same = ap (map_of.get b) (is_same-true k id same) ∙ e
+  alone_found : (id : Stamp) (r : Rank) (k : Stamp) → map_of.find level_cmp (level r k) (alone id) ≡ at_rank r (cond (is_same k id) (map_of.get b id) None)
+  alone_found id r k =
+      find-where (λ i. is_same id i) es r k
+      ∙ (λ i. cond (is_same-comm id k i) (stands.found r k i) None)
+      ∙ by (is_same k id)
+      ∙ ap (at_rank r) (sym (at_same k id (map_of.get b) None))
+    where
+      by : (t : Bool) → cond t (at_rank r (map_of.get b k)) None ≡ at_rank r (cond t (map_of.get b k) None)
+      by true = refl
+      by false = refl
 
   -- an absent id has nothing
   alone_none : (id : Stamp) → map_of.get b id ≡ None → alone id ≡ []
   alone_none id e =
-      same_levels (alone id) [] (alone_sorted id) tt (λ l. alone_found id l.rank l.id ∙ none_cell (is_same l.id id) l.rank (map_of.get b l.id) (is_at id None e l.id))
+      same_levels (alone id) [] (is_sorted-where_key level_cmp (λ l. is_same id l.id) es stands.sorted) tt
+      (λ l. alone_found id l.rank l.id ∙ ap (λ x. at_rank l.rank (cond (is_same l.id id) x None)) e ∙ ap (at_rank l.rank) (cond_same (is_same l.id id) None))
 
   -- an id that is there has its object, once
   alone_one : (id : Stamp) (o : Object) → map_of.get b id ≡ Some o → alone id ≡ (level o.rank id, body o) ∷ []
   alone_one id o e =
-      same_levels (alone id) ((level o.rank id, body o) ∷ []) (alone_sorted id) tt
+      same_levels (alone id) ((level o.rank id, body o) ∷ []) (is_sorted-where_key level_cmp (λ l. is_same id l.id) es stands.sorted) tt
       (λ l. alone_found id l.rank l.id
-      ∙ one_cell (is_same_rank l.rank o.rank) (is_same l.id id) l.rank o (map_of.get b l.id) refl (is_at id (Some o) e l.id)
+      ∙ ap (λ x. at_rank l.rank (cond (is_same l.id id) x None)) e
+      ∙ sym (level_step (is_same_rank l.rank o.rank) (is_same l.id id) o l.rank None refl (λ t. refl))
       ∙ ap (λ t. cond t (Some (body o)) None) (sym (level_test l.rank l.id o.rank id)))
 
-  -- what is found at a rank after a raise of an absent id
-  stay_cell : (same : Bool) (r : Rank) (x : Option Object) → (same ≡ true → x ≡ None) → cond (not same) (at_rank r x) None ≡ at_rank r (cond same (option_map (set (ToRank (top s))) x) x)
-  stay_cell true r x h = ap (λ y. at_rank r (option_map (set (ToRank (top s))) y)) (sym (h refl))
-  stay_cell false r x h = refl
-
-  -- what is found at a rank after a raise of an object
-  top_cell : (same_rank same : Bool) (r : Rank) (o : Object) (x : Option Object) → is_same_rank r (top s) ≡ same_rank → (same ≡ true → x ≡ Some o)
-      → cond (same_rank && same) (Some (body o)) (cond (not same) (at_rank r x) None) ≡ at_rank r (cond same (option_map (set (ToRank (top s))) x) x)
-  top_cell true true r o x e h = ap (λ t. cond t (Some (body o)) None) (sym e) ∙ ap (λ y. at_rank r (option_map (set (ToRank (top s))) y)) (sym (h refl))
-  top_cell false true r o x e h = ap (λ t. cond t (Some (body o)) None) (sym e) ∙ ap (λ y. at_rank r (option_map (set (ToRank (top s))) y)) (sym (h refl))
-  top_cell true false r o x e h = refl
-  top_cell false false r o x e h = refl
+  -- what the board returns after a raise, by what it returned at that id
+  raised : (id k : Stamp) (x : Option Object) → map_of.get b id ≡ x → (let on_top = option_map (set (ToRank (top s))) in cond (is_same k id) (on_top x) (map_of.get b k) ≡ cond (is_same k id) (on_top (map_of.get b k)) (map_of.get b k))
+  raised id k x e =
+      let on_top = option_map (set (ToRank (top s))) in
+      ap (λ y. cond (is_same k id) (on_top y) (map_of.get b k)) (sym e) ∙ at_same k id (λ q. on_top (map_of.get b q)) (map_of.get b k)
 
   -- the list without that id has nothing at its new level
   not_in_rest : (id : Stamp) → map_of.find level_cmp (level (top s) id) (rest id) ≡ None
-  not_in_rest id = rest_found id (top s) id ∙ ap (λ t. cond (not t) (at_rank (top s) (map_of.get b id)) None) (is_same-refl id)
+  not_in_rest id = rest_found id (top s) id ∙ ap (λ t. at_rank (top s) (cond t None (map_of.get b id))) (is_same-refl id)
 
   -- a raise, by what the board returns at the id
   raise_by : (id : Stamp) (x : Option Object) → map_of.get b id ≡ x → Step s (board_with s (Sets id (ToRank (top s))) b) (to_top id (without_ranks es))
@@ -299,12 +259,10 @@ module _ (s : Stamp) (b : Board) (es : Entries) (stands : Stands b es) (low : al
         stands = record {
           sorted = rest_sorted id;
           found = λ r k.
-              rest_found id r k
-              ∙ stay_cell (is_same k id) r (map_of.get b k) (is_at id None e k)
-              ∙ ap (at_rank r) (sym (get-board_with s (Sets id (ToRank (top s))) b k));
+              rest_found id r k ∙ ap (at_rank r) (raised id k None e ∙ sym (get-board_with s (Sets id (ToRank (top s))) b k));
         };
-        drawn = rest_drawn id ∙ sym (append-nil (without id (without_ranks es))) ∙ ap (λ d. without id (without_ranks es) ++ d) (sym (ap without_ranks (alone_none id e)) ∙ alone_drawn id);
-        later = λ t l. all_before-more s t (rest id) l (rest_low id);
+        drawn = drawn-where (λ i. not (is_same id i)) es ∙ sym (append-nil (without id (without_ranks es))) ∙ ap (λ d. without id (without_ranks es) ++ d) (sym (ap without_ranks (alone_none id e)) ∙ drawn-where (is_same id) es);
+        later = λ t l. AllEarlier-more s t (rest id) l (rest_low id);
       }
   raise_by id (Some o) e =
       record {
@@ -313,17 +271,15 @@ module _ (s : Stamp) (b : Board) (es : Entries) (stands : Stands b es) (low : al
           sorted = sorted-append (level (top s) id) (body o) (rest id) (rest_sorted id) (under_from s id (rest id) (rest_low id));
           found = λ r k.
               find-append level_cmp level_cmp-total (rest id) (level (top s) id) (body o) (level r k) (not_in_rest id)
-              ∙ ap (λ t. cond t (Some (body o)) (map_of.find level_cmp (level r k) (rest id))) (level_test r k (top s) id)
-              ∙ ap (λ y. cond (is_same_rank r (top s) && is_same k id) (Some (body o)) y) (rest_found id r k)
-              ∙ top_cell (is_same_rank r (top s)) (is_same k id) r o (map_of.get b k) refl (is_at id (Some o) e k)
-              ∙ ap (at_rank r) (sym (get-board_with s (Sets id (ToRank (top s))) b k));
+              ∙ (λ i. cond (level_test r k (top s) id i) (Some (body o)) (rest_found id r k i))
+              ∙ level_step (is_same_rank r (top s)) (is_same k id) (set (ToRank (top s)) o) r (cond (is_same k id) None (map_of.get b k)) refl (λ t. ap (λ c. cond c None (map_of.get b k)) t)
+              ∙ ap (at_rank r) (cond_over (is_same k id) _ None (map_of.get b k) ∙ raised id k (Some o) e ∙ sym (get-board_with s (Sets id (ToRank (top s))) b k));
         };
         drawn =
-            drawn-append (rest id) ((level (top s) id, body o) ∷ [])
-            ∙ (λ i. rest_drawn id i ++ (sym (ap without_ranks (alone_one id o e)) ∙ alone_drawn id) i);
+            map-append _ (rest id) ((level (top s) id, body o) ∷ [])
+            ∙ (λ i. drawn-where (λ k. not (is_same id k)) es i ++ (sym (ap without_ranks (alone_one id o e)) ∙ drawn-where (is_same id) es) i);
         later = λ t l.
-            all_before-append t (top s) id (body o) (rest id) (all_before-more s t (rest id) l (rest_low id)) l
-            (is_before-trans id s t (present_before s b es stands low id o e).1 l);
+            Every-append _ (rest id) _ (AllEarlier-more s t (rest id) l (rest_low id)) ((l, is_before-trans id s t (present_before s b es stands low id o e).1 l), tt);
       }
 
   -- an object that goes to the end

@@ -1,12 +1,13 @@
 -- The stack of a board: its objects by their places, a rank and then an id.
 use Rattle.std.proofs.Common.{◌≡◌, Bool, true, false, cond, ◌&&◌, List, [], ◌∷◌, Option, None, Some, refl, sym, ap, ◌∙◌, subst, T, Ordering}
 use Rattle.std.specs.FinMap as map_of
-use Rattle.std.specs.FinMap.Entries.{below_all}
-use Rattle.std.specs.Ordering.{ordering_then, is_lt, eq_by_cmp}
+use Rattle.std.specs.FinMap.Entries.{below_all, same_entries}
+use Rattle.std.specs.Ordering.{ordering_then, is_lt, is_eq, eq_by_cmp}
 use Rattle.std.specs.declared.cmp.Ordering.TheVariants.{Less, Equal, Greater}
-use Rattle.std.specs.Cmp.{IsTotalOrder, then_total, on_total, tied_then}
+use Rattle.std.specs.Cmp.{IsTotalOrder, Equal-is, then_total, on_total, tied_then}
+use Rattle.std.proofs.lemmas.Bool.{and_parts}
 use Rattle.gd_base.specs.Stamps.{Stamp, stamp_cmp, is_same}
-use Rattle.gd_base.proofs.StampLemmas.{stamp_cmp-total, stamp_cmp-IsAntisymmetric, is_same-true, is_before-apart}
+use Rattle.gd_base.proofs.StampLemmas.{stamp_cmp-total, is_same-true}
 use Rattle.gd_model.specs.declared.object.Object.{Object}
 use Rattle.gd_model.specs.declared.object.Body.{Body}
 use Rattle.gd_model.specs.Objects.{body}
@@ -23,19 +24,13 @@ pub level_cmp-total : IsTotalOrder level_cmp
 unfolding level_cmp
 level_cmp-total = then_total (on_total (λ (l : Level). l.rank) rank_cmp-total) (on_total (λ (l : Level). l.id) stamp_cmp-total)
 
--- two orders, the second where the first ties, tie where both do
-both_equal : (a b : Ordering) → ordering_then a b ≡ Equal → (a ≡ Equal) × (b ≡ Equal)
-both_equal Less b e = cc
-both_equal Equal b e = (refl, e)
-both_equal Greater b e = cc
-
 -- only equal levels tie
 pub level_cmp-IsAntisymmetric : map_of.IsAntisymmetric level_cmp
 unfolding level_cmp
 level_cmp-IsAntisymmetric l m e =
-    let both = both_equal (rank_cmp l.rank m.rank) (stamp_cmp l.id m.id) e in
-    let ranks = rank_cmp-IsAntisymmetric l.rank m.rank both.0 in
-    let ids = stamp_cmp-IsAntisymmetric l.id m.id both.1 in
+    let both = and_parts _ _ (tied_then (rank_cmp l.rank m.rank) (stamp_cmp l.id m.id) ∙ ap is_eq e) in
+    let ranks = rank_cmp-IsAntisymmetric l.rank m.rank ((Equal-is _).0 both.0) in
+    let ids = is_same-true l.id m.id both.1 in
     λ i. level (ranks i) (ids i)
 
 -- two levels are one where the ranks and the ids are
@@ -57,10 +52,7 @@ level_below rank id r i e = less_first (rank_cmp rank r) (stamp_cmp id i) e
 -- two lists by level that find alike are equal
 pub same_levels : (es fs : List (Level × Body)) → T (map_of.is_sorted level_cmp es) → T (map_of.is_sorted level_cmp fs)
     → ((l : Level) → map_of.find level_cmp l es ≡ map_of.find level_cmp l fs) → es ≡ fs
-same_levels es fs h k is =
-    let one : map_of.from_sorted {R = level_cmp} es ≡ map_of.from_sorted fs =
-    map_of.same_map level_cmp-total level_cmp-IsAntisymmetric _ _ (λ l. map_of.get-from_sorted level_cmp es l h ∙ is l ∙ sym (map_of.get-from_sorted level_cmp fs l k)) in
-    sym (map_of.entries-from_sorted level_cmp es h) ∙ ap map_of.entries one ∙ map_of.entries-from_sorted level_cmp fs k
+same_levels = same_entries level_cmp level_cmp-total level_cmp-IsAntisymmetric
 
 -- ---- tests that hold
 
@@ -79,11 +71,6 @@ pub t_both : (a b : Bool) → T a → T b → T (a && b)
 t_both true b h k = k
 t_both false b h k = h
 
--- a test whose answer is true holds
-pub t_of : (b : Bool) → b ≡ true → T b
-t_of true e = tt
-t_of false e = cc
-
 -- the answer to a test that holds is true
 pub of_t : (b : Bool) → T b → b ≡ true
 of_t true h = refl
@@ -96,14 +83,18 @@ abbrev pub at_rank : Rank → Option Object → Option Body
 at_rank rank None = None
 at_rank rank (Some o) = cond (is_same_rank rank o.rank) (Some (body o)) None
 
--- an id that is before all keys of a list isn't found in it
-not_found : (id : Stamp) (es : List (Stamp × Object)) → T (below_all stamp_cmp id es) → map_of.find stamp_cmp id es ≡ None
-not_found id [] h = refl
-not_found id (e ∷ es) h =
-    ap (λ t. cond t (Some e.1) (map_of.find stamp_cmp id es)) (is_before-apart id e.0 (of_t _ (t_first _ _ h))) ∙ not_found id es (t_second _ _ h)
+-- less is not equal
+less_apart : (r : Ordering) → T (is_lt r) → is_eq r ≡ false
+less_apart Less h = refl
+less_apart r h = absurd h
+
+-- a key that is before all keys of a list isn't found in it
+pub not_found : {K X : Type 0} (cmp : K → K → Ordering) (k : K) (es : List (K × X)) → T (below_all cmp k es) → map_of.find cmp k es ≡ None
+not_found cmp k [] h = refl
+not_found cmp k (e ∷ es) h = ap (λ t. cond t (Some e.1) (map_of.find cmp k es)) (less_apart (cmp k e.0) (t_first _ _ h)) ∙ not_found cmp k es (t_second _ _ h)
 
 -- the first entry by level, by the tests of its rank and its id
-level_step : (same_rank same_id : Bool) (o : Object) (rank : Rank) (rest : Option Object) → is_same_rank rank o.rank ≡ same_rank → (same_id ≡ true → rest ≡ None)
+pub level_step : (same_rank same_id : Bool) (o : Object) (rank : Rank) (rest : Option Object) → is_same_rank rank o.rank ≡ same_rank → (same_id ≡ true → rest ≡ None)
     → cond (same_rank && same_id) (Some (body o)) (at_rank rank rest) ≡ at_rank rank (cond same_id (Some o) rest)
 level_step true true o rank rest e none = ap (λ t. cond t (Some (body o)) None) (sym e)
 level_step true false o rank rest e none = refl
@@ -117,7 +108,7 @@ find-levels (e ∷ es) h rank id =
     ap (λ t. cond t (Some (body e.1)) (map_of.find level_cmp (level rank id) (levels es))) (level_test rank id e.1.rank e.0)
     ∙ ap (λ y. cond (is_same_rank rank e.1.rank && is_same id e.0) (Some (body e.1)) y) (find-levels es (t_second _ _ h) rank id)
     ∙ level_step (is_same_rank rank e.1.rank) (is_same id e.0) e.1 rank (map_of.find stamp_cmp id es) refl
-    (λ t. not_found id es (subst (λ i. T (below_all stamp_cmp i es)) (sym (is_same-true id e.0 t)) (t_first _ _ h)))
+    (λ t. not_found stamp_cmp id es (subst (λ i. T (below_all stamp_cmp i es)) (sym (is_same-true id e.0 t)) (t_first _ _ h)))
 
 -- the stack of a board returns with the object of that id, where it has that rank
 pub get-stack : (b : Board) (rank : Rank) (id : Stamp) → map_of.get (stack b) (level rank id) ≡ at_rank rank (map_of.get b id)

@@ -1,9 +1,8 @@
 -- A chain that is followed link by link.
-use Rattle.std.proofs.Common.{◌≡◌, ℕ, zero, suc, ◌≤◌, Bool, true, false, cond, Option, None, Some, refl, sym, ap, ◌∙◌, arith, pos, ◌+ℤ◌}
+use Rattle.std.proofs.Common.{◌≡◌, ℕ, suc, Bool, true, false, cond, Option, None, Some, refl, sym, ap, ◌∙◌, arith, pos, ◌+ℤ◌}
 use Rattle.std.proofs.lemmas.Int.{ints}
 use Rattle.std.specs.Prelude.{option_map, is_some}
 use Rattle.std.specs.FinMap as map_of
-use Rattle.gd_base.specs.declared.ranges.TheConstants.{SESSION_EVENTS}
 use Rattle.gd_base.specs.Stamps.{stamp_cmp, is_before}
 use Rattle.gd_base.specs.Stamps.{Stamp}
 use Rattle.gd_model.specs.declared.object.Link.{Link}
@@ -11,11 +10,9 @@ use Rattle.gd_model.specs.declared.object.Object.{Object}
 use Rattle.gd_model.specs.declared.object.Body.{Body}
 use Rattle.gd_model.specs.Objects.{body}
 use Rattle.gd_model.specs.Drawing.{Drawing}
-use Rattle.gd_model.specs.Board.{Board, listed}
-use Rattle.gd_model.specs.Shown.{above_in, above_by, through, nothing_above}
-use Rattle.gd_drawing.proofs.Listed.{find-listed}
+use Rattle.gd_model.specs.Shown.{above_in, above_by, through}
 use Rattle.gd_model.specs.declared.above.Above.{Above}
-use Rattle.gd_view.specs.Chains.{first_parent, parent_by, with_link, group_in, Within}
+use Rattle.gd_view.specs.Chains.{first_parent, parent_by, with_link, group_in}
 
 -- what stands above, with the sum of the part of the chain before it
 abbrev joined_by : Above → Above → Above
@@ -28,14 +25,6 @@ joined s x = option_map (joined_by s) x
 -- the sum with one link more, at the far end of the chain
 abbrev pub after_link : Above → Link → Body → Above
 after_link s l g = with_link s (first_parent s.parent (parent_by l g)) l g
-
--- the group of a link to a greater id
-pub group_found : (b : Board) (below : Stamp) (l : Link) (x : Option Object) → is_before below l.parent ≡ true → x ≡ map_of.get b l.parent → option_map body x ≡ group_in (listed b) below l
-group_found b below l x is e = ap (option_map body) e ∙ sym (find-listed b l.parent) ∙ ap (λ t. cond t (map_of.find stamp_cmp l.parent (listed b)) None) (sym is)
-
--- a link to an id that is not greater leads nowhere
-pub group_absent : (b : Board) (below : Stamp) (l : Link) → is_before below l.parent ≡ false → None ≡ group_in (listed b) below l
-group_absent b below l is = ap (λ t. cond t (map_of.find stamp_cmp l.parent (listed b)) None) (sym is)
 
 -- the part of a chain that is known and the rest of it, along at most n links, make the whole
 pub record Followed (n : ℕ) (d : Drawing) (id : Stamp) (start : Option Link) (left : ℕ) (sum : Above) (below : Stamp) (next : Option Link) : Type 0 where
@@ -68,13 +57,13 @@ one_more s l g (Some a) =
     λ i. Some record { parent = parents s.parent g.dissolved l.parent a.parent i; dx = xs i; dy = ys i }
 
 -- no group, nothing above
-by_group : (m : ℕ) (d : Drawing) (below : Stamp) (l : Link) (t : Bool) (x : Option Body) → cond t (through l x (λ g. above_in m d l.parent g.link)) None ≡ through l (cond t x None) (λ g. above_in m d l.parent g.link)
-by_group m d below l true x = refl
-by_group m d below l false x = refl
+pub by_group : (l : Link) (rest : Body → Option Above) (t : Bool) (x : Option Body) → cond t (through l x rest) None ≡ through l (cond t x None) rest
+by_group l rest true x = refl
+by_group l rest false x = refl
 
 -- one link of the definition
 above_step : (m : ℕ) (d : Drawing) (below : Stamp) (l : Link) → above_in (suc m) d below (Some l) ≡ through l (group_in d below l) (λ g. above_in m d l.parent g.link)
-above_step m d below l = by_group m d below l (is_before below l.parent) (map_of.find stamp_cmp l.parent d)
+above_step m d below l = by_group l (λ g. above_in m d l.parent g.link) (is_before below l.parent) (map_of.find stamp_cmp l.parent d)
 
 -- one link is followed
 pub step : {n : ℕ} {d : Drawing} {id : Stamp} {start : Option Link} {left : ℕ} {sum : Above} {below : Stamp} (next : Option Link) → Followed n d id start left sum below next
@@ -110,43 +99,8 @@ in_front l g a =
     by true = refl
     by false = refl
 
--- no parent behind the first one
-first_none : (p : Option Stamp) → p ≡ first_parent p None
-first_none None = refl
-first_none (Some r) = refl
-
--- nothing stands above the end of a chain
-ended : (s : Above) → Some s ≡ joined s (Some nothing_above)
-ended s =
-    let xs : s.dx ≡ s.dx +ℤ pos 0 = omega (arith, ints) in
-    let ys : s.dy ≡ s.dy +ℤ pos 0 = omega (arith, ints) in
-    λ i. Some record { parent = first_none s.parent i; dx = xs i; dy = ys i }
-
--- the chain ends
-pub finish : {n : ℕ} {d : Drawing} {id : Stamp} {start : Option Link} {left : ℕ} {sum : Above} {below : Stamp} (next : Option Link) → Followed n d id start left sum below next
-    → next ≡ None → Some sum ≡ above_in n d id start
-finish {d = d} {left = left} {sum = sum} {below = below} next f e = ended sum ∙ ap (λ x. joined sum (above_in left d below x)) (sym e) ∙ f.whole
-
--- no link is followed beyond the bound
-at_bound : (s : Above) (d : Drawing) (below : Stamp) (l : Link) → None ≡ joined s (above_in zero d below (Some l))
-at_bound s d below l = refl
-
 -- a link that is left where no more may be followed
 pub cut : {n : ℕ} {d : Drawing} {id : Stamp} {start : Option Link} {left : ℕ} {sum : Above} {below : Stamp} (next : Option Link) → Followed n d id start left sum below next
     → is_some next ≡ true → left ≡ 0 → None ≡ above_in n d id start
 cut None f e h = cc
-cut {d = d} {sum = sum} {below = below} (Some l) f e h = at_bound sum d below l ∙ ap (λ m. joined sum (above_in m d below (Some l))) (sym h) ∙ f.whole
-
--- a sum of few links is one of at most all
-pub wider : (n : ℕ) (s : Above) → n ≤ SESSION_EVENTS → Within n s → Within SESSION_EVENTS s
-wider n s h w =
-    let left = w.left in
-    let right = w.right in
-    let up = w.up in
-    let down = w.down in
-    record {
-      left = omega (arith, ints);
-      right = omega (arith, ints);
-      up = omega (arith, ints);
-      down = omega (arith, ints);
-    }
+cut {d = d} {sum = sum} {below = below} (Some l) f e h = ap (λ m. joined sum (above_in m d below (Some l))) (sym h) ∙ f.whole

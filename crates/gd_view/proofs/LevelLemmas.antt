@@ -1,44 +1,37 @@
 -- The levels gathered from the slots are those of the stack.
-use Rattle.std.proofs.Common.{◌≡◌, ℕ, zero, suc, ◌<◌, Bool, true, false, cond, ◌&&◌, List, [], ◌∷◌, ◌++◌, map, length, drop, Option, None, Some, refl, sym, ap, ◌∙◌, subst, T, arith, Ordering}
-use Rattle.std.specs.Prelude.{option_map, option_to_list}
-use Rattle.std.specs.Ordering.{is_eq, is_lt, eq_by_cmp, match_ordering}
+use Rattle.std.proofs.Common.{◌≡◌, ℕ, zero, suc, ◌<◌, true, false, cond, ◌&&◌, List, [], ◌∷◌, map, length, drop, Option, None, Some, refl, sym, ap, ◌∙◌, subst, T, arith, Ordering}
+use Rattle.std.specs.Prelude.{option_map}
+use Rattle.std.specs.Ordering.{eq_by_cmp, match_ordering}
 use Rattle.std.specs.declared.cmp.Ordering.TheVariants.{Less, Equal, Greater}
-use Rattle.std.specs.List.{IsDistinct, AllByRecursion, filter_map, cons_option}
+use Rattle.std.specs.List.{IsDistinct, AllByRecursion as Every, filter_map, cons_option}
 use Rattle.std.specs.FinMap as map_of
 use Rattle.std.specs.FinMap.Entries.{put, by_order, below_all}
 use Rattle.std.specs.BTreeSet.{insert_key}
+use Rattle.std.specs.Cmp.{IsTotalOrder}
 use Rattle.std.proofs.Math.Seq.{drop-length}
-use Rattle.gd_base.specs.Stamps.{is_same}
-use Rattle.gd_base.proofs.StampLemmas.{is_same-true, is_same-refl}
+use Rattle.gd_base.specs.Stamps.{stamp_cmp, is_same}
+use Rattle.gd_base.proofs.StampLemmas.{stamp_cmp-total, is_same-true, is_same-refl}
 use Rattle.gd_base.specs.Stamps.{Stamp}
 use Rattle.gd_model.specs.declared.object.Object.{Object}
 use Rattle.gd_model.specs.declared.object.Body.{Body}
 use Rattle.gd_model.specs.Objects.{body}
-use Rattle.gd_model.specs.Board.{Board, stack}
-use Rattle.gd_drawing.proofs.Stacking.{level_cmp-total, level_cmp-IsAntisymmetric, level_test, at_rank, get-stack, t_first, t_second}
+use Rattle.gd_model.specs.Board.{Board, levels, stack}
+use Rattle.gd_drawing.proofs.Stacking.{level_cmp-total, level_cmp-IsAntisymmetric, level_test, at_rank, level_step, not_found, get-stack, t_first, t_second}
 use Rattle.gd_canvas.specs.Slots.{Slots, board_of, ids, object_of, object_at}
+use Rattle.gd_drawing.proofs.Lookups.{put_at-kept}
 use Rattle.gd_canvas.proofs.SlotLemmas.{get-step, get-none}
 use Rattle.gd_model.specs.Board.{without_ranks, listed}
 use Rattle.gd_model.specs.Drawing.{Drawing}
 use Rattle.gd_model.specs.Shown.{shown, shown_items}
 use Rattle.gd_base.specs.declared.item.Item.{Item}
-use Rattle.gd_view.proofs.WalkLemmas.{no_length}
-use Rattle.std.proofs.lemmas.List.{append-nil, append_assoc}
-use Rattle.gd_model.specs.declared.rank.Rank.{Rank}
+use Rattle.gd_drawing.proofs.Entries.{level_from_eq}
+use Rattle.gd_drawing.proofs.Listed.{some_ranked}
+use Rattle.std.proofs.lemmas.List.{nil_from_length}
 use Rattle.gd_model.specs.declared.rank.Level.{Level}
 use Rattle.gd_model.specs.Ranks.{level, level_cmp, is_same_rank}
 use Rattle.gd_drawing.proofs.RankLemmas.{is_same_rank-refl}
+use Rattle.gd_view.specs.Sums.{with_id}
 use Rattle.gd_view.specs.Levels.{level_of, with_level, item_of}
-
--- one object more, with its level, where the slot has one
-abbrev entry_of : Stamp → Option Object → List (Level × Body) → List (Level × Body)
-entry_of id None es = es
-entry_of id (Some o) es = (level o.rank id, body o) ∷ es
-
--- the objects of the slots, each with its level
-unfoldable pub slot_levels : Slots → List (Level × Body)
-slot_levels [] = []
-slot_levels (e ∷ es) = entry_of e.0 e.1 (slot_levels es)
 
 -- the item of the object with that level, where it is shown
 abbrev pub item_at_level : Board → Level → Option Item
@@ -47,54 +40,26 @@ item_at_level b q = item_of (listed b) q.id (option_map body (map_of.get b q.id)
 -- ---- what the gathered levels return
 
 -- an id without a slot has no object
-pub apart_none : (id : Stamp) (es : Slots) → AllByRecursion (λ y. is_same id y ≡ false) (ids es) → map_of.get (board_of es) id ≡ None
+pub apart_none : (id : Stamp) (es : Slots) → Every (λ y. is_same id y ≡ false) (ids es) → map_of.get (board_of es) id ≡ None
 apart_none id [] h = get-none id
 apart_none id (e ∷ es) h = get-step e es id ∙ ap (λ t. cond t e.1 (map_of.get (board_of es) id)) h.0 ∙ apart_none id es h.1
 
--- one slot more, as a level finds it
-found_step : (r : Rank) (k id : Stamp) (o x : Option Object) (rest : Option Body) → rest ≡ at_rank r x → (is_same k id ≡ true → x ≡ None) → (es : List (Level × Body)) → map_of.find level_cmp (level r k) es ≡ rest
-    → map_of.find level_cmp (level r k) (entry_of id o es) ≡ at_rank r (cond (is_same k id) o x)
-found_step r k id None x rest is apart es h = h ∙ is ∙ gone (is_same k id) apart
-  where
-    gone : (t : Bool) → (t ≡ true → x ≡ None) → at_rank r x ≡ at_rank r (cond t None x)
-    gone true h = ap (at_rank r) (h refl)
-    gone false h = refl
-found_step r k id (Some o) x rest is apart es h =
-    ap (λ t. cond t (Some (body o)) (map_of.find level_cmp (level r k) es)) (level_test r k o.rank id)
-    ∙ ap (cond (is_same_rank r o.rank && is_same k id) (Some (body o))) (h ∙ is)
-    ∙ both (is_same_rank r o.rank) (is_same k id) refl apart
-  where
-    both : (a b : Bool) → is_same_rank r o.rank ≡ a → (b ≡ true → x ≡ None) → cond (a && b) (Some (body o)) (at_rank r x) ≡ at_rank r (cond b (Some o) x)
-    both true true e h = sym (ap (λ t. cond t (Some (body o)) None) e)
-    both true false e h = refl
-    both false true e h = ap (at_rank r) (h refl) ∙ sym (ap (λ t. cond t (Some (body o)) None) e)
-    both false false e h = refl
+-- one object more on the stack
+stack-insert : (b : Board) (id : Stamp) (o : Object) → map_of.get b id ≡ None → stack (map_of.insert b id o) ≡ map_of.insert (stack b) (level o.rank id) (body o)
+stack-insert b id o absent =
+    map_of.same_map level_cmp-total level_cmp-IsAntisymmetric _ _ (λ q.
+    get-stack (map_of.insert b id o) q.rank q.id
+    ∙ ap (at_rank q.rank) (map_of.get-insert stamp_cmp-total b id o q.id)
+    ∙ sym (level_step (is_same_rank q.rank o.rank) (is_same q.id id) o q.rank (map_of.get b q.id) refl (λ e. ap (map_of.get b) (is_same-true q.id id e) ∙ absent))
+    ∙ (λ i. cond (sym (level_test q.rank q.id o.rank id) i) (Some (body o)) (sym (get-stack b q.rank q.id) i))
+    ∙ sym (map_of.get-insert level_cmp-total (stack b) (level o.rank id) (body o) q))
 
--- a level finds the object of its id and rank
-find-slots : (es : Slots) → IsDistinct is_same (ids es) → (r : Rank) (k : Stamp) → map_of.find level_cmp (level r k) (slot_levels es) ≡ at_rank r (map_of.get (board_of es) k)
-unfolding slot_levels IsDistinct
-find-slots [] d r k = sym (ap (at_rank r) (get-none k))
-find-slots (e ∷ es) d r k =
-    found_step r k e.0 e.1 (map_of.get (board_of es) k) _ (find-slots es d.1 r k)
-    (λ is. apart_none k es (subst (λ i. AllByRecursion (λ y. is_same i y ≡ false) (ids es)) (sym (is_same-true k e.0 is)) d.0)) (slot_levels es) refl
-    ∙ ap (at_rank r) (sym (get-step e es k))
-
--- the stack of the slots' board
-pub stack-slots : (es : Slots) → IsDistinct is_same (ids es) → map_of.from_entries {R = level_cmp} (slot_levels es) ≡ stack (board_of es)
-stack-slots es d =
-    map_of.same_map level_cmp-total level_cmp-IsAntisymmetric _ _
-    (λ q. map_of.get-from_entries level_cmp-total (slot_levels es) q ∙ find-slots es d q.rank q.id ∙ sym (get-stack (board_of es) q.rank q.id))
-
--- ---- the keys, put in one by one
-
--- the levels of a list of objects
-abbrev pub level_keys : List (Level × Body) → List Level
-level_keys es = map_of.keys (map_of.from_entries {R = level_cmp} es)
+-- ---- keys, put in one by one
 
 -- a key that is put in among the keys of a sorted list
-pub put_key : {K X : Type 0} (cmp : K → K → Ordering) (k : K) (x : X) (ks : List K) (es : List (K × X)) → ks ≡ map (λ e. e.0) es → insert_key cmp ks k ≡ map (λ e. e.0) (put cmp k x es)
-put_key cmp k x ks [] h = ap (λ l. insert_key cmp l k) h
-put_key cmp k x ks (e ∷ es) h = ap (λ l. insert_key cmp l k) h ∙ by (cmp k e.0) (put_key cmp k x (map (λ e. e.0) es) es refl)
+put_key : {K X : Type 0} (cmp : K → K → Ordering) (k : K) (x : X) (es : List (K × X)) → insert_key cmp (map (λ e. e.0) es) k ≡ map (λ e. e.0) (put cmp k x es)
+put_key cmp k x [] = refl
+put_key cmp k x (e ∷ es) = by (cmp k e.0) (put_key cmp k x es)
   where
     by : (r : Ordering) → insert_key cmp (map (λ e. e.0) es) k ≡ map (λ e. e.0) (put cmp k x es)
         → match_ordering r (k ∷ e.0 ∷ map (λ e. e.0) es) (e.0 ∷ map (λ e. e.0) es) (e.0 ∷ insert_key cmp (map (λ e. e.0) es) k) ≡ map (λ e. e.0) (by_order r ((k, x) ∷ e ∷ es) ((e.0, x) ∷ es) (e ∷ put cmp k x es))
@@ -102,55 +67,56 @@ put_key cmp k x ks (e ∷ es) h = ap (λ l. insert_key cmp l k) h ∙ by (cmp k 
     by Equal m = refl
     by Greater m = ap (λ l. e.0 ∷ l) m
 
--- one slot more
-with_one : (e : Stamp × Option Object) (es : List (Level × Body)) (ls : List Level) → ls ≡ level_keys es → with_level (level_of (object_of (Some e))) ls ≡ level_keys (entry_of e.0 e.1 es)
-with_one (id, None) es ls h = h
-with_one (id, Some o) es ls h =
-    put_key level_cmp (level o.rank id) (body o) ls (map_of.entries (map_of.from_entries {R = level_cmp} es)) h
-    ∙ ap (map (λ e. e.0)) (sym (map_of.entries-insert level_cmp-total (map_of.from_entries {R = level_cmp} es) (level o.rank id) (body o)))
+-- the keys of a map with one entry more
+keys-insert : {K X : Type 0} {R : K → K → Ordering} (o : IsTotalOrder R) (m : map_of.FinMap R X) (k : K) (v : X) → insert_key R (map_of.keys m) k ≡ map_of.keys (map_of.insert m k v)
+keys-insert {R = R} o m k v = put_key R k v (map_of.entries m) ∙ ap (map (λ e. e.0)) (sym (map_of.entries-insert o m k v))
 
--- the slot at the place k, put to the levels of those behind it
-pub gathered : (es : Slots) (k : ℕ) (ls more : List Level) → k < length es → ls ≡ level_keys (slot_levels (drop (suc k) es)) → more ≡ with_level (level_of (object_at es k)) ls
-    → more ≡ level_keys (slot_levels (drop k es))
-unfolding slot_levels
-gathered [] k ls more below h is = absurd (omega arith)
-gathered (e ∷ es) zero ls more below h is = is ∙ with_one e (slot_levels es) ls h
-gathered (e ∷ es) (suc k) ls more below h is = gathered es k ls more (omega arith) h is
+-- ---- keys of boards, gathered from the last slot to the first: `more` puts in the key of a slot's object
 
--- no slot, no level
-no_keys : level_keys [] ≡ []
-no_keys = ap (map (λ e. e.0)) (no_length (map_of.entries (map_of.empty {X = Body} {R = level_cmp})) (sym (map_of.len-entries (map_of.empty {X = Body} {R = level_cmp})) ∙ map_of.len-empty level_cmp Body))
+module _ {K : Type 0} (keys : Board → List K) (more : Option (Stamp × Object) → List K → List K) (none : (ks : List K) → more None ks ≡ ks)
+    (some : (b : Board) (id : Stamp) (o : Object) → map_of.get b id ≡ None → more (Some (id, o)) (keys b) ≡ keys (map_of.insert b id o)) where
+  -- one slot more
+  one_more : (e : Stamp × Option Object) (es : Slots) → Every (λ y. is_same e.0 y ≡ false) (ids es) → more (object_of (Some e)) (keys (board_of es)) ≡ keys (board_of (e ∷ es))
+  unfolding board_of
+  one_more (id, None) es d = none _ ∙ ap keys (sym (put_at-kept (board_of es) id None (apart_none id es d)))
+  one_more (id, Some o) es d = some (board_of es) id o (apart_none id es d)
+
+  -- the slot at the place k, put to those behind it
+  gathered : (es : Slots) (k : ℕ) (ks all : List K) → IsDistinct is_same (ids es) → k < length es → ks ≡ keys (board_of (drop (suc k) es)) → all ≡ more (object_at es k) ks → all ≡ keys (board_of (drop k es))
+  unfolding IsDistinct
+  gathered [] k ks all d below h is = absurd (omega arith)
+  gathered (e ∷ es) zero ks all d below h is = is ∙ ap (more (object_of (Some e))) h ∙ one_more e es d.0
+  gathered (e ∷ es) (suc k) ks all d below h is = gathered es k ks all d.1 (omega arith) h is
+
+-- the ids of the objects
+pub ids_gathered : (es : Slots) (k : ℕ) (ks all : List Stamp) → IsDistinct is_same (ids es) → k < length es → ks ≡ map_of.keys (board_of (drop (suc k) es)) → all ≡ with_id (option_map (λ p. p.0) (object_at es k)) ks
+    → all ≡ map_of.keys (board_of (drop k es))
+ids_gathered = gathered (λ (b : Board). map_of.keys b) (λ x. with_id (option_map (λ p. p.0) x)) (λ ks. refl) (λ b id o absent. keys-insert stamp_cmp-total b id o)
+
+-- their levels
+pub levels_gathered : (es : Slots) (k : ℕ) (ls all : List Level) → IsDistinct is_same (ids es) → k < length es → ls ≡ map_of.keys (stack (board_of (drop (suc k) es))) → all ≡ with_level (level_of (object_at es k)) ls
+    → all ≡ map_of.keys (stack (board_of (drop k es)))
+levels_gathered =
+    gathered (λ (b : Board). map_of.keys (stack b)) (λ x. with_level (level_of x)) (λ ls. refl)
+    (λ b id o absent. keys-insert level_cmp-total (stack b) (level o.rank id) (body o) ∙ ap map_of.keys (sym (stack-insert b id o absent)))
 
 -- behind the last slot there is none
-pub gathered_none : (es : Slots) (n : ℕ) (ls : List Level) → n ≡ length es → ls ≡ [] → ls ≡ level_keys (slot_levels (drop n es))
-unfolding slot_levels
-gathered_none es n ls e is = is ∙ sym no_keys ∙ sym (ap (λ l. level_keys (slot_levels l)) (ap (λ m. drop m es) e ∙ drop-length es))
+pub slots_none : (es : Slots) (n : ℕ) → n ≡ length es → board_of (drop n es) ≡ map_of.empty
+unfolding board_of
+slots_none es n e = ap board_of (ap (λ m. drop m es) e ∙ drop-length es)
 
--- once all slots are gathered, they are the stack
-pub gathered_all : (es : Slots) (ls : List Level) → IsDistinct is_same (ids es) → ls ≡ level_keys (slot_levels es) → ls ≡ map_of.keys (stack (board_of es))
-gathered_all es ls d h = h ∙ ap map_of.keys (stack-slots es d)
+-- no objects have no ids, and no levels
+no_entries : {K : Type 0} (X : Type 0) (R : K → K → Ordering) → map_of.entries (map_of.empty {X = X} {R = R}) ≡ []
+no_entries X R = nil_from_length _ (sym (map_of.len-entries (map_of.empty {X = X} {R = R})) ∙ map_of.len-empty R X)
+
+pub no_ids : map_of.keys (map_of.empty {X = Object} {R = stamp_cmp}) ≡ []
+no_ids = ap (map (λ e. e.0)) (no_entries Object stamp_cmp)
+
+pub no_levels : map_of.keys (stack map_of.empty) ≡ []
+unfolding stack
+no_levels = ap (λ es. map_of.keys (map_of.from_entries {R = level_cmp} (levels es))) (no_entries Object stamp_cmp) ∙ ap (map (λ e. e.0)) (no_entries Body level_cmp)
 
 -- ---- the items, by level
-
--- less is not equal
-apart_from : (r : Ordering) → T (is_lt r) → is_eq r ≡ false
-apart_from Less h = refl
-apart_from Equal h = absurd h
-apart_from Greater h = absurd h
-
--- a level before all of a list is not in it
-not_below : (q : Level) (es : List (Level × Body)) → T (below_all level_cmp q es) → map_of.find level_cmp q es ≡ None
-not_below q [] h = refl
-not_below q (e ∷ es) h = ap (λ t. cond t (Some e.1) (map_of.find level_cmp q es)) (apart_from (level_cmp q e.0) (t_first _ _ h)) ∙ not_below q es (t_second _ _ h)
-
--- the test tells levels apart
-same_level : (p q : Level) → eq_by_cmp level_cmp p q ≡ true → p ≡ q
-same_level p q e = level_cmp-IsAntisymmetric p q (equal (level_cmp p q) e)
-  where
-    equal : (r : Ordering) → is_eq r ≡ true → r ≡ Equal
-    equal Less e = cc
-    equal Equal e = refl
-    equal Greater e = cc
 
 -- a level is itself
 at_itself : (q : Level) → eq_by_cmp level_cmp q q ≡ true
@@ -161,7 +127,7 @@ found_later : (q : Level) (v : Body) (e : Level × Body) (es : List (Level × Bo
     → map_of.find level_cmp q (e ∷ es) ≡ Some v
 found_later q v e es h f =
     elim (eq_by_cmp level_cmp q e.0) as (λ t. eq_by_cmp level_cmp q e.0 ≡ t → cond t (Some e.1) (map_of.find level_cmp q es) ≡ Some v) [
-      | true ↦ λ is. let none : map_of.find level_cmp q es ≡ None = not_below q es (subst (λ p. T (below_all level_cmp p es)) (sym (same_level q e.0 is)) h) in cc
+      | true ↦ λ is. let none : map_of.find level_cmp q es ≡ None = not_found level_cmp q es (subst (λ p. T (below_all level_cmp p es)) (sym (level_from_eq q e.0 is)) h) in cc
       | false ↦ λ is. f
     ] refl
 
@@ -175,41 +141,8 @@ items_in b d (e ∷ es) h f =
     let rest = items_in b d es (t_second _ _ h) (λ q v g. f q v (found_later q v e es (t_first _ _ h) g)) in
     ap (λ y. cons_option (item_of d e.0.id y) (filter_map (shown d) (without_ranks es))) (sym here) ∙ ap (cons_option (item_of d e.0.id (option_map body (map_of.get b e.0.id)))) rest
 
--- what a level finds is the object of its id
-ranked_body : (r : Rank) (v : Body) (x : Option Object) → at_rank r x ≡ Some v → option_map body x ≡ Some v
-ranked_body r v None h = cc
-ranked_body r v (Some o) h =
-    elim (is_same_rank r o.rank) as (λ t. cond t (Some (body o)) None ≡ Some v → Some (body o) ≡ Some v) [
-      | true ↦ λ g. g
-      | false ↦ λ g. cc
-    ] h
-
 -- the shown objects in list order, by the levels
 pub shown_by_levels : (b : Board) → filter_map (item_at_level b) (map_of.keys (stack b)) ≡ shown_items (listed b)
 shown_by_levels b =
     sym (items_in b (listed b) (map_of.entries (stack b)) (map_of.entries_sorted (stack b))
-    (λ q v f. ranked_body q.rank v (map_of.get b q.id) (sym (get-stack b q.rank q.id) ∙ map_of.get-entries (stack b) q ∙ f)))
-
--- an item in front, where there is one
-option_first : (x : Option Item) (xs : List Item) → cons_option x xs ≡ option_to_list x ++ xs
-option_first None xs = refl
-option_first (Some i) xs = refl
-
--- before the first level
-pub listed_first : (b : Board) (ls : List Level) (items : List Item) → ls ≡ map_of.keys (stack b) → items ≡ [] → items ++ filter_map (item_at_level b) ls ≡ shown_items (listed b)
-listed_first b ls items h none = (λ i. none i ++ filter_map (item_at_level b) (h i)) ∙ shown_by_levels b
-
--- one level
-pub listed_next : (b : Board) (ls rest : List Level) (l : Level) (items more : List Item) (x : Option Item) → items ++ filter_map (item_at_level b) ls ≡ shown_items (listed b)
-    → ls ≡ l ∷ rest → x ≡ item_of (listed b) l.id (option_map body (map_of.get b l.id)) → more ≡ items ++ option_to_list x
-    → more ++ filter_map (item_at_level b) rest ≡ shown_items (listed b)
-listed_next b ls rest l items more x h e is pushed =
-    ap (λ xs. xs ++ filter_map (item_at_level b) rest) pushed
-    ∙ append_assoc items (option_to_list x) (filter_map (item_at_level b) rest)
-    ∙ ap (λ xs. items ++ xs) (sym (option_first x (filter_map (item_at_level b) rest)) ∙ ap (λ y. cons_option y (filter_map (item_at_level b) rest)) is)
-    ∙ ap (λ ks. items ++ filter_map (item_at_level b) ks) (sym e)
-    ∙ h
-
--- after the last level
-pub listed_last : (b : Board) (ls : List Level) (items : List Item) → items ++ filter_map (item_at_level b) ls ≡ shown_items (listed b) → ls ≡ [] → items ≡ shown_items (listed b)
-listed_last b ls items h e = sym (append-nil items) ∙ ap (λ ks. items ++ filter_map (item_at_level b) ks) (sym e) ∙ h
+    (λ q v f. sym (some_ranked q.rank v (map_of.get b q.id) (sym f ∙ sym (map_of.get-entries (stack b) q) ∙ get-stack b q.rank q.id))))

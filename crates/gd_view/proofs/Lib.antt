@@ -3,3 +3,4 @@ pub mod ChainLemmas
 pub mod LevelLemmas
 pub mod SumLemmas
 pub mod WriteLemmas
+pub mod Rulesets

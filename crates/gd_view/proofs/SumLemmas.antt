@@ -1,17 +1,18 @@
 -- What stands above all objects, by what is known of greater ids.
-use Rattle.std.proofs.Common.{◌≡◌, ℕ, zero, suc, ◌+◌, ◌<◌, ◌≤◌, Bool, true, false, cond, ◌||◌, List, [], ◌∷◌, ◌++◌, map, length, drop, Option, None, Some, refl, sym, ap, ◌∙◌, subst, T, arith}
+use Rattle.std.proofs.Common.{◌≡◌, ℕ, suc, ◌+◌, ◌<◌, ◌≤◌, Bool, true, false, cond, ◌||◌, List, [], ◌∷◌, ◌++◌, map, length, Option, None, Some, refl, sym, ap, ◌∙◌, subst, T, arith}
 use Rattle.std.specs.Prelude.{option_map, is_some, IfSome}
 use Rattle.std.specs.Option.{option_flatten}
-use Rattle.std.specs.List.{IsDistinct, AllByRecursion, list_any}
+use Rattle.std.specs.List.{AllByRecursion as Every, list_any}
 use Rattle.std.specs.FinMap as map_of
 use Rattle.std.specs.FinMap.Entries.{put, below_all}
 use Rattle.std.proofs.lemmas.Int.{ints}
-use Rattle.std.proofs.Math.Seq.{drop-length}
 use Rattle.indexmap.specs.IndexMap as index_map
 use Rattle.gd_base.specs.declared.ranges.TheConstants.{SESSION_EVENTS}
 use Rattle.gd_base.specs.Stamps.{stamp_cmp, is_same, is_before}
 use Rattle.gd_base.specs.contracts.stamp.StampPartialEq.TheImpl.{eq-value}
-use Rattle.gd_base.proofs.StampLemmas.{stamp_cmp-total, is_same-true, is_same-comm, is_before-apart, is_before-trans}
+use Rattle.gd_base.proofs.Insertions.{Rises}
+use Rattle.gd_base.proofs.Lists.{Every-back}
+use Rattle.gd_base.proofs.StampLemmas.{is_same-true, is_same-comm, is_before-apart, is_before-trans}
 use Rattle.gd_base.specs.Stamps.{Stamp}
 use Rattle.gd_model.specs.declared.object.Link.{Link}
 use Rattle.gd_model.specs.declared.object.Object.{Object}
@@ -22,32 +23,20 @@ use Rattle.gd_model.specs.Board.{Board, listed}
 use Rattle.gd_model.specs.Shown.{above, above_by, through}
 use Rattle.gd_drawing.proofs.Chains.{above-link}
 use Rattle.gd_drawing.proofs.Stacking.{t_first, t_second, of_t}
-use Rattle.gd_drawing.proofs.Lookups.{same_board}
-use Rattle.gd_canvas.specs.Slots.{Slots, board_of, ids, object_of, object_at}
 use Rattle.gd_model.specs.declared.above.Above.{Above}
 use Rattle.gd_view.specs.declared.known.Known.{Known}
 use Rattle.gd_view.specs.Chains.{group_in, Within}
-use Rattle.gd_view.specs.Sums.{known, above_of, above_at, with_id, AreKnown}
+use Rattle.gd_view.specs.Sums.{known, above_of, above_at, AreKnown}
 use Rattle.gd_drawing.proofs.Listed.{find-listed}
-use Rattle.std.proofs.lemmas.List.{append-nil, append_assoc, length-append}
-use Rattle.gd_view.proofs.ChainLemmas.{wider}
-use Rattle.gd_view.proofs.LevelLemmas.{apart_none, put_key}
-use Rattle.gd_view.proofs.WalkLemmas.{same_test, no_length}
+use Rattle.std.proofs.lemmas.List.{append_assoc, length-append, length-map}
+use Rattle.gd_view.proofs.ChainLemmas.{by_group}
+use Rattle.gd_view.proofs.WalkLemmas.{put_found}
 
 -- ---- one object
 
--- no group, nothing above
-tested : (d : Drawing) (l : Link) (t : Bool) (x : Option Body) → cond t (through l x (λ g. above d l.parent g.link)) None ≡ through l (cond t x None) (λ g. above d l.parent g.link)
-tested d l true x = refl
-tested d l false x = refl
-
 -- what stands above an object with a link, by its group
 above_group : (d : Drawing) (id : Stamp) (l : Link) → above d id (Some l) ≡ through l (group_in d id l) (λ g. above d l.parent g.link)
-above_group d id l = above-link d id l ∙ tested d l (is_before id l.parent) (map_of.find stamp_cmp l.parent d)
-
--- a link that leads nowhere
-pub sum_none : (d : Drawing) (id : Stamp) (l : Link) → None ≡ group_in d id l → None ≡ above d id (Some l)
-sum_none d id l e = ap (λ x. through l x (λ g. above d l.parent g.link)) e ∙ sym (above_group d id l)
+above_group d id l = above-link d id l ∙ by_group l (λ g. above d l.parent g.link) (is_before id l.parent) (map_of.find stamp_cmp l.parent d)
 
 -- a link to a group whose sum is known
 pub sum_some : (d : Drawing) (id : Stamp) (l : Link) (g : Body) (x : Option Above) → Some g ≡ group_in d id l → (is_before id l.parent ≡ true → x ≡ above_at d l.parent)
@@ -63,49 +52,11 @@ pub put_sum : (j k : Known) (id : Stamp) (x : Option Above)
     → ((q : Stamp) → index_map.get eq-value.it k.sums q ≡ cond (eq-value.it id q) (Some x) (index_map.get eq-value.it j.sums q))
     → (q : Stamp) → known k q ≡ cond (is_same q id) x (known j q)
 put_sum j k id x h q =
-    ap (λ (e : Stamp → Stamp → Bool). option_flatten (index_map.get e k.sums q)) (sym same_test)
-    ∙ ap option_flatten (h q)
-    ∙ ap (λ (e : Stamp → Stamp → Bool). option_flatten (cond (e id q) (Some x) (index_map.get e j.sums q))) same_test
-    ∙ ap (λ t. option_flatten (cond t (Some x) (index_map.get is_same j.sums q))) (is_same-comm id q)
-    ∙ by (is_same q id)
+    ap option_flatten (put_found j.sums k.sums id x h q) ∙ by (is_same q id)
   where
     by : (t : Bool) → option_flatten (cond t (Some x) (index_map.get is_same j.sums q)) ≡ cond t x (known j q)
     by true = refl
     by false = refl
-
--- ---- the ids of the slots
-
--- taking out an object that isn't there changes nothing
-removed_none : (b : Board) (id : Stamp) → map_of.get b id ≡ None → map_of.remove b id ≡ b
-removed_none b id h = same_board _ _ (λ q. map_of.get-remove stamp_cmp-total b id q ∙ by q (is_same q id) refl)
-  where
-    by : (q : Stamp) (t : Bool) → is_same q id ≡ t → cond t None (map_of.get b q) ≡ map_of.get b q
-    by q true is = sym (ap (map_of.get b) (is_same-true q id is) ∙ h)
-    by q false is = refl
-
--- one slot more
-ids_step : (e : Stamp × Option Object) (es : Slots) (ks : List Stamp) → AllByRecursion (λ y. is_same e.0 y ≡ false) (ids es) → ks ≡ map_of.keys (board_of es)
-    → with_id (option_map (λ p. p.0) (object_of (Some e))) ks ≡ map_of.keys (board_of (e ∷ es))
-unfolding board_of
-ids_step (id, None) es ks d h = h ∙ ap map_of.keys (sym (removed_none (board_of es) id (apart_none id es d)))
-ids_step (id, Some o) es ks d h = put_key stamp_cmp id o ks (map_of.entries (board_of es)) h ∙ ap (map (λ e. e.0)) (sym (map_of.entries-insert stamp_cmp-total (board_of es) id o))
-
--- the slot at the place k, put to those behind it
-pub ids_gathered : (es : Slots) (k : ℕ) (ks more : List Stamp) → IsDistinct is_same (ids es) → k < length es → ks ≡ map_of.keys (board_of (drop (suc k) es)) → more ≡ with_id (option_map (λ p. p.0) (object_at es k)) ks
-    → more ≡ map_of.keys (board_of (drop k es))
-unfolding IsDistinct
-ids_gathered [] k ks more d below h is = absurd (omega arith)
-ids_gathered (e ∷ es) zero ks more d below h is = is ∙ ids_step e es ks d.0 h
-ids_gathered (e ∷ es) (suc k) ks more d below h is = ids_gathered es k ks more d.1 (omega arith) h is
-
--- no slot, no id
-no_ids : map_of.keys (board_of []) ≡ []
-unfolding board_of
-no_ids = ap (map (λ e. e.0)) (no_length (map_of.entries (map_of.empty {X = Object} {R = stamp_cmp})) (sym (map_of.len-entries (map_of.empty {X = Object} {R = stamp_cmp})) ∙ map_of.len-empty stamp_cmp Object))
-
--- behind the last slot there is none
-pub ids_none : (es : Slots) (n : ℕ) (ks : List Stamp) → n ≡ length es → ks ≡ [] → ks ≡ map_of.keys (board_of (drop n es))
-ids_none es n ks e is = is ∙ sym no_ids ∙ sym (ap (λ l. map_of.keys (board_of l)) (ap (λ m. drop m es) e ∙ drop-length es))
 
 -- ---- the loop
 
@@ -118,18 +69,12 @@ pub record Sums (d : Drawing) (done : List Stamp) (k : Known) : Type 0 where
   pub are : (q : Stamp) → known k q ≡ cond (is_member q done) (above_at d q) None
   pub within : (q : Stamp) → IfSome (known k q) (λ a. Within (length done) a)
 
--- x is before all of them
-abbrev Below : Stamp → List Stamp → Type 0
-Below x [] = Unit {0}
-Below x (k ∷ ks) = (is_before x k ≡ true) × Below x ks
-
 -- each is before those behind it
 abbrev Rising : List Stamp → Type 0
-Rising [] = Unit {0}
-Rising (k ∷ ks) = Below k ks × Rising ks
+Rising = Rises (λ k. k)
 
 -- the keys behind a key of a board are greater
-below_keys : (x : Stamp) (es : List (Stamp × Object)) → T (below_all stamp_cmp x es) → Below x (map (λ e. e.0) es)
+below_keys : (x : Stamp) (es : List (Stamp × Object)) → T (below_all stamp_cmp x es) → Every (λ k. is_before x k ≡ true) (map (λ e. e.0) es)
 below_keys x [] h = tt
 below_keys x (e ∷ es) h = (of_t _ (t_first _ _ h), below_keys x es (t_second _ _ h))
 
@@ -138,11 +83,6 @@ rising_keys : (es : List (Stamp × Object)) → T (map_of.is_sorted stamp_cmp es
 rising_keys [] h = tt
 rising_keys (e ∷ es) h = (below_keys e.0 es (t_first _ _ h), rising_keys es (t_second _ _ h))
 
--- a key is before one further behind
-below_in : (r id : Stamp) (rs done : List Stamp) → Below r (rs ++ id ∷ done) → is_before r id ≡ true
-below_in r id [] done h = h.0
-below_in r id (x ∷ rs) done h = below_in r id rs done h.1
-
 -- a greater id is not that key
 past : (p r : Stamp) (ks : List Stamp) → is_before r p ≡ true → is_member p (r ∷ ks) ≡ is_member p ks
 past p r ks h = ap (λ t. t || is_member p ks) (is_same-comm p r ∙ is_before-apart r p h)
@@ -150,7 +90,7 @@ past p r ks h = ap (λ t. t || is_member p ks) (is_same-comm p r ∙ is_before-a
 -- a greater id than the one at hand is among those that are done
 member_above : (rest done : List Stamp) (id p : Stamp) → Rising (rest ++ id ∷ done) → is_before id p ≡ true → is_member p (rest ++ id ∷ done) ≡ is_member p done
 member_above [] done id p h l = past p id done l
-member_above (r ∷ rs) done id p h l = past p r (rs ++ id ∷ done) (is_before-trans r id p (below_in r id rs done h.0) l) ∙ member_above rs done id p h.1 l
+member_above (r ∷ rs) done id p h l = past p r (rs ++ id ∷ done) (is_before-trans r id p (Every-back _ rs (id ∷ done) h.0).0 l) ∙ member_above rs done id p h.1 l
 
 -- the ids that are left and those that are done make the whole, and the sums of those are kept
 pub record Summed (b : Board) (ks : List Stamp) (k : Known) (turn : ℕ) : Type 0 where
@@ -159,14 +99,13 @@ pub record Summed (b : Board) (ks : List Stamp) (k : Known) (turn : ℕ) : Type 
   pub count : turn ≡ length done
   pub sums : Sums (listed b) done k
 
--- an object that is not there has nothing above it
-none_there : (b : Board) (q : Stamp) (x : Option Object) → map_of.get b q ≡ x → is_some x ≡ false → None ≡ above_at (listed b) q
-none_there b q None e h = sym (ap (above_of (listed b) q) (find-listed b q ∙ ap (option_map body) e))
-none_there b q (Some o) e h = cc
-
 -- an id that is no key has nothing
 no_key : (b : Board) (q : Stamp) → is_member q (map_of.keys b) ≡ false → None ≡ above_at (listed b) q
-no_key b q h = none_there b q (map_of.get b q) refl (map_of.contains_key-keys b q ∙ h)
+no_key b q h = by (map_of.get b q) refl (map_of.contains_key-keys b q ∙ h)
+  where
+    by : (x : Option Object) → x ≡ map_of.get b q → is_some x ≡ false → None ≡ above_at (listed b) q
+    by None e h = ap (λ y. above_of (listed b) q (option_map body y)) e ∙ ap (above_of (listed b) q) (sym (find-listed b q))
+    by (Some o) e h = cc
 
 -- what is kept for the keys alone is what is kept for all
 by_key : (b : Board) (q : Stamp) (t : Bool) → is_member q (map_of.keys b) ≡ t → cond t (above_at (listed b) q) None ≡ above_at (listed b) q
@@ -181,28 +120,20 @@ known_above {b = b} {k = k} s rest id e p l =
     let rising : Rising (rest ++ id ∷ s.done) = subst Rising all (rising_keys (map_of.entries b) (map_of.entries_sorted b)) in
     s.sums.are p ∙ by_key b p (is_member p s.done) (ap (is_member p) all ∙ member_above rest s.done id p rising l)
 
--- the sums that are known are within the number of turns
-pub known_within : {b : Board} {ks : List Stamp} {k : Known} {turn : ℕ} → Summed b ks k turn → (p : Stamp) → IfSome (known k p) (λ a. Within turn a)
-known_within {k = k} s p = subst (λ n. IfSome (known k p) (λ a. Within n a)) (sym s.count) (s.sums.within p)
-
--- as many ids as objects
-same_length : (es : List (Stamp × Object)) → length es ≡ length (map (λ e. e.0) es)
-same_length [] = refl
-same_length (e ∷ es) = ap suc (same_length es)
-
 -- there are no more turns than objects
 pub few_turns : {b : Board} {ks : List Stamp} {k : Known} {turn : ℕ} → Summed b ks k turn → (rest : List Stamp) (id : Stamp) → ks ≡ rest ++ id ∷ [] → map_of.len b ≤ SESSION_EVENTS → turn < SESSION_EVENTS
 few_turns {b = b} {ks = ks} s rest id e h =
-    let keys : length (map_of.entries b) ≡ length (map_of.keys b) = same_length (map_of.entries b) in
+    let keys : length (map_of.entries b) ≡ length (map_of.keys b) = sym (length-map (map_of.entries b) _) in
     let size : map_of.len b ≡ length (map_of.entries b) = map_of.len-entries b in
     let parts : length (map_of.keys b) ≡ length ks + length s.done = ap length s.all ∙ length-append ks s.done in
     let more : length ks ≡ length rest + 1 = ap length e ∙ length-append rest (id ∷ []) in
     let count = s.count in
     omega arith
 
--- a sum of n links is within one link more
-one_wider : (n : ℕ) (s : Above) → Within n s → Within (suc n) s
-one_wider n s w =
+-- a sum of few links is one of more links
+some_wider : (n m : ℕ) (x : Option Above) → n ≤ m → IfSome x (λ a. Within n a) → IfSome x (λ a. Within m a)
+some_wider n m None h w = tt
+some_wider n m (Some s) h w =
     let left = w.left in
     let right = w.right in
     let up = w.up in
@@ -212,26 +143,6 @@ one_wider n s w =
       right = omega (arith, ints);
       up = omega (arith, ints);
       down = omega (arith, ints);
-    }
-
--- the same where there is a sum
-some_wider : (n : ℕ) (x : Option Above) → IfSome x (λ a. Within n a) → IfSome x (λ a. Within (suc n) a)
-some_wider n None h = tt
-some_wider n (Some a) h = one_wider n a h
-
--- the same up to all links
-all_wider : (n : ℕ) (x : Option Above) → n ≤ SESSION_EVENTS → IfSome x (λ a. Within n a) → IfSome x (λ a. Within SESSION_EVENTS a)
-all_wider n None l h = tt
-all_wider n (Some a) l h = wider n a l h
-
--- before the first turn
-pub summed_none : (b : Board) (ks : List Stamp) (k : Known) → ks ≡ map_of.keys b → ((q : Stamp) → known k q ≡ None) → Summed b ks k 0
-summed_none b ks k e h =
-    record {
-      done = [];
-      all = sym e ∙ sym (append-nil ks);
-      count = refl;
-      sums = record { are = h; within = λ q. subst (λ x. IfSome x (λ a. Within 0 a)) (sym (h q)) tt };
     }
 
 -- one turn
@@ -262,24 +173,16 @@ summed_next {b = b} {k = k} {turn = turn} s rest id x next more e is within put 
 
     bound : (q : Stamp) (t : Bool) → IfSome x (λ a. Within (suc (length s.done)) a) → IfSome (cond t x (known k q)) (λ a. Within (suc (length s.done)) a)
     bound q true w = w
-    bound q false w = some_wider (length s.done) (known k q) (s.sums.within q)
+    bound q false w = some_wider (length s.done) _ (known k q) (omega arith) (s.sums.within q)
 
 -- after the last turn
 pub summed_all : {b : Board} {ks : List Stamp} {k : Known} {turn : ℕ} → Summed b ks k turn → ks ≡ [] → map_of.len b ≤ SESSION_EVENTS → AreKnown (listed b) k
 summed_all {b = b} {k = k} s e few =
     let all : map_of.keys b ≡ s.done = s.all ∙ ap (λ ks. ks ++ s.done) e in
-    let keys : length (map_of.entries b) ≡ length (map_of.keys b) = same_length (map_of.entries b) in
+    let keys : length (map_of.entries b) ≡ length (map_of.keys b) = sym (length-map (map_of.entries b) _) in
     let size : map_of.len b ≡ length (map_of.entries b) = map_of.len-entries b in
     let parts : length (map_of.keys b) ≡ length s.done = ap length all in
     record {
       are = λ q. s.sums.are q ∙ by_key b q (is_member q s.done) (ap (is_member q) all);
-      within = λ q. all_wider (length s.done) (known k q) (omega arith) (s.sums.within q);
+      within = λ q. some_wider (length s.done) _ (known k q) (omega arith) (s.sums.within q);
     }
-
--- an object that is not there
-pub at_none : (b : Board) (id : Stamp) → None ≡ map_of.get b id → None ≡ above_at (listed b) id
-at_none b id e = ap (λ x. above_of (listed b) id (option_map body x)) e ∙ ap (above_of (listed b) id) (sym (find-listed b id))
-
--- an object that is there
-pub at_some : (b : Board) (id : Stamp) (o : Object) → Some o ≡ map_of.get b id → above (listed b) id o.link ≡ above_at (listed b) id
-at_some b id o e = ap (λ x. above_of (listed b) id (option_map body x)) e ∙ ap (above_of (listed b) id) (sym (find-listed b id))

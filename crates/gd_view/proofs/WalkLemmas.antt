@@ -1,18 +1,21 @@
 -- The printed order, by the places of the items.
-use Rattle.std.proofs.Common.{◌≡◌, ℕ, zero, suc, ◌+◌, ◌<◌, ◌≤◌, Bool, true, false, cond, List, [], ◌∷◌, ◌++◌, length, drop, Option, None, Some, refl, sym, ap, ◌∙◌, subst, arith}
+use Rattle.std.proofs.Common.{◌≡◌, ℕ, zero, suc, ◌+◌, ◌<◌, ◌≤◌, Bool, true, false, cond, List, [], ◌∷◌, ◌++◌, length, drop, Option, None, Some, refl, sym, ap, ◌∙◌, subst, arith, add-one, drop-drop}
 use Rattle.std.specs.Prelude.{is_none, option_to_list, reverse}
-use Rattle.std.specs.List.{filter, flat_map}
-use Rattle.std.proofs.lemmas.List.{append-nil, append_assoc, reverse-append, reverse-reverse, length-drop}
+use Rattle.std.specs.List.{AllByRecursion as Every, filter, flat_map}
+use Rattle.std.proofs.lemmas.List.{append-nil, append_assoc, reverse-append, length-append, length-drop}
 use Rattle.std.proofs.Math.ListN.{get_or}
 use Rattle.std.proofs.Math.Seq.{drop-cons, drop-length}
 use Rattle.gd_base.specs.Stamps.{is_same}
-use Rattle.gd_base.proofs.StampLemmas.{is_same-true, is_same-comm, is_same-eq}
+use Rattle.gd_base.proofs.Lists.{Every-append, Every-prefix, Every-back}
+use Rattle.gd_base.proofs.StampLemmas.{is_same-true, is_same-comm}
 use Rattle.gd_base.specs.contracts.stamp.StampPartialEq.TheImpl.{eq-value}
 use Rattle.indexmap.specs.IndexMap as index_map
+use Rattle.indexmap.specs.IndexMap.{IndexMap}
 use Rattle.gd_base.specs.Stamps.{Stamp}
 use Rattle.gd_base.specs.declared.item.Item.{Item}
 use Rattle.gd_model.specs.Shown.{is_parent, under, in_printed_order, climbs}
 use Rattle.gd_drawing.proofs.PrintedOrder.{under-step}
+use Rattle.gd_canvas.proofs.SlotLemmas.{same_is}
 use Rattle.gd_view.specs.Walk.{same_parent, first_from, nexts_from, first_in}
 use Rattle.gd_view.specs.declared.firsts.Firsts.{Firsts}
 
@@ -60,10 +63,7 @@ same_parent-true (Some p) q e = same_some p q e
 
 -- behind the first of the items left
 drop_more : {X : Type 0} (k : ℕ) (x : X) (xs all : List X) → drop k all ≡ x ∷ xs → drop (suc k) all ≡ xs
-drop_more zero x xs [] e = cc
-drop_more zero x xs (y ∷ all) e = ap (drop 1) e
-drop_more (suc k) x xs [] e = cc
-drop_more (suc k) x xs (y ∷ all) e = drop_more k x xs all e
+drop_more k x xs all e = ap (λ n. drop n all) (sym (add-one k)) ∙ sym (drop-drop 1 k all) ∙ ap (drop 1) e
 
 -- the places from the first one on are the items with that parent
 pub found : (all : List Item) (p : Option Stamp) (xs : List Item) (k : ℕ) → drop k all ≡ xs → branch_of all (first_from k p xs) ≡ flat_map (followed all) (filter (chosen p) xs)
@@ -77,11 +77,6 @@ found all p (i ∷ es) k e =
       | false ↦ λ is. found all p es (suc k) (drop_more k i es all e)
     ] refl
 
--- no place puts nothing on the stack
-opened_none : (all : List Item) (ks : List ℕ) → pending all (ks ++ []) ≡ pending all ks
-unfolding branch_of
-opened_none all ks = ap (pending all) (append-nil ks)
-
 -- one place on the stack
 pub opened_some : (all : List Item) (ks : List ℕ) (k : ℕ) → pending all (ks ++ k ∷ []) ≡ branch all k ++ pending all ks
 unfolding pending
@@ -91,7 +86,7 @@ opened_some all (x ∷ ks) k = ap (λ ps. ps ++ branch all x) (opened_some all k
 -- a place that is put on the stack is printed first
 pub opened : (all : List Item) (ks : List ℕ) (o : Option ℕ) → pending all (ks ++ option_to_list o) ≡ branch_of all o ++ pending all ks
 unfolding branch_of
-opened all ks None = opened_none all ks
+opened all ks None = ap (pending all) (append-nil ks)
 opened all ks (Some k) = opened_some all ks k
 
 -- ---- links
@@ -134,10 +129,6 @@ linked_more {items = items} {n = n} {f = f} {next = next} l k d g later p more i
       next = pushed ∙ (λ j. nexts j ++ last j ∷ []) ∙ sym (reverse-append (first_from (suc k) i.parent (drop (suc k) items) ∷ []) (nexts_from (suc k) (drop (suc k) items))) ∙ ap (λ es. reverse (nexts_from k es)) (sym here);
     }
 
--- once all items are linked, the next places are reversed
-pub linked_all : {items : List Item} {f : Firsts} {next back : List (Option ℕ)} → Linked items 0 f next → back ≡ reverse next → back ≡ nexts_from 0 items
-linked_all {items = items} l e = e ∙ ap reverse l.next ∙ reverse-reverse (nexts_from 0 items)
-
 -- ---- the walk
 
 -- there is a next place, or none, for each item
@@ -172,9 +163,14 @@ branch_step all c k d h =
 
 -- ---- the map of the first items
 
--- the map of the first items compares ids as `is_same` does
-pub same_test : eq-value.it ≡ is_same
-same_test = λ i s t. is_same-eq s t i
+-- what a map by id finds after a value was put, by the equality that it goes by
+pub put_found : {X S : Type 0} (old new : IndexMap Stamp X S) (s : Stamp) (x : X) → ((q : Stamp) → index_map.get eq-value.it new q ≡ cond (eq-value.it s q) (Some x) (index_map.get eq-value.it old q))
+    → (q : Stamp) → index_map.get is_same new q ≡ cond (is_same q s) (Some x) (index_map.get is_same old q)
+put_found old new s x h q =
+    ap (λ (e : Stamp → Stamp → Bool). index_map.get e new q) (sym same_is)
+    ∙ h q
+    ∙ ap (λ (e : Stamp → Stamp → Bool). cond (e s q) (Some x) (index_map.get e old q)) same_is
+    ∙ ap (λ t. cond t (Some x) (index_map.get is_same old q)) (is_same-comm s q)
 
 -- the first item of a group is put
 pub put_in_group : (f g : Firsts) (s : Stamp) (k : ℕ) (p : Option Stamp) → g.top ≡ f.top → p ≡ Some s
@@ -182,28 +178,13 @@ pub put_in_group : (f g : Firsts) (s : Stamp) (k : ℕ) (p : Option Stamp) → g
     → (q : Option Stamp) → first_in g q ≡ cond (same_parent q p) (Some k) (first_in f q)
 put_in_group f g s k p top is h None = top ∙ ap (λ x. cond (is_none x) (Some k) f.top) (sym is)
 put_in_group f g s k p top is h (Some q) =
-    ap (λ (e : Stamp → Stamp → Bool). index_map.get e g.groups q) (sym same_test)
-    ∙ h q
-    ∙ ap (λ (e : Stamp → Stamp → Bool). cond (e s q) (Some k) (index_map.get e f.groups q)) same_test
-    ∙ ap (λ t. cond t (Some k) (index_map.get is_same f.groups q)) (is_same-comm s q)
-    ∙ ap (λ x. cond (is_parent q x) (Some k) (index_map.get is_same f.groups q)) (sym is)
+    put_found f.groups g.groups s k h q ∙ ap (λ x. cond (is_parent q x) (Some k) (index_map.get is_same f.groups q)) (sym is)
 
 -- ---- the loop of the walk
 
 -- all places are below n
 abbrev pub within : ℕ → List ℕ → Type 0
-within n [] = Unit {0}
-within n (k ∷ ks) = (k < n) × within n ks
-
--- so they stay when one is put last
-within-opened : (n : ℕ) (ks : List ℕ) (o : Option ℕ) → within n ks → within n (option_to_list o) → within n (ks ++ option_to_list o)
-within-opened n [] o h more = more
-within-opened n (k ∷ ks) o h more = (h.0, within-opened n ks o h.1 more)
-
--- the last place and those before it
-within-last : (n : ℕ) (ks : List ℕ) (k : ℕ) → within n (ks ++ k ∷ []) → within n ks × (k < n)
-within-last n [] k h = (tt, h.0)
-within-last n (x ∷ ks) k h = let rest = within-last n ks k h.1 in ((h.0, rest.0), rest.1)
+within n ks = Every (λ k. k < n) ks
 
 -- the first item of a group is an item
 first-within : (n k : ℕ) (p : Option Stamp) (es : List Item) → k + length es ≤ n → within n (option_to_list (first_from k p es))
@@ -240,11 +221,11 @@ walk_starts all f links top empty stack out first next is none e nothing =
 pub walk_inside : {all : List Item} {f : Firsts} {links : List (Option ℕ)} {out : List Item} {stack : List ℕ} → Walking all f links out stack
     → (rest : List ℕ) (k : ℕ) → stack ≡ rest ++ k ∷ [] → (k < length all) × (k < length links)
 walk_inside {all = all} {links = links} w rest k e =
-    let here = (within-last (length all) rest k (subst (within (length all)) e w.inside)).1 in
+    let here = (Every-back _ rest (k ∷ []) (subst (within (length all)) e w.inside)).0 in
     let same : length links ≡ length all = ap length w.next ∙ length-nexts 0 all in
     (here, omega arith)
 
--- one item is printed, and less is left
+-- one item is printed
 pub walk_goes_on : {all : List Item} {f : Firsts} {links : List (Option ℕ)} {out : List Item} {stack : List ℕ} → Walking all f links out stack
     → climbs all ≡ true
     → (rest : List ℕ) (k : ℕ) (d i : Item) (x later own : Option ℕ) (one two : List ℕ) (printed : List Item)
@@ -255,10 +236,10 @@ pub walk_goes_on : {all : List Item} {f : Firsts} {links : List (Option ℕ)} {o
     → one ≡ rest ++ option_to_list later
     → two ≡ one ++ option_to_list own
     → printed ≡ out ++ i ∷ []
-    → Walking all f links printed two × (length (pending all two) < length (pending all stack))
+    → Walking all f links printed two
 walk_goes_on {all = all} {f = f} {links = links} {out = out} {stack = stack} w c rest k d i x later own one two printed e is next child first second pushed =
-    let inside = within-last (length all) rest k (subst (within (length all)) e w.inside) in
-    let here : k < length all = inside.1 in
+    let inside = subst (within (length all)) e w.inside in
+    let here : k < length all = (Every-back _ rest (k ∷ []) inside).0 in
     let behind : later ≡ first_from (suc k) (get_or all k d).parent (drop (suc k) all) = next ∙ ap (λ ls. get_or ls k x) w.next ∙ next_at k all d x here in
     let below : own ≡ first_from 0 (Some (get_or all k d).id) all = child ∙ w.first (Some i.id) ∙ ap (λ (x : Item). first_from 0 (Some x.id) all) is in
     let left : pending all two ≡ branch_of all own ++ (branch_of all later ++ pending all rest) =
@@ -266,26 +247,28 @@ walk_goes_on {all = all} {f = f} {links = links} {out = out} {stack = stack} w c
     let was : pending all stack ≡ i ∷ (branch_of all own ++ branch_of all later) ++ pending all rest =
     ap (pending all) e ∙ opened_some all rest k ∙ ap (λ bs. bs ++ pending all rest) (branch_step all c k d here ∙ sym (λ j. is j ∷ (branch_of all (below j) ++ branch_of all (behind j)))) in
     let now : pending all stack ≡ i ∷ pending all two = was ∙ ap (λ ps. i ∷ ps) (append_assoc (branch_of all own) (branch_of all later) (pending all rest) ∙ sym left) in
-    let fewer = ap length now in
     let last : within (length all) (option_to_list later) = subst (λ o. within (length all) (option_to_list o)) (sym behind) (first-within (length all) (suc k) _ (drop (suc k) all) (let n = length-drop (suc k) all in omega arith)) in
-    let mine : within (length all) (option_to_list own) = subst (λ o. within (length all) (option_to_list o)) (sym below) (first-within (length all) 0 _ all (omega arith)) in (
-      record {
-        first = w.first;
-        next = w.next;
-        whole = ap (λ ps. ps ++ pending all two) pushed ∙ append_assoc out (i ∷ []) (pending all two) ∙ ap (λ ps. out ++ ps) (sym now) ∙ w.whole;
-        inside =
-            subst (within (length all)) (sym second)
-            (within-opened (length all) one own (subst (within (length all)) (sym first) (within-opened (length all) rest later inside.0 last)) mine);
-      },
-      omega (arith, fewer),
-    )
+    let mine : within (length all) (option_to_list own) = subst (λ o. within (length all) (option_to_list o)) (sym below) (first-within (length all) 0 _ all (omega arith)) in
+    record {
+      first = w.first;
+      next = w.next;
+      whole = ap (λ ps. ps ++ pending all two) pushed ∙ append_assoc out (i ∷ []) (pending all two) ∙ ap (λ ps. out ++ ps) (sym now) ∙ w.whole;
+      inside =
+          subst (within (length all)) (sym second)
+          (Every-append _ one _ (subst (within (length all)) (sym first) (Every-append _ rest _ (Every-prefix _ rest (k ∷ []) inside) last)) mine);
+    }
+
+-- so less is left
+pub walk_shrinks : {all : List Item} {f : Firsts} {links : List (Option ℕ)} {out printed : List Item} {stack two : List ℕ} → Walking all f links out stack → Walking all f links printed two
+    → (i : Item) → printed ≡ out ++ i ∷ [] → length (pending all two) < length (pending all stack)
+walk_shrinks {all = all} {out = out} {printed = printed} {stack = stack} {two = two} w v i pushed =
+    let before = length-append out (pending all stack) in
+    let behind = length-append printed (pending all two) in
+    let whole : length (out ++ pending all stack) ≡ length (printed ++ pending all two) = ap length (w.whole ∙ sym v.whole) in
+    let more : length printed ≡ length out + 1 = ap length pushed ∙ length-append out (i ∷ []) in
+    omega arith
 
 -- nothing is left on an empty stack
 pub walk_ends : {all : List Item} {f : Firsts} {links : List (Option ℕ)} {out : List Item} {stack : List ℕ} → Walking all f links out stack → stack ≡ [] → out ≡ in_printed_order all
 unfolding pending
 walk_ends {all = all} {out = out} w e = sym (append-nil out) ∙ ap (λ ks. out ++ pending all ks) (sym e) ∙ w.whole
-
--- a list of no length is empty
-pub no_length : {X : Type 0} (xs : List X) → length xs ≡ 0 → xs ≡ []
-no_length [] e = refl
-no_length (x ∷ xs) e = absurd (omega arith)

@@ -52,6 +52,7 @@ fn above_within(canvas: &Canvas, id: Stamp, link: Option<Link>, most: u32) -> Op
 }
 
 /// The group that a link leads to, where it is there and has a greater id.
+#[tactic(auto, using(crate::proofs::Rulesets::drawn))]
 pub(crate) fn group_at<'a>(canvas: &'a Canvas, below: Stamp, link: &Link) -> Option<&'a Object>
     ensures { option_map body (option_copied result)
         ≡ group_in (listed (board_of canvas.now)) below link.now }

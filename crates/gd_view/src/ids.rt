@@ -10,6 +10,7 @@ use gd_canvas::Canvas;
 use std::alloc::{AllocError, Global};
 use std::collections::BTreeSet;
 
+#[tactic(auto, using(crate::proofs::LevelLemmas::slots_none, crate::proofs::LevelLemmas::no_ids))]
 pub(crate) fn ids(alloc: Global, canvas: &Canvas) -> Result<BTreeSet<Stamp>, AllocError>
     ensures { IfOk result (λ ids. ids.keys ≡ map_of.keys (board_of canvas.now)) }
 {

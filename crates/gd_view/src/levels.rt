@@ -11,6 +11,7 @@ use gd_model::Level;
 use std::alloc::{AllocError, Global};
 use std::collections::BTreeSet;
 
+#[tactic(auto, using(crate::proofs::LevelLemmas::slots_none, crate::proofs::LevelLemmas::no_levels))]
 pub(crate) fn levels(alloc: Global, canvas: &Canvas) -> Result<BTreeSet<Level>, AllocError>
     ensures { IfOk result (λ levels. levels.keys ≡ map_of.keys (stack (board_of canvas.now))) }
 {

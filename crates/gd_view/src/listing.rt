@@ -21,6 +21,7 @@ use gd_model::{Above, Kind, Object};
 use std::alloc::{AllocError, Global};
 
 /// The items of all objects that are shown, in list order.
+#[tactic(auto, using(crate::proofs::LevelLemmas::shown_by_levels))]
 pub(crate) fn shown_items(alloc: Global, canvas: &Canvas) -> Result<Vec<Item>, AllocError>
     requires { map_of.len (board_of canvas.now) ≤ SESSION_EVENTS }
     ensures { IfOk result (λ items. items.items ≡ shown_items (listed (board_of canvas.now))) }
@@ -43,6 +44,7 @@ fn put_last(items: &mut Vec<Item>, item: Option<Item>) -> Result<(), AllocError>
     Ok(())
 }
 
+#[tactic(auto, using(crate::proofs::Rulesets::drawn))]
 fn item_of(canvas: &Canvas, table: &Known, id: Stamp) -> Option<Item>
     requires { AreKnown (listed (board_of canvas.now)) table.now }
     ensures { result

@@ -29,6 +29,7 @@ impl Model for Picture {
 
 impl Picture {
     /// The picture of a drawing, which stays as it is.
+    #[tactic(auto, using(crate::proofs::Rulesets::drawn))]
     pub fn of(alloc: Global, canvas: &Canvas) -> Result<Picture, AllocError>
         requires { map_of.len (board_of canvas.now) ≤ SESSION_EVENTS }
         ensures { IfOk result (λ p. p ≡ items (listed (board_of canvas.now))) }

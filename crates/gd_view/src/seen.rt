@@ -17,6 +17,7 @@ use gd_canvas::Canvas;
 use gd_model::{Above, Kind, Object};
 
 /// The object of that id as it is shown. None where it isn't shown: it isn't there, is hidden, or is a dissolved group.
+#[tactic(auto, using(crate::proofs::Rulesets::drawn))]
 pub fn shown(canvas: &Canvas, id: Stamp) -> Option<Shown>
     requires { map_of.len (board_of canvas.now) ≤ SESSION_EVENTS }
     ensures { result ≡ seen (listed (board_of canvas.now)) id }

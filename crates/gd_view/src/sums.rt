@@ -38,6 +38,7 @@ pub(crate) fn sums(alloc: Global, canvas: &Canvas) -> Result<Known, AllocError>
 }
 
 /// What stands above the object of that id, by the sums that are known.
+#[tactic(auto, using(crate::proofs::Rulesets::drawn))]
 fn sum_at(canvas: &Canvas, table: &Known, id: Stamp, turn: u32) -> Option<Above>
     requires few { turn ≤ SESSION_EVENTS }
     requires greater { (p : stamps.Stamp) → IsTrue (is_before id p)

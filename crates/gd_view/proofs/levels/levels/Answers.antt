@@ -1,19 +1,14 @@
 use Rattle.std.proofs.Common.{◌≡◌, ◌-◌, suc, drop, ap, ◌∙◌, arith}
+use Rattle.std.specs.FinMap as map_of
 use Rattle.gd_view.specs.Levels.{with_level}
-use Rattle.gd_view.proofs.LevelLemmas.{slot_levels, level_keys, gathered, gathered_none, gathered_all}
+use Rattle.gd_model.specs.Board.{stack}
+use Rattle.gd_canvas.specs.Slots.{board_of}
+use Rattle.gd_view.proofs.LevelLemmas.{levels_gathered}
 use Rattle.gd_view.proofs.levels.levels.Goals as goal
-
-pub loop-place-init : goal.loop-place-init
-loop-place-init c = gathered_none c.args.canvas.now c.slots-place.result c.new-levels.result.keys c.slots-place.ensures.count c.new-levels.ensures.empty
 
 pub loop-place-preserved : goal.loop-place-preserved
 loop-place-preserved c =
     let next : c.loop-place.place ≡ suc (c.loop-place.place - 1) = omega (arith, c.loop-place-test.true) in
-    gathered c.args.canvas.now (c.loop-place.place - 1) c.loop-place.levels.keys c.add.new.levels.keys (omega (arith, c.loop-place-test.true, c.loop-place.auto.place, c.slots-place.ensures.count))
-    (c.loop-place.invariant ∙ ap (λ n. level_keys (slot_levels (drop n c.args.canvas.now))) next)
+    levels_gathered c.args.canvas.now (c.loop-place.place - 1) c.loop-place.levels.keys c.add.new.levels.keys c.slots-place.ensures.distinct (omega (arith, c.loop-place-test.true, c.loop-place.auto.place, c.slots-place.ensures.count))
+    (c.loop-place.invariant ∙ ap (λ n. map_of.keys (stack (board_of (drop n c.args.canvas.now)))) next)
     (c.in_ok-add.ensures ∙ ap (λ l. with_level l c.loop-place.levels.keys) c.level_at.ensures)
-
-pub returns : goal.returns
-returns c =
-    let none : c.loop-place.place ≡ 0 = omega (arith, c.loop-place-test.false) in
-    gathered_all c.args.canvas.now c.loop-place.levels.keys c.slots-place.ensures.distinct (c.loop-place.invariant ∙ ap (λ n. level_keys (slot_levels (drop n c.args.canvas.now))) none)

@@ -2,13 +2,14 @@ use Rattle.std.proofs.Common.{◌∙◌, sym, ap, refl, Bool}
 use Rattle.indexmap.specs.IndexMap as index_map
 use Rattle.gd_base.specs.Stamps.{Stamp}
 use Rattle.gd_view.specs.Walk.{first_in}
-use Rattle.gd_view.proofs.WalkLemmas.{same_test, put_in_group}
+use Rattle.gd_canvas.proofs.SlotLemmas.{same_is}
+use Rattle.gd_view.proofs.WalkLemmas.{put_in_group}
 use Rattle.gd_view.proofs.firsts.Firsts.put.Goals as goal
 
 pub returns-in_ok-insert-in-Some-clause-old : goal.returns-in_ok-insert-in-Some-clause-old
 returns-in_ok-insert-in-Some-clause-old c =
     c.in_ok-insert-in-Some.ensures.old
-    ∙ ap (λ (e : Stamp → Stamp → Bool). index_map.get e c.args.self.now.groups c.in-Some.parent) same_test
+    ∙ ap (λ (e : Stamp → Stamp → Bool). index_map.get e c.args.self.now.groups c.in-Some.parent) same_is
     ∙ ap (first_in c.args.self.now) (sym c.in-Some.is)
 
 pub returns-in_ok-insert-in-Some-clause-new : goal.returns-in_ok-insert-in-Some-clause-new
