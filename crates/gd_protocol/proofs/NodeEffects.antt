@@ -71,7 +71,7 @@ journal_of_records h old [] es p = ap (logged h) (sym (append-nil old)) ∙ ap (
 journal_of_records h old (Record bytes ∷ xs) [] p = absurd p
 journal_of_records h old (Record bytes ∷ xs) (e ∷ es) p =
     ap (λ (b : List ℕ). journal_after (journal_with (logged h old) (Record b)) xs) p.0
-    ∙ ap (λ (z : List ℕ). journal_after z xs) (logged-more h old e)
+    ∙ ap (λ (z : List ℕ). journal_after z xs) (logged-more drawings h old e)
     ∙ journal_of_records h (old ++ e ∷ []) xs es p.1
     ∙ ap (logged h) (append_assoc old (e ∷ []) es)
 journal_of_records h old (Head bytes ∷ xs) es p = absurd p

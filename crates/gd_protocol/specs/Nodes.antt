@@ -4,7 +4,7 @@ use Rattle.std.specs.List.{AllByRecursion}
 use Rattle.gd_effects.specs.Effects.{Effect, Head, cost}
 use Rattle.gd_events.specs.Events.{Event}
 use Rattle.gd_grammar.specs.HeaderBytes.{Header, header_bytes}
-use Rattle.gd_grammar.specs.Drawings.{logged}
+use Rattle.gd_grammar.specs.Drawings.{drawings, logged}
 use Rattle.gd_model.specs.Arrivals.{costs_from}
 use Rattle.gd_outside.specs.Seen.{Entry}
 use Rattle.gd_reference.specs.NodeRun.{IsEntry, IsRead, ReadLine, node_after, node_effects}
@@ -32,7 +32,7 @@ header_of n = journal_header (new_site n.me n.sites n.session)
 
 -- what its run begins with
 abbrev pub start_of : Node → Effect
-start_of n = Head (header_bytes (header_of n))
+start_of n = Head (header_bytes drawings (header_of n))
 
 -- a site of its session, with datagrams of bytes and lines in their ranges
 pub record IsNode (n : Node) : Type 0 where

@@ -3,9 +3,12 @@ ghost use Rattle.std.specs.Prelude.{◌≡◌, ℕ, List, Ok, IsTrue};
 ghost use Rattle.gd_events.specs.Events.{Event};
 ghost use Rattle.gd_events.specs.Ordered.{are_distinct, HoldSame};
 ghost use Rattle.gd_model.specs.Drawing.{picture};
-ghost use Rattle.gd_grammar.specs.HeaderBytes.{Header};
-ghost use Rattle.gd_grammar.specs.Drawings.{log};
+ghost use Rattle.gd_grammar.specs.FieldBytes.{AreBytes};
+ghost use Rattle.gd_grammar.specs.HeaderBytes.{Header, upgraded};
+ghost use Rattle.gd_grammar.specs.Drawings.{drawings, log, logged};
+ghost use Rattle.gd_effects.specs.Effects.{printed};
 ghost use Rattle.gd_reference.specs.DrawingText.{text};
+ghost use Rattle.gd_reference.specs.SlowRun.{upgraded_log};
 
 /// Lists of events with distinct stamps that hold the same events have the same text.
 pub fn same_events_print_the_same_text()
@@ -19,4 +22,12 @@ pub fn logs_with_the_same_events_show_the_same_drawing()
         → log b ≡ Ok (h, fs) → HoldSame es fs → picture es ≡ picture fs }
     ensures printed { (a b : List ℕ) (g h : Header) (es fs : List Event) → log a ≡ Ok (g, es)
         → log b ≡ Ok (h, fs) → HoldSame es fs → text (picture es) ≡ text (picture fs) }
+{}
+
+/// What `upgrade` prints of a log is a log with the same events, and a header of the newest version; so it has the same drawing.
+pub fn what_is_upgraded_is_a_log_of_the_same_events()
+    ensures bytes { (bytes : List ℕ) (h : Header) (es : List Event) → log bytes ≡ Ok (h, es)
+        → printed (upgraded_log bytes) ≡ logged (upgraded drawings h) es }
+    ensures read { (bytes : List ℕ) (h : Header) (es : List Event) → AreBytes bytes → log bytes ≡ Ok (h, es)
+        → log (printed (upgraded_log bytes)) ≡ Ok (upgraded drawings h, es) }
 {}
