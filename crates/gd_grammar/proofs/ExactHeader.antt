@@ -7,10 +7,11 @@ use Rattle.std.proofs.lemmas.Nat.{from_be_bytes-to_be_bytes_4, be_bytes_4}
 use Rattle.gd_base.specs.declared.fault.FieldWhy.TheVariants.{Version, Field}
 use Rattle.gd_grammar.specs.FieldBytes.{word_bytes}
 use Rattle.gd_base.specs.declared.ranges.TheConstants.{SITES}
+use Rattle.gd_grammar.specs.Fields.{word_at}
 use Rattle.gd_grammar.specs.LogBytes.{Header, IsHeader, magic, magic_at, version_at, session_at, sites_at, header_at, header_bytes}
 use Rattle.gd_grammar.proofs.Steady.{passed}
 use Rattle.gd_grammar.proofs.Exact.{Exact, joined, spelt, taking, done, took_as, exact_field, exact_bytes}
-use Rattle.gd_grammar.proofs.ExactFields.{exact_byte, exact_site}
+use Rattle.gd_grammar.proofs.ExactFields.{exact_byte, exact_word, exact_site}
 
 exact-magic : Exact magic_at (λ m. m ≡ magic) word_bytes
 unfolding magic_at
@@ -29,13 +30,8 @@ exact-version = exact_field exact_byte (λ v. v) (λ v. v) (λ v. v == 1) Versio
     (λ v s are t. (eqb-true v 1 t, refl))
 
 exact-session : Exact session_at (λ n. n < 2 ^ 32) word_bytes
-unfolding session_at
-exact-session = record {
-  written = λ n rest s. rw ((exact_bytes 4).written (word_bytes n) rest refl, from_be_bytes-to_be_bytes_4 n s) refl;
-  taken = λ bytes z are e.
-      taking (exact_bytes 4) bytes are _ z e (λ x.
-      done _ z x.on (record { sound = omega (arith, x.front 0, x.front 1, x.front 2, x.front 3); text = spelt x.text (sym (be_bytes_4 x.value _ x.sound x.front refl)) }));
-}
+unfolding session_at word_at
+exact-session = exact_word
 
 -- the number of sites of a session with that site
 record HasSite (site n : ℕ) : Type 0 where

@@ -137,17 +137,10 @@ members-keep stamp last (m ∷ ms) s =
 
 -- ---- operations
 
-four : (a b c d : Bool) → (a && (b && (c && d))) ≡ true → (a ≡ true) × (b ≡ true) × (c ≡ true) × (d ≡ true)
-four a b c d h =
-    let first = and_parts a (b && (c && d)) h in
-    let second = and_parts b (c && d) first.1 in
-    let third = and_parts c d second.1 in
-    (first.0, second.0, third.0, third.1)
-
 op-fields : (stamp : Stamp) (op : Op) → IsWellTyped op → KeepsRules stamp op → IsOp stamp op
 op-fields stamp (Create kind x y w h label) typed k =
-    let within = four _ _ _ _ k.ranges in
-    record { left = record { within = within.0 }; top = record { within = within.1 }; width = record { within = within.2 }; height = record { within = within.3 }; label = typed }
+    let ranges = k.ranges in
+    record { left = record { within = grind arith }; top = record { within = grind arith }; width = record { within = grind arith }; height = record { within = grind arith }; label = typed }
 op-fields stamp (Delete id) typed k = record { is_stamp = typed; before = k.before }
 op-fields stamp (Move id x y) typed k =
     let within = and_parts (is_within place_limit x) (is_within place_limit y) k.ranges in
