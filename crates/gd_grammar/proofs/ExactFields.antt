@@ -163,10 +163,10 @@ exact_shape = record {
   taken = λ bytes z are e.
       let kind = step exact_byte bytes are _ z e in
       let at = shape-taken bytes kind.rest kind.value in
-      on_tag kind.value 1 _ _ z kind.on (at Rect z kind.text) (λ e2.
-      on_tag kind.value 2 _ _ z e2 (at Ellipse z kind.text) (λ e3.
-      on_tag kind.value 3 _ _ z e3 (at Line z kind.text) (λ e4.
-      on_tag kind.value 4 _ _ z e4 (at Text z kind.text) (λ e5. no_tag _ z e5))));
+      on_tag kind.value 1 _ _ z kind.on (at Rect z kind.text) (λ _ e2.
+      on_tag kind.value 2 _ _ z e2 (at Ellipse z kind.text) (λ _ e3.
+      on_tag kind.value 3 _ _ z e3 (at Line z kind.text) (λ _ e4.
+      on_tag kind.value 4 _ _ z e4 (at Text z kind.text) (λ _ e5. no_tag _ z e5))));
 }
 
 exact_text : (len : ℕ) → Exact (λ bytes. bytes_at len bytes >>= λ text. ranged (is_plain text.0) text.0 bytes text.1) (λ text. (length text ≡ len) × (is_plain text ≡ true)) (λ text. text)
@@ -246,7 +246,7 @@ exact_fill = record {
       taking exact_word bytes are _ z e (λ c.
       on_tag c.value 0xFFFFFFFF _ _ z c.on
       (λ is f. done _ z f (record { sound = record { within = refl }; text = spelt c.text (ap word_bytes is) }))
-      (λ f. let h = passed (is_colour c.value) (Some c.value, c.rest) z _ f in took_as h.1 (record { sound = record { within = h.0 }; text = c.text })));
+      (λ _ f. let h = passed (is_colour c.value) (Some c.value, c.rest) z _ f in took_as h.1 (record { sound = record { within = h.0 }; text = c.text })));
 }
 
 style-written : (style : Style) (rest : List ℕ) → IsLook style → style_at (style_bytes style ++ rest) ≡ Ok (style, rest)
@@ -288,9 +288,9 @@ exact_style = record {
   written = style-written;
   taken = λ bytes z are e.
       let part = step exact_byte bytes are _ z e in
-      on_tag part.value 1 _ _ z part.on (λ is. stroke-taken bytes part.rest z part.left (tag_is _ 1 part.text is)) (λ e2.
-      on_tag part.value 2 _ _ z e2 (λ is. fill-taken bytes part.rest z part.left (tag_is _ 2 part.text is)) (λ e3.
-      on_tag part.value 3 _ _ z e3 (λ is. width-taken bytes part.rest z part.left (tag_is _ 3 part.text is)) (λ e4. no_tag _ z e4)));
+      on_tag part.value 1 _ _ z part.on (λ is. stroke-taken bytes part.rest z part.left (tag_is _ 1 part.text is)) (λ _ e2.
+      on_tag part.value 2 _ _ z e2 (λ is. fill-taken bytes part.rest z part.left (tag_is _ 2 part.text is)) (λ _ e3.
+      on_tag part.value 3 _ _ z e3 (λ is. width-taken bytes part.rest z part.left (tag_is _ 3 part.text is)) (λ _ e4. no_tag _ z e4)));
 }
 
 -- ---- members

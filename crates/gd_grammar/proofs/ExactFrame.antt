@@ -96,13 +96,6 @@ exact-head = record {
 above-zero : (n : ℕ) → (n == 0) ≡ false → 1 ≤ n
 above-zero n h = grind (arith, nat_tests)
 
-zero-or : {A C : Type 0} (n : ℕ) (r t : Result A FieldFault) (z : A) → cond (n == 0) r t ≡ Ok z → (n ≡ 0 → r ≡ Ok z → C) → (1 ≤ n → t ≡ Ok z → C) → C
-zero-or {A} {C} n r t z e here there = by_test (n == 0) refl e
-  where
-    by_test : (b : Bool) → (n == 0) ≡ b → cond b r t ≡ Ok z → C
-    by_test true is h = here (eqb-true n 0 is) h
-    by_test false is h = there (above-zero n is) h
-
 focus-by-written : (stamp : Stamp) (bytes after rest : List ℕ) → IsStamp stamp → focus_by stamp.clock stamp.site bytes after rest ≡ Ok (Some stamp, rest)
 focus-by-written stamp bytes after rest s =
     let above = s.clock_above in
@@ -118,12 +111,12 @@ focus-written (Some stamp) rest s =
 
 focus-by-taken : (clock site : ℕ) (all bytes after rest : List ℕ) (z : Option Stamp × List ℕ) → clock < 2 ^ 48 → Runs all (bytes_high_first 6 clock ++ site ∷ []) rest → focus_by clock site bytes after rest ≡ Ok z → Took IsFocus focus_bytes all z
 focus-by-taken clock site all bytes after rest z below text e =
-    zero-or clock _ _ z e
+    on_tag clock 0 _ _ z e
     (λ none f. let h = passed (site == 0) (None, rest) z _ f in
     took_as h.1 (record { sound = tt; text = spelt (spelt text (ap (λ (c : ℕ). bytes_high_first 6 c ++ site ∷ []) none)) (ap (λ (b : ℕ). bytes_high_first 6 0 ++ b ∷ []) (eqb-true site 0 h.0)) }))
     (λ some f. let h = passed (is_site SITES site) (Some (record { clock = clock; site = site }), rest) z _ f in
     let b = is_site-bounds SITES site h.0 in
-    took_as h.1 (record { sound = record { clock_above = some; clock_below = below; site_above = b.0; site_below = b.1 }; text = text }))
+    took_as h.1 (record { sound = record { clock_above = above-zero clock some; clock_below = below; site_above = b.0; site_below = b.1 }; text = text }))
 
 exact-focus : Exact focus_at IsFocus focus_bytes
 unfolding focus_at
@@ -170,7 +163,7 @@ exact-name = record {
       taking exact_byte bytes are _ z e (λ len.
       on_tag len.value 0 _ _ z len.on
       (λ none f. done _ z f (record { sound = tt; text = spelt len.text (ap (λ (n : ℕ). n ∷ []) none) }))
-      (λ f. let h = else_ok (nat_lt most_name len.value) _ z _ f in name-text len.value bytes len.rest z len.left len.text h.1));
+      (λ _ f. let h = else_ok (nat_lt most_name len.value) _ z _ f in name-text len.value bytes len.rest z len.left len.text h.1));
 }
 
 exact-note : Exact note_at IsNote note_bytes
@@ -209,17 +202,13 @@ exact-in-frame {r = r} exact = record {
   taken = λ bytes z are e. exact.taken bytes z are (in-frame-ok (r bytes) z e);
 }
 
-next-ok : {A : Type 0} (t : Bool) (x z : A) (m : Misread) → cond t (Ok x) (Err m) ≡ Ok z → (t ≡ true) × (x ≡ z)
-next-ok true x z m e = (refl, cc)
-next-ok false x z m e = absurd cc
-
 exact-next : (head : Head) (last : Option Last) → Exact (next_event_at head last) (IsNext head last) spelling
 unfolding next_event_at
 exact-next head last = record {
   written = λ e rest s. rw (exact_event.written e rest s.sound, s.next) refl;
   taken = λ bytes z are e.
       taking (exact-in-frame exact_event) bytes are _ z e (λ x.
-      let h = next-ok (is_next_in head last x.value) (x.value, x.rest) z _ x.on in
+      let h = passed (is_next_in head last x.value) (x.value, x.rest) z _ x.on in
       took_as h.1 (record { sound = record { sound = x.sound; next = h.0 }; text = x.text }));
 }
 
