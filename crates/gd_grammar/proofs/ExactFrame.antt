@@ -1,5 +1,5 @@
 -- The fields of a frame, its events, and the frame are read where their spelling stands, and nowhere else.
-use Rattle.std.proofs.Common.{◌≡◌, ℕ, ◌*◌, ◌<◌, ◌≤◌, ◌^◌, Bool, true, false, cond, List, [], ◌∷◌, ◌++◌, length, Option, Some, None, Result, Ok, Err, refl, sym, ap, ◌∙◌, append_assoc, eqb-true, arith}
+use Rattle.std.proofs.Common.{◌≡◌, ℕ, ◌*◌, ◌<◌, ◌≤◌, ◌^◌, true, false, List, [], ◌∷◌, ◌++◌, length, Option, Some, None, Result, Ok, Err, refl, sym, ap, ◌∙◌, append_assoc, eqb-true, arith}
 use Rattle.std.specs.Prelude.{◌&&◌, not, nat_le, nat_lt, ◌==◌}
 use Rattle.std.specs.Int.{bytes_high_first}
 use Rattle.std.specs.List.{list_any}
@@ -21,7 +21,7 @@ use Rattle.gd_events.specs.Events.{Event}
 use Rattle.gd_grammar.specs.Reading.{Reads, AllFollow}
 use Rattle.gd_grammar.specs.Spelling.{spelling}
 use Rattle.gd_grammar.specs.FieldBytes.{AreBytes, word_bytes, each_bytes}
-use Rattle.gd_grammar.specs.FrameBytes.{Frame, frame_magic, frame_magic_at, frame_version_at, half_at, six_at, head_at, focus_by, focus_at, name_text_at, name_at, note_at, most_frame_events, event_count_at, Misread, in_frame, last_of, is_next_in, next_event_at, frame_events_at, IsNext, whole, frame_at, frame, IsHead, IsFocus, IsNameOrNone, IsNote, AreInTurn, IsFrame, head_bytes, focus_bytes, name_bytes, note_bytes, events_bytes, frame_bytes}
+use Rattle.gd_grammar.specs.FrameBytes.{Frame, frame_magic, frame_magic_at, frame_version_at, half_at, six_at, head_at, focus_by, focus_at, name_text_at, name_at, note_at, most_frame_events, event_count_at, in_frame, last_of, is_next_in, next_event_at, frame_events_at, IsNext, whole, frame_at, frame, IsHead, IsFocus, IsNameOrNone, IsNote, AreInTurn, IsFrame, head_bytes, focus_bytes, name_bytes, note_bytes, events_bytes, frame_bytes}
 use Rattle.gd_grammar.specs.declared.frame.Head.{Head}
 use Rattle.gd_grammar.proofs.Steady.{bind_ok, passed}
 use Rattle.gd_grammar.proofs.Exact.{Took, Exact, Runs, joined, spelt, taking, done, took_as, else_ok, on_tag, exact_field, exact_bytes, result_of, ok_is}

@@ -2,6 +2,7 @@
 use Rattle.std.proofs.Common.{◌≡◌, ℕ, ◌+◌, ◌*◌, ◌≤◌, Bool, true, false, cond, List, [], ◌∷◌, ◌++◌, length, refl, sym, ap, ◌∙◌, append_assoc, arith}
 use Rattle.std.proofs.lemmas.List.{append-nil, length-map}
 use Rattle.gd_base.specs.Stamps.{Stamp, is_before}
+use Rattle.gd_base.specs.declared.ranges.TheConstants.{SESSION_EVENTS}
 use Rattle.gd_events.specs.Events.{Event}
 use Rattle.gd_repair.specs.Repair.{Stamped, Outcome, outcome, outcome_by, closure_from, closure, is_free}
 use Rattle.gd_repair.specs.Repair.Outcome.{applied, dropped, reworked}
@@ -59,7 +60,7 @@ tally-push t held (f ∷ fs) e =
 pub record Tallied (done : List Event) (t : Tally) : Type 0 where
   pub is : t ≡ tally done
   pub counted : t.applied + t.dropped + t.reworked ≡ length done
-  pub undone : t.undone ≤ 1048560 * length done
+  pub undone : t.undone ≤ SESSION_EVENTS * length done
 
 pub tallied_none : Tallied [] no_tally
 unfolding tally_from
@@ -75,7 +76,7 @@ undoes-one t Applied = omega arith
 undoes-one t (Dropped by) = omega arith
 undoes-one t (Reworked undone) = refl
 
-pub tallied_more : (done : List Event) (t new : Tally) (e : Event) (a : Arrival) → Tallied done t → a ≡ arrival_of (outcome_of done e) → undone_in a ≤ 1048560
+pub tallied_more : (done : List Event) (t new : Tally) (e : Event) (a : Arrival) → Tallied done t → a ≡ arrival_of (outcome_of done e) → undone_in a ≤ SESSION_EVENTS
     → new ≡ tallied t a → length (done ++ e ∷ []) ≡ length done + 1 → Tallied (done ++ e ∷ []) new
 tallied_more done t new e a h is most one long = record {
   is = one ∙ (λ i. tallied (h.is i) (is i)) ∙ sym (tally-push no_tally [] done e);

@@ -1,36 +1,29 @@
 -- The next event of a reader that reading stopped, and what stops one.
 use Rattle.std.proofs.Common.{◌≡◌, ℕ, List, refl, sym, ◌∙◌}
-use Rattle.std.specs.Prelude.{Option, Some, None, Result, Ok}
+use Rattle.std.specs.Prelude.{Option, Some, None, Result, Ok, IfOk, IfSome}
 use Rattle.gd_events.specs.Events.{Event}
 use Rattle.gd_outside.specs.Seen.{SeenSource}
 use Rattle.gd_logs.specs.declared.stopped.Stopped.{Stopped}
 use Rattle.gd_logs.specs.declared.stopped.Stopped.TheVariants.{Gate, EndOfBytes, Fault}
 use Rattle.gd_logs.specs.declared.stopped.LogFault.{LogFault}
 use Rattle.gd_logs.specs.Reader.{Reader, ending_at, answer_of, stop_of, IsNext}
+use Rattle.gd_logs.proofs.WriterLemmas.{on_err}
 
-ended-idle : (r : Reader) (s : Stopped) (source : SeenSource) → r.stopped ≡ Some s → IsNext r (Ok None) r source source
-ended-idle r s source h = record {
-  exact = λ on. absurd (let k = sym h ∙ on in cc);
-  follows = tt;
-  one_more = tt;
-  header = refl;
-  ended = λ e. (refl, refl);
-  err = tt;
-  stops = λ on. absurd (let k = sym h ∙ on in cc);
-  ending = λ on. absurd (let k = sym h ∙ on in cc);
-}
+-- no event is read
+none_read : (s : Stopped) (P : Event → Type 0) → IfOk (answer_of s) (λ o. IfSome o P)
+none_read Gate P = tt
+none_read EndOfBytes P = tt
+none_read (Fault fault) P = tt
 
 -- it returns what stopped it, and nothing changes
 pub idle-next : (r : Reader) (s : Stopped) (source : SeenSource) → r.stopped ≡ Some s → IsNext r (answer_of s) r source source
-idle-next r Gate source h = ended-idle r Gate source h
-idle-next r EndOfBytes source h = ended-idle r EndOfBytes source h
-idle-next r (Fault fault) source h = record {
+idle-next r s source h = record {
   exact = λ on. absurd (let k = sym h ∙ on in cc);
-  follows = tt;
-  one_more = tt;
+  follows = none_read s _;
+  one_more = none_read s _;
   header = refl;
   ended = λ e. (refl, refl);
-  err = (refl, refl);
+  err = on_err (answer_of s) (refl, refl);
   stops = λ on. absurd (let k = sym h ∙ on in cc);
   ending = λ on. absurd (let k = sym h ∙ on in cc);
 }
