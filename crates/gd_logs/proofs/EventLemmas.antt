@@ -1,6 +1,6 @@
 -- The events of a stream, one step after another.
-use Rattle.std.proofs.Common.{◌≡◌, ℕ, zero, suc, ◌+◌, ◌<◌, ◌≤◌, List, [], ◌∷◌, ◌++◌, length, refl, sym, ap, ◌∙◌, arith}
-use Rattle.std.specs.Prelude.{Option, Some, None, Result, Ok, Err}
+use Rattle.std.proofs.Common.{◌≡◌, ℕ, zero, suc, ◌+◌, ◌≤◌, List, [], ◌∷◌, ◌++◌, length, refl, sym, ◌∙◌, arith}
+use Rattle.std.specs.Prelude.{Some, None, Result, Ok, Err}
 use Rattle.gd_events.specs.Events.{Event}
 use Rattle.gd_base.specs.Results.{◌>>=◌}
 use Rattle.gd_grammar.specs.LogBytes.{Header, LogMisread, in_log, header_at, step_at, events_at, log}
