@@ -21,13 +21,13 @@ use Rattle.gd_base.specs.Labels.{IsLabel, most_label, is_plain}
 use Rattle.gd_base.specs.Ranges.{place_limit, size_limit, is_within, is_colour, is_width, is_style}
 use Rattle.gd_events.specs.Sound.{is_above}
 use Rattle.gd_base.specs.Results.{◌>>=◌}
-use Rattle.gd_grammar.specs.Reading.{Reads, bytes_at, ranged}
+use Rattle.gd_grammar.specs.Reading.{bytes_at, ranged}
 use Rattle.gd_grammar.specs.EventBytes.{shape_at, label_at, colour_at, fill_at, width_at, stroke_style_at, fill_style_at, width_style_at, style_at, member_count_at, member_id_at, member_at, members_at}
 use Rattle.gd_grammar.specs.Fields.{byte_at, clock_at, site_at, stamp_at, id_at, number_at, signed_at, word_at, label_within}
 use Rattle.gd_grammar.specs.Spelling.{shape_byte, style_bytes, member_bytes, members_bytes}
 use Rattle.gd_grammar.specs.FieldBytes.{AreBytes, stamp_bytes, word_bytes, signed_bytes, label_bytes}
 use Rattle.gd_grammar.proofs.Steady.{read_of, passed}
-use Rattle.gd_grammar.proofs.Exact.{Took, Exact, Runs, joined, spelt, step, taking, done, took_as, else_ok, on_tag, exact_field, exact_bytes}
+use Rattle.gd_grammar.proofs.Exact.{Took, Exact, Runs, joined, spelt, step, taking, done, tagged, took_as, else_ok, on_tag, exact_field, exact_bytes}
 use Rattle.gd_grammar.proofs.Many.{SoMany, exact_many}
 use Rattle.gd_grammar.proofs.SoundFields.{IsWithin, IsId, IsLook, IsMember, IsNumber, is_member_count}
 
@@ -260,37 +260,15 @@ fill-style : (fill : Option ℕ) → 2 ∷ fill_bytes fill ≡ style_bytes (Fill
 fill-style None = refl
 fill-style (Some colour) = refl
 
--- what was read behind the number of a part of the look
-abbrev Part : ℕ → (List ℕ → Reads Style) → Type 0
-Part part read = (whole bytes : List ℕ) (z : Style × List ℕ) → AreBytes bytes → Runs whole (part ∷ []) bytes → read bytes ≡ Ok z → Took IsLook style_bytes whole z
-
-stroke-taken : Part 1 stroke_style_at
-unfolding stroke_style_at
-stroke-taken whole bytes z are part e =
-    taking exact_colour bytes are _ z e (λ colour.
-    done _ z colour.on (record { sound = record { within = colour.sound }; text = joined part colour.text }))
-
-fill-taken : Part 2 fill_style_at
-unfolding fill_style_at
-fill-taken whole bytes z are part e =
-    taking exact_fill bytes are _ z e (λ fill.
-    done _ z fill.on (record { sound = record { within = fill.sound.within }; text = spelt (joined part fill.text) (fill-style fill.value) }))
-
-width-taken : Part 3 width_style_at
-unfolding width_style_at
-width-taken whole bytes z are part e =
-    taking exact_width bytes are _ z e (λ width.
-    done _ z width.on (record { sound = record { within = width.sound }; text = joined part width.text }))
-
 pub exact_style : Exact style_at IsLook style_bytes
-unfolding style_at
+unfolding style_at stroke_style_at fill_style_at width_style_at
 exact_style = record {
   written = style-written;
   taken = λ bytes z are e.
       let part = step exact_byte bytes are _ z e in
-      on_tag part.value 1 _ _ z part.on (λ is. stroke-taken bytes part.rest z part.left (tag_is _ 1 part.text is)) (λ _ e2.
-      on_tag part.value 2 _ _ z e2 (λ is. fill-taken bytes part.rest z part.left (tag_is _ 2 part.text is)) (λ _ e3.
-      on_tag part.value 3 _ _ z e3 (λ is. width-taken bytes part.rest z part.left (tag_is _ 3 part.text is)) (λ _ e4. no_tag _ z e4)));
+      on_tag part.value 1 _ _ z part.on (λ is. tagged 1 exact_colour Stroke (λ c s. record { within = s }) (λ c. refl) part.rest z part.left (tag_is _ 1 part.text is)) (λ _ e2.
+      on_tag part.value 2 _ _ z e2 (λ is. tagged 2 exact_fill Fill (λ f s. record { within = s.within }) fill-style part.rest z part.left (tag_is _ 2 part.text is)) (λ _ e3.
+      on_tag part.value 3 _ _ z e3 (λ is. tagged 3 exact_width Width (λ w s. record { within = s }) (λ w. refl) part.rest z part.left (tag_is _ 3 part.text is)) (λ _ e4. no_tag _ z e4)));
 }
 
 -- ---- members
