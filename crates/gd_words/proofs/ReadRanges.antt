@@ -276,31 +276,21 @@ counted_in : (v : Option Verb) (n : ℕ) (line : List ℕ) → Yields IsCommand 
 counted_in None n line = tt
 counted_in (Some v) n line = fitting IsCommand (fits v n) (command_at v n line) (λ fit. weaker _ IsCommand (command_at v n line) (λ c h. h.0) (command_in v n line fit))
 
--- what is read, without what is left
-abbrev Reads : {A : Type 0} → (A → Type 0) → Result A LineFault → Type 0
-Reads P (Ok x) = P x
-Reads P (Err fault) = Unit {0}
-
-first_in : {A : Type 0} (P : A → Type 0) (r : ReadsWords A) → Yields P r → Reads P (first_of r)
-first_in P (Ok x) h = h
-first_in P (Err fault) h = tt
-
-judged_in : {A : Type 0} (P : A → Type 0) (long blank : Bool) (nothing : A) (r : Result A LineFault) → P nothing → Reads P r → Reads P (if long then Err LongLine else if blank then Ok nothing else r)
-judged_in P true blank nothing r a h = tt
-judged_in P false true nothing r a h = a
-judged_in P false false nothing r a h = h
-
-read_in : {A : Type 0} (P : A → Type 0) (r : Result A LineFault) (x : A) → r ≡ Ok x → Reads P r → P x
-read_in P r x e h = subst (Reads P) e h
+-- a whole line, by the tests whether it's too long and whether it's blank
+whole_in : {A : Type 0} (P : A → Type 0) (long blank : Bool) (nothing : A) (r : ReadsWords A) (x : A) → P nothing → Yields P r
+    → (if long then Err LongLine else if blank then Ok nothing else first_of r) ≡ Ok x → P x
+whole_in P true blank nothing r x a h e = absurd cc
+whole_in P false true nothing r x a h e = let same : nothing ≡ x = cc in subst P same a
+whole_in P false false nothing (Ok y) x a h e = let same : y.0 ≡ x = cc in subst P same h
+whole_in P false false nothing (Err fault) x a h e = absurd cc
 
 pub line_in : (bytes : List ℕ) (c : Command) → read bytes ≡ Ok c → IsCommand c
 unfolding read
 line_in bytes c e =
     let line : List ℕ = without_cr bytes in
-    let r : ReadsWords Command = counted_at (verb (word line)) (count_words line - 1) (behind line) in
-    read_in IsCommand (line_of line) c e
-    (judged_in IsCommand (nat_lt LONGEST_LINE (length line)) (count_words line == 0) command.Blank (first_of r) tt
-    (first_in IsCommand r (counted_in (verb (word line)) (count_words line - 1) (behind line))))
+    let n : ℕ = count_words line - 1 in
+    let v : Option Verb = verb (word line) in
+    whole_in IsCommand (nat_lt LONGEST_LINE (length line)) (count_words line == 0) command.Blank (counted_at v n (behind line)) c tt (counted_in v n (behind line)) e
 
 -- ---- a line of a rehearsal
 
@@ -356,7 +346,6 @@ pub script_line_in : (bytes : List ℕ) (l : ScriptLine) → read_script bytes �
 unfolding read_script
 script_line_in bytes l e =
     let line : List ℕ = without_cr bytes in
-    let r : ReadsWords ScriptLine = script_at (script_verb (word line)) (count_words line - 1) (behind line) in
-    read_in IsScriptLine (script_of line) l e
-    (judged_in IsScriptLine (nat_lt LONGEST_LINE (length line)) (count_words line == 0) a_line.Blank (first_of r) tt
-    (first_in IsScriptLine r (script_in (script_verb (word line)) (count_words line - 1) (behind line))))
+    let n : ℕ = count_words line - 1 in
+    let v : Option ScriptVerb = script_verb (word line) in
+    whole_in IsScriptLine (nat_lt LONGEST_LINE (length line)) (count_words line == 0) a_line.Blank (script_at v n (behind line)) l tt (script_in v n (behind line)) e
