@@ -5,4 +5,3 @@ pub mod TurnLemmas
 pub mod EventLemmas
 pub mod WrittenLemmas
 pub mod WriterLemmas
-mod NextLemmas

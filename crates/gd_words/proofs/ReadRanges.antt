@@ -1,5 +1,5 @@
 -- What is read is in its ranges: word by word, and then line by line.
-use Rattle.std.proofs.Common.{◌≡◌, ℕ, zero, suc, ℤ, pos, negsuc, neg_ℤ, nat_abs, ◌+◌, ◌-◌, ◌^◌, ◌<◌, ◌≤◌, Bool, true, false, ◌&&◌, List, [], ◌∷◌, ◌++◌, length, take, drop, Option, Some, None, Result, Ok, Err, nat_lt, nat_le, ◌==◌, if◌then◌else◌, subst, refl, arith}
+use Rattle.std.proofs.Common.{◌≡◌, ℕ, zero, suc, ℤ, pos, negsuc, neg_ℤ, nat_abs, ◌+◌, ◌-◌, ◌^◌, ◌<◌, ◌≤◌, Bool, true, false, ◌&&◌, List, [], ◌∷◌, ◌++◌, length, take, drop, Option, Some, None, Ok, Err, nat_lt, nat_le, ◌==◌, if◌then◌else◌, subst, refl, arith}
 use Rattle.std.specs.Prelude.{IfSome, All}
 use Rattle.std.specs.Bool.{then_some}
 use Rattle.std.specs.List.{fold, list_all, position_or_len}
@@ -27,12 +27,12 @@ use Rattle.gd_lines.specs.declared.command.Command.TheVariants as command
 use Rattle.gd_base.specs.Results.{◌>>=◌}
 use Rattle.gd_lines.specs.LineWords.{word, behind, count_words, without_cr}
 use Rattle.gd_lines.specs.WordKinds.{digit, is_digit, push_digit, value, numeral, number, is_between, number_in, natural_in, in_ranges, is_dot, id, colour, fill, focus, label, name}
-use Rattle.gd_lines.specs.Lines.{ReadsWords, or_fault, next, kind_at, place_at, size_at, natural_at, width_at, id_at, colour_at, fill_at, focus_at, name_at, label_at, ids_at, verb, fits, create_at, delete_at, move_at, resize_at, stroke_at, refill_at, rewidth_at, text_at, group_at, ungroup_at, raise_at, an_edit, command_at, counted_at, first_of, line_of, read}
+use Rattle.gd_lines.specs.Lines.{ReadsWords, or_fault, next, kind_at, place_at, size_at, natural_at, width_at, id_at, colour_at, fill_at, focus_at, name_at, label_at, ids_at, verb, fits, create_at, delete_at, move_at, resize_at, stroke_at, refill_at, rewidth_at, text_at, group_at, ungroup_at, raise_at, an_edit, command_at, counted_at, first_of, read}
 use Rattle.gd_lines.specs.declared.verb.ScriptVerb.{ScriptVerb}
 use Rattle.gd_lines.specs.declared.verb.ScriptVerb.TheVariants as script
 use Rattle.gd_lines.specs.declared.command.ScriptLine.{ScriptLine}
 use Rattle.gd_lines.specs.declared.command.ScriptLine.TheVariants as a_line
-use Rattle.gd_lines.specs.ScriptLines.{script_verb, is_askable, asked, site_at, mail_at, site_command_at, asked_at, at_at, send_at, deliver_at, script_at, script_of, read_script}
+use Rattle.gd_lines.specs.ScriptLines.{script_verb, is_askable, asked, site_at, mail_at, site_command_at, asked_at, at_at, send_at, deliver_at, script_at, read_script}
 use Rattle.gd_lines.specs.InRange.{IsEdit, IsCommand, IsAsked, IsScriptLine}
 use Rattle.gd_words.proofs.Digits.{push_small}
 
