@@ -3,9 +3,9 @@ use Rattle.std.proofs.Common.{◌≡◌, ℕ, ◌+◌, ◌*◌, ◌≤◌, Bool,
 use Rattle.std.proofs.lemmas.List.{append-nil, length-map}
 use Rattle.gd_base.specs.declared.ranges.TheConstants.{SESSION_EVENTS}
 use Rattle.gd_events.specs.Events.{Event}
-use Rattle.gd_repair.specs.Repair.{Stamped, Outcome, outcome, outcome_by, closure_from, closure, is_free}
-use Rattle.gd_repair.specs.Repair.Outcome.{applied, dropped, reworked}
-use Rattle.gd_history.specs.Entries.{stamp_of, stamps_of}
+use Rattle.gd_repair.specs.Repair.{Stamped, outcome, outcome_by, closure_from, closure, is_free}
+use Rattle.gd_repair.specs.Repair.Outcome.{dropped, reworked}
+use Rattle.gd_history.specs.Entries.{stamp_of}
 use Rattle.gd_history.specs.Histories.{arrival_of}
 use Rattle.gd_history.specs.declared.arrival.Arrival.{Arrival}
 use Rattle.gd_history.specs.declared.arrival.Arrival.TheVariants.{Applied, Dropped, Reworked}
