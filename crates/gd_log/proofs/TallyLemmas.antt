@@ -1,13 +1,12 @@
 -- How much the arrival of events undoes, and what it comes to one event after another.
 use Rattle.std.proofs.Common.{◌≡◌, ℕ, ◌+◌, ◌*◌, ◌≤◌, Bool, true, false, cond, List, [], ◌∷◌, ◌++◌, length, refl, sym, ap, ◌∙◌, append_assoc, arith}
 use Rattle.std.proofs.lemmas.List.{append-nil, length-map}
-use Rattle.gd_base.specs.Stamps.{Stamp, is_before}
+use Rattle.gd_base.specs.declared.ranges.TheConstants.{SESSION_EVENTS}
 use Rattle.gd_events.specs.Events.{Event}
 use Rattle.gd_repair.specs.Repair.{Stamped, outcome, outcome_by, closure_from, closure, is_free}
 use Rattle.gd_repair.specs.Repair.Outcome.{dropped, reworked}
 use Rattle.gd_history.specs.Entries.{stamp_of}
 use Rattle.gd_history.specs.Histories.{arrival_of}
-use Rattle.gd_history.specs.Orders.{later_than}
 use Rattle.gd_history.specs.declared.arrival.Arrival.{Arrival}
 use Rattle.gd_history.specs.declared.arrival.Arrival.TheVariants.{Applied, Dropped, Reworked}
 use Rattle.gd_model.specs.Arrivals.{outcome_of}
@@ -38,14 +37,6 @@ module _ {O : Type 0} (independent covers : Stamped O → Stamped O → Bool) (e
   pub undone_most : (fs : List (Stamped O)) → undone_in (arrival_of (outcome independent covers e fs)) ≤ length fs
   undone_most fs = undone_by (closure independent e fs) (length fs) (length-closure independent e [] fs)
 
-shorter_later : {O : Type 0} (t : Bool) (f : Stamped O) (rest fs : List (Stamped O)) → length rest ≤ length fs → length (cond t (f ∷ rest) rest) ≤ length (f ∷ fs)
-shorter_later true f rest fs h = omega arith
-shorter_later false f rest fs h = omega arith
-
-pub length-later : {O : Type 0} (s : Stamp) (fs : List (Stamped O)) → length (later_than s fs) ≤ length fs
-length-later s [] = omega arith
-length-later s (f ∷ fs) = shorter_later (is_before s f.stamp) f (later_than s fs) fs (length-later s fs)
-
 -- ---- one event more
 
 tally-push : (t : Tally) (held es : List Event) (e : Event) → tally_from t held (es ++ e ∷ []) ≡ tallied (tally_from t held es) (arrival_of (outcome_of (held ++ es) e))
@@ -59,7 +50,7 @@ tally-push t held (f ∷ fs) e =
 pub record Tallied (done : List Event) (t : Tally) : Type 0 where
   pub is : t ≡ tally done
   pub counted : t.applied + t.dropped + t.reworked ≡ length done
-  pub undone : t.undone ≤ 1048560 * length done
+  pub undone : t.undone ≤ SESSION_EVENTS * length done
 
 pub tallied_none : Tallied [] no_tally
 unfolding tally_from
@@ -75,7 +66,7 @@ undoes-one t Applied = omega arith
 undoes-one t (Dropped by) = omega arith
 undoes-one t (Reworked undone) = refl
 
-pub tallied_more : (done : List Event) (t new : Tally) (e : Event) (a : Arrival) → Tallied done t → a ≡ arrival_of (outcome_of done e) → undone_in a ≤ 1048560
+pub tallied_more : (done : List Event) (t new : Tally) (e : Event) (a : Arrival) → Tallied done t → a ≡ arrival_of (outcome_of done e) → undone_in a ≤ SESSION_EVENTS
     → new ≡ tallied t a → length (done ++ e ∷ []) ≡ length done + 1 → Tallied (done ++ e ∷ []) new
 tallied_more done t new e a h is most one long = record {
   is = one ∙ (λ i. tallied (h.is i) (is i)) ∙ sym (tally-push no_tally [] done e);

@@ -1,5 +1,5 @@
 -- What is read is in its ranges: word by word, and then line by line.
-use Rattle.std.proofs.Common.{◌≡◌, ℕ, zero, suc, ℤ, pos, negsuc, neg_ℤ, nat_abs, ◌+◌, ◌-◌, ◌^◌, ◌<◌, ◌≤◌, Bool, true, false, ◌&&◌, List, [], ◌∷◌, ◌++◌, length, take, drop, Option, Some, None, Result, Ok, Err, nat_lt, nat_le, ◌==◌, if◌then◌else◌, subst, refl, arith}
+use Rattle.std.proofs.Common.{◌≡◌, ℕ, zero, suc, ℤ, pos, negsuc, neg_ℤ, nat_abs, ◌+◌, ◌-◌, ◌^◌, ◌<◌, ◌≤◌, Bool, true, false, ◌&&◌, List, [], ◌∷◌, ◌++◌, length, take, drop, Option, Some, None, Ok, Err, nat_lt, nat_le, ◌==◌, if◌then◌else◌, subst, refl, arith}
 use Rattle.std.specs.Prelude.{IfSome, All}
 use Rattle.std.specs.Bool.{then_some}
 use Rattle.std.specs.List.{fold, list_all, position_or_len}
@@ -27,12 +27,12 @@ use Rattle.gd_lines.specs.declared.command.Command.TheVariants as command
 use Rattle.gd_base.specs.Results.{◌>>=◌}
 use Rattle.gd_lines.specs.LineWords.{word, behind, count_words, without_cr}
 use Rattle.gd_lines.specs.WordKinds.{digit, is_digit, push_digit, value, numeral, number, is_between, number_in, natural_in, in_ranges, is_dot, id, colour, fill, focus, label, name}
-use Rattle.gd_lines.specs.Lines.{ReadsWords, or_fault, next, kind_at, place_at, size_at, natural_at, width_at, id_at, colour_at, fill_at, focus_at, name_at, label_at, ids_at, verb, fits, create_at, delete_at, move_at, resize_at, stroke_at, refill_at, rewidth_at, text_at, group_at, ungroup_at, raise_at, an_edit, command_at, counted_at, first_of, line_of, read}
+use Rattle.gd_lines.specs.Lines.{ReadsWords, or_fault, next, kind_at, place_at, size_at, natural_at, width_at, id_at, colour_at, fill_at, focus_at, name_at, label_at, ids_at, verb, fits, create_at, delete_at, move_at, resize_at, stroke_at, refill_at, rewidth_at, text_at, group_at, ungroup_at, raise_at, an_edit, command_at, counted_at, first_of, read}
 use Rattle.gd_lines.specs.declared.verb.ScriptVerb.{ScriptVerb}
 use Rattle.gd_lines.specs.declared.verb.ScriptVerb.TheVariants as script
 use Rattle.gd_lines.specs.declared.command.ScriptLine.{ScriptLine}
 use Rattle.gd_lines.specs.declared.command.ScriptLine.TheVariants as a_line
-use Rattle.gd_lines.specs.ScriptLines.{script_verb, is_askable, asked, site_at, mail_at, site_command_at, asked_at, at_at, send_at, deliver_at, script_at, script_of, read_script}
+use Rattle.gd_lines.specs.ScriptLines.{script_verb, is_askable, asked, site_at, mail_at, site_command_at, asked_at, at_at, send_at, deliver_at, script_at, read_script}
 use Rattle.gd_lines.specs.InRange.{IsEdit, IsCommand, IsAsked, IsScriptLine}
 use Rattle.gd_words.proofs.Digits.{push_small}
 
@@ -276,31 +276,21 @@ counted_in : (v : Option Verb) (n : ℕ) (line : List ℕ) → Yields IsCommand 
 counted_in None n line = tt
 counted_in (Some v) n line = fitting IsCommand (fits v n) (command_at v n line) (λ fit. weaker _ IsCommand (command_at v n line) (λ c h. h.0) (command_in v n line fit))
 
--- what is read, without what is left
-abbrev Reads : {A : Type 0} → (A → Type 0) → Result A LineFault → Type 0
-Reads P (Ok x) = P x
-Reads P (Err fault) = Unit {0}
-
-first_in : {A : Type 0} (P : A → Type 0) (r : ReadsWords A) → Yields P r → Reads P (first_of r)
-first_in P (Ok x) h = h
-first_in P (Err fault) h = tt
-
-judged_in : {A : Type 0} (P : A → Type 0) (long blank : Bool) (nothing : A) (r : Result A LineFault) → P nothing → Reads P r → Reads P (if long then Err LongLine else if blank then Ok nothing else r)
-judged_in P true blank nothing r a h = tt
-judged_in P false true nothing r a h = a
-judged_in P false false nothing r a h = h
-
-read_in : {A : Type 0} (P : A → Type 0) (r : Result A LineFault) (x : A) → r ≡ Ok x → Reads P r → P x
-read_in P r x e h = subst (Reads P) e h
+-- a whole line, by the tests whether it's too long and whether it's blank
+whole_in : {A : Type 0} (P : A → Type 0) (long blank : Bool) (nothing : A) (r : ReadsWords A) (x : A) → P nothing → Yields P r
+    → (if long then Err LongLine else if blank then Ok nothing else first_of r) ≡ Ok x → P x
+whole_in P true blank nothing r x a h e = absurd cc
+whole_in P false true nothing r x a h e = let same : nothing ≡ x = cc in subst P same a
+whole_in P false false nothing (Ok y) x a h e = let same : y.0 ≡ x = cc in subst P same h
+whole_in P false false nothing (Err fault) x a h e = absurd cc
 
 pub line_in : (bytes : List ℕ) (c : Command) → read bytes ≡ Ok c → IsCommand c
 unfolding read
 line_in bytes c e =
     let line : List ℕ = without_cr bytes in
-    let r : ReadsWords Command = counted_at (verb (word line)) (count_words line - 1) (behind line) in
-    read_in IsCommand (line_of line) c e
-    (judged_in IsCommand (nat_lt LONGEST_LINE (length line)) (count_words line == 0) command.Blank (first_of r) tt
-    (first_in IsCommand r (counted_in (verb (word line)) (count_words line - 1) (behind line))))
+    let n : ℕ = count_words line - 1 in
+    let v : Option Verb = verb (word line) in
+    whole_in IsCommand (nat_lt LONGEST_LINE (length line)) (count_words line == 0) command.Blank (counted_at v n (behind line)) c tt (counted_in v n (behind line)) e
 
 -- ---- a line of a rehearsal
 
@@ -356,7 +346,6 @@ pub script_line_in : (bytes : List ℕ) (l : ScriptLine) → read_script bytes �
 unfolding read_script
 script_line_in bytes l e =
     let line : List ℕ = without_cr bytes in
-    let r : ReadsWords ScriptLine = script_at (script_verb (word line)) (count_words line - 1) (behind line) in
-    read_in IsScriptLine (script_of line) l e
-    (judged_in IsScriptLine (nat_lt LONGEST_LINE (length line)) (count_words line == 0) a_line.Blank (first_of r) tt
-    (first_in IsScriptLine r (script_in (script_verb (word line)) (count_words line - 1) (behind line))))
+    let n : ℕ = count_words line - 1 in
+    let v : Option ScriptVerb = script_verb (word line) in
+    whole_in IsScriptLine (nat_lt LONGEST_LINE (length line)) (count_words line == 0) a_line.Blank (script_at v n (behind line)) l tt (script_in v n (behind line)) e
