@@ -1,12 +1,12 @@
 //! The program: hands the command line and the standard streams to `run`.
 #![tactic(auto)]
 
-ghost use Rattle.std.specs.Prelude.{◌≡◌, ◌<◌, ◌⊎◌, false};
+ghost use Rattle.std.specs.Prelude.{◌≡◌, ◌<◌, ◌⊎◌, None};
 ghost use Rattle.std.specs.Process.{exit_status};
 ghost use Rattle.gd_outside.specs.Causes.{Rose};
 ghost use Rattle.gd_outside.specs.Statuses.{status_number};
 ghost use Rattle.gd_outside.specs.Told.{told};
-ghost use Rattle.gd_reference.specs.SlowRun.{is_replay, slow_end};
+ghost use Rattle.gd_reference.specs.SlowRun.{task_of, slow_end};
 ghost use Rattle.groupdesign.specs.Exits.{words_status};
 ghost use Rattle.groupdesign.specs.Runs.{IsRunTold};
 
@@ -61,7 +61,7 @@ fn ended<S: Source, K: Sink, L: Ledger>(
         → ¬ Rose (K.seen output.old).faults (K.seen output.new).faults
         → (exit_status result ≡ status_number (slow_end words.now (told (S.seen input.old).left)))
         ⊎ (exit_status result ≡ status_number Status.NoMemory) }
-    ensures usage { is_replay words.now ≡ false
+    ensures usage { task_of words.now ≡ None
         → (exit_status result ≡ status_number Status.Usage) ⊎
         (exit_status result ≡ status_number Status.WriteFault) }
 {
