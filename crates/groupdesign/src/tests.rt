@@ -18,6 +18,7 @@ mod pairs;
 mod rows;
 mod standard;
 mod texts;
+mod versions;
 
 use crate::running::run;
 use gd_base::Steps;

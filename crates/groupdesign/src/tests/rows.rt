@@ -146,7 +146,14 @@ fn what_follows_the_closed_gate_is_left(rt: HostRuntime) -> Result<(), Fail> {
 
 #[test]
 fn words_that_name_no_command_are_refused(rt: HostRuntime) -> Result<(), Fail> {
-    let words: [&[&str]; 4] = [&[], &["paint"], &["replay", "replay"], &["Replay"]];
+    let words: [&[&str]; 6] = [
+        &[],
+        &["paint"],
+        &["replay", "replay"],
+        &["Replay"],
+        &["upgrade", "replay"],
+        &["upgrades"],
+    ];
     for texts in words {
         let (status, output) = ran_over(rt.alloc(), texts, &TIE)?;
         assert_eq!(rt; status.number(), 2);
