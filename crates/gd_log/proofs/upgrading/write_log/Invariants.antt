@@ -11,7 +11,7 @@ abbrev pub invariant-records : goal.invariant-records
 invariant-records g l =
     (input : SeenSource) (journal : SeenJournal) (link : SeenLink) (steps : ℕ)
     → Along (outside input (g.K.Sink.seen l.fn.output) journal link steps) (map Print (log_pieces drawings l.fn.header l.fn.events))
-        (outside input (g.K.Sink.seen l.output) journal link steps) (map Print (record_pieces drawings l.left))
+    (outside input (g.K.Sink.seen l.output) journal link steps) (map Print (record_pieces drawings l.left))
 
 abbrev pub decreases-records : goal.decreases-records
 decreases-records g l = length l.left
