@@ -42,7 +42,8 @@ impl<O: Operation> Model for Event<O> {
 
     ghost view = { λ e. record { stamp = e.stamp; number = e.number; op = e.op } };
 
-    ghost invariant = { λ e. IsSoundWith O.IsOp (record { stamp = e.stamp; number = e.number; op = e.op }) };
+    ghost invariant = { λ e.
+        IsSoundWith O.IsOp (record { stamp = e.stamp; number = e.number; op = e.op }) };
 }
 
 impl<O: Operation> Event<O> {

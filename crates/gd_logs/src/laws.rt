@@ -15,7 +15,8 @@ use gd_events::Operation;
 
 /// The log of a header and events, spelled, is that header and those events, where they obey the log's rules.
 pub fn what_is_logged_is_read<O: Operation>()
-    ensures { (kind : LogKind O) → KindLaws O.IsOp kind → (h : Header) (events : List (EventValue O))
+    ensures { (kind : LogKind O) → KindLaws O.IsOp kind
+        → (h : Header) (events : List (EventValue O))
         → IsRuled O.IsOp kind h events → log kind (logged kind h events) ≡ Ok (h, events) }
 {}
 
@@ -27,9 +28,11 @@ pub fn what_breaks_a_rule_is_found<O: Operation>()
         → log kind (logged kind h (events ++ e ∷ more))
         ≡ Err (refusal why (length (spelling kind e ++ (gated_bytes kind more ++ 0 ∷ [])))) }
     ensures whatever_follows { (kind : LogKind O) → KindLaws O.IsOp kind
-        → (h : Header) (events : List (EventValue O)) (e : EventValue O) (why : LogWhy) (rest : List ℕ)
+        → (h : Header) (events : List (EventValue O)) (e : EventValue O) (why : LogWhy)
+        → (rest : List ℕ)
         → IsRuled O.IsOp kind h events → BreaksRule O.IsOp kind h events e why
-        → log kind (header_bytes kind h ++ gated_bytes kind events ++ gate ∷ (spelling kind e ++ rest))
+        → log kind (header_bytes kind h
+        ++ gated_bytes kind events ++ gate ∷ (spelling kind e ++ rest))
         ≡ Err (refusal why (length (spelling kind e ++ rest))) }
 {}
 
@@ -38,7 +41,8 @@ pub fn nothing_behind_a_closed_gate_counts<O: Operation>()
     ensures { (kind : LogKind O) → KindLaws O.IsOp kind
         → (h : Header) (events : List (EventValue O)) (gate_byte : ℕ) (rest : List ℕ)
         → IsRuled O.IsOp kind h events → (gate_byte == gate) ≡ false
-        → log kind (header_bytes kind h ++ gated_bytes kind events ++ gate_byte ∷ rest) ≡ Ok (h, events) }
+        → log kind (header_bytes kind h ++ gated_bytes kind events ++ gate_byte ∷ rest)
+        ≡ Ok (h, events) }
 {}
 
 /// The pieces that a log is written in are its bytes.

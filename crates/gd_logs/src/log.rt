@@ -69,7 +69,8 @@ pub fn read_log_of<K: LogKind, S: Source>(
     alloc: Global,
     source: &mut S,
 ) -> Result<(LogHeader, EventList<K::Op>), ReadError>
-    ensures exact { IsSome (S.seen source.new).left → LogIs K.kind result (told (S.seen source.old).left) }
+    ensures exact { IsSome (S.seen source.new).left
+        → LogIs K.kind result (told (S.seen source.old).left) }
     ensures few { IfOk result (λ log. length log.1 ≤ SESSION_EVENTS) }
     ensures distinct { IfOk result (λ log. IsTrue (are_distinct log.1)) }
     ensures called { SourceCalled (S.seen source.old) (S.seen source.new)

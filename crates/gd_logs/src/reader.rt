@@ -62,7 +62,8 @@ impl<K: LogKind> KindReader<K> {
         ensures fresh { IfOk result (λ x. AreZero x.0.turns) }
         ensures on { IfOk result (λ x. x.0.stopped ≡ None) }
         ensures exact { IsSome (S.seen source.new).left
-            → StartIs K.kind result (told (S.seen source.old).left) (told (S.seen source.new).left) }
+            → StartIs K.kind result
+            (told (S.seen source.old).left) (told (S.seen source.new).left) }
         ensures called { SourceCalled (S.seen source.old) (S.seen source.new)
             (result ≡ Err LogFault.Read) }
     {
@@ -86,7 +87,8 @@ impl<K: LogKind> KindReader<K> {
     /// `Read` where a read failed, and `Bad` at the first fault of the record. After None and after each fault the reader
     /// stands where it stood, and returns the same again from then on, without a read.
     pub fn next<S: Source>(&mut self, source: &mut S) -> Result<Option<Event<K::Op>>, LogFault>
-        ensures next { IsNext K.kind self.old result self.new (S.seen source.old) (S.seen source.new) }
+        ensures next { IsNext K.kind self.old result self.new (S.seen source.old)
+            (S.seen source.new) }
         ensures again { IfSome self.old.stopped (λ stopped. (result ≡ answer_of stopped)
             × (self.new ≡ self.old) × (S.seen source.new ≡ S.seen source.old)) }
         ensures called { SourceCalled (S.seen source.old) (S.seen source.new)
@@ -101,7 +103,8 @@ impl<K: LogKind> KindReader<K> {
     /// Reads the next event, where reading hasn't stopped.
     fn read_on<S: Source>(&mut self, source: &mut S) -> Result<Option<Event<K::Op>>, LogFault>
         requires { self.old.stopped ≡ None }
-        ensures next { IsNext K.kind self.old result self.new (S.seen source.old) (S.seen source.new) }
+        ensures next { IsNext K.kind self.old result self.new (S.seen source.old)
+            (S.seen source.new) }
         ensures called { SourceCalled (S.seen source.old) (S.seen source.new)
             (result ≡ Err LogFault.Read) }
     {

@@ -92,7 +92,8 @@ impl<K: LogKind> KindWriter<K> {
         ensures torn { OnErr result (IsSome (J.seen journal.new).contents
             → (h : Header) (events : List (EventValue K.Op))
             → IsLogOf K.Op.IsOp K.kind h events (told (J.seen journal.old).contents)
-            → IsWithOrWithout K.kind (told (J.seen journal.old).contents) (spelling K.kind event.now)
+            → IsWithOrWithout K.kind (told (J.seen journal.old).contents)
+            (spelling K.kind event.now)
             (told (J.seen journal.new).contents)) }
         ensures err { OnErr result (self.new ≡ self.old) }
         ensures name { Stays (J.seen journal.old).name (J.seen journal.new).name }
