@@ -40,7 +40,8 @@ pub fn form_of(stamp: Stamp, op: &Op) -> Form
         Op::Retext { id, label } => Form::Sets(*id, Content::ToText(label.copy())),
         Op::Group { members } => Form::Groups(members.copy()),
         Op::Ungroup { id } => Form::Sets(*id, Content::ToFlag(true)),
-        Op::Raise { id } => Form::Sets(*id, Content::ToRank(Rank::top(stamp))),
+        Op::Raise { id } => Form::Sets(*id, Content::ToRank(Rank::High(stamp))),
+        Op::Lower { id } => Form::Sets(*id, Content::ToRank(Rank::Low(stamp))),
     }
 }
 
@@ -58,6 +59,7 @@ pub fn aim_of(stamp: Stamp, op: &Op) -> Aim
         Op::Group { .. } => Aim::Groups(stamp),
         Op::Ungroup { id } => Aim::Sets(*id, Part::Flag),
         Op::Raise { id } => Aim::Sets(*id, Part::Rank),
+        Op::Lower { id } => Aim::Sets(*id, Part::Rank),
     }
 }
 
@@ -83,7 +85,8 @@ pub fn object_of(stamp: Stamp, op: &Op) -> Stamp
         | Op::Restyle { id, .. }
         | Op::Retext { id, .. }
         | Op::Ungroup { id }
-        | Op::Raise { id } => *id,
+        | Op::Raise { id }
+        | Op::Lower { id } => *id,
     }
 }
 

@@ -9,7 +9,7 @@ use Rattle.gd_base.specs.Ranges.{place_limit, size_limit, is_within, is_style}
 use Rattle.gd_base.specs.declared.member.Member.{Member}
 use Rattle.gd_base.specs.declared.ranges.TheConstants.{MOST_MEMBERS}
 use Rattle.gd_events.specs.declared.op.Op.{Op}
-use Rattle.gd_events.specs.declared.op.Op.TheVariants.{Create, Delete, Move, Resize, Restyle, Retext, Group, Ungroup, Raise}
+use Rattle.gd_events.specs.declared.op.Op.TheVariants.{Create, Delete, Move, Resize, Restyle, Retext, Group, Ungroup, Raise, Lower}
 use Rattle.gd_events.specs.declared.event.EventFault.{EventFault}
 use Rattle.gd_events.specs.declared.event.EventFault.TheVariants.{Seq, Range, MemberCount, FutureId, MemberOrder}
 use Rattle.gd_events.specs.Events.{Event, IsSoundWith}
@@ -28,6 +28,7 @@ is_in_range (Retext id label) = true
 is_in_range (Group members) = list_all is_shift_in_range members
 is_in_range (Ungroup id) = true
 is_in_range (Raise id) = true
+is_in_range (Lower id) = true
 
 -- a group has at least 2 members
 abbrev pub has_members : Op → Bool
@@ -48,6 +49,7 @@ names_before stamp (Retext id label) = is_before id stamp
 names_before stamp (Group members) = list_all (is_member_before stamp) members
 names_before stamp (Ungroup id) = is_before id stamp
 names_before stamp (Raise id) = is_before id stamp
+names_before stamp (Lower id) = is_before id stamp
 
 -- the id is above the last one, if there is one
 abbrev pub is_above : Option Stamp → Stamp → Bool
@@ -88,6 +90,7 @@ IsWellTyped (Retext id label) = IsStamp id × IsLabel label
 IsWellTyped (Group members) = (length members ≤ MOST_MEMBERS) × AreStamped members
 IsWellTyped (Ungroup id) = IsStamp id
 IsWellTyped (Raise id) = IsStamp id
+IsWellTyped (Lower id) = IsStamp id
 
 -- an operation that an event with that stamp may have
 pub record IsOp (stamp : Stamp) (op : Op) : Type 0 where

@@ -165,7 +165,7 @@ fn is_in_range(op: &Op) -> bool
         Op::Resize { w, h, .. } => is_within(SIZE_LIMIT, *w) && is_within(SIZE_LIMIT, *h),
         Op::Restyle { style, .. } => style.is_in_range(),
         Op::Group { members } => are_shifts_in_range(members.as_slice()),
-        Op::Delete { .. } | Op::Retext { .. } | Op::Ungroup { .. } | Op::Raise { .. } => true,
+        Op::Delete { .. } | Op::Retext { .. } | Op::Ungroup { .. } | Op::Raise { .. } | Op::Lower { .. } => true,
     }
 }
 
@@ -196,7 +196,8 @@ fn names_before(stamp: Stamp, op: &Op) -> bool
         | Op::Restyle { id, .. }
         | Op::Retext { id, .. }
         | Op::Ungroup { id }
-        | Op::Raise { id } => id.is_before(stamp),
+        | Op::Raise { id }
+        | Op::Lower { id } => id.is_before(stamp),
         Op::Group { members } => are_members_before(stamp, members.as_slice()),
     }
 }

@@ -52,6 +52,10 @@ pub enum Op {
     Raise {
         id: Stamp,
     },
+    /// Moves the object to the bottom.
+    Lower {
+        id: Stamp,
+    },
 }
 
 impl Operation for Op {
@@ -108,6 +112,7 @@ impl Op {
             }
             Op::Ungroup { id } => Op::Ungroup { id: *id },
             Op::Raise { id } => Op::Raise { id: *id },
+            Op::Lower { id } => Op::Lower { id: *id },
         }
     }
 }

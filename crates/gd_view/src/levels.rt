@@ -38,8 +38,8 @@ fn level_at(canvas: &Canvas, place: usize) -> Option<Level>
 fn add(levels: &mut BTreeSet<Level>, level: Option<Level>) -> Result<(), AllocError>
     ensures { OnOk result (levels.new.keys ≡ with_level level levels.old.keys) }
 {
-    if let Some(level) = level {
-        levels.insert(level)?;
+    if let Some(Level { rank, id }) = level {
+        levels.insert(Level { rank, id })?;
     }
     Ok(())
 }
