@@ -127,7 +127,7 @@ module _ {O : Type 0} {IsOp : Stamp → O → Type 0} {kind : LogKind O} (laws :
   step-keeps head seen (b ∷ bytes) more = by (eqb b gate) (record_at kind head seen bytes) (record-keeps head seen bytes more) where
     by : (t : Bool) (r : Result (EventValue O × List ℕ) LogMisread) → Keeps (longer more) (λ x. length x.1 ≤ length bytes) (Enough EVENT_BYTES bytes more) more r (record_at kind head seen (bytes ++ more))
         → Keeps (option_map (longer more)) (Fewer (b ∷ bytes)) (Enough RECORD (b ∷ bytes) more) more
-            (cond t (r >>= λ e. Ok (Some e)) (Ok None)) (cond t (record_at kind head seen (bytes ++ more) >>= λ e. Ok (Some e)) (Ok None))
+        (cond t (r >>= λ e. Ok (Some e)) (Ok None)) (cond t (record_at kind head seen (bytes ++ more) >>= λ e. Ok (Some e)) (Ok None))
     by true (Ok y) k = keeps-read (Some y) (λ enough. rw (k.ok (λ lt. enough (omega arith)) y refl) refl) (omega (arith, k.fits y refl))
     by true (Err g) k = keeps-fault g (λ enough. rw (k.err (λ lt. enough (omega arith)) g refl) refl)
     by false r k = keeps-read None (λ enough. refl) tt

@@ -70,7 +70,11 @@ impl<K: LogKind> KindWriter<K> {
     ///
     /// Fails only where the journal's count of faults rises. A log that obeyed the rules then reads as before, or with
     /// the new event, and the place is as it was.
-    pub fn append<J: Journal>(&mut self, journal: &mut J, event: &Event<K::Op>) -> Result<(), Failed>
+    pub fn append<J: Journal>(
+        &mut self,
+        journal: &mut J,
+        event: &Event<K::Op>,
+    ) -> Result<(), Failed>
         requires room { self.old ≤ 2 ^ 62 }
         requires log { IsSome (J.seen journal.old).contents
             → IsLogAt K.kind self.old (told (J.seen journal.old).contents) }
