@@ -1,7 +1,8 @@
--- The bytes of an operation on a drawing: a tag, and the body by the tag. In version One a label has at most 64 bytes. A
+-- The bytes of an operation on a drawing: a tag, and the body by the tag. In version One a label has at most 64 bytes, and no
+-- tag is that of Lower. A
 -- member's id that isn't above that of the member before it is MemberOrder at its first byte. That, and whether an id is
 -- before the event's stamp, is judged before the fields behind the id.
-use Rattle.std.specs.Prelude.{ℕ, Option, Some, None, List, Ok, Err, ◌&&◌, nat_le, ◌==◌, if◌then◌else◌}
+use Rattle.std.specs.Prelude.{ℕ, Bool, true, false, Option, Some, None, List, Ok, Err, ◌&&◌, nat_le, ◌==◌, if◌then◌else◌}
 use Rattle.gd_base.specs.Stamps.{Stamp}
 use Rattle.gd_base.specs.Labels.{most_label}
 use Rattle.gd_base.specs.Ranges.{place_limit, size_limit, is_colour, is_width}
@@ -16,7 +17,7 @@ use Rattle.gd_base.specs.declared.style.Style.TheVariants.{Stroke, Fill, Width}
 use Rattle.gd_base.specs.declared.version.Version.{Version}
 use Rattle.gd_base.specs.declared.version.Version.TheVariants.{One, Two}
 use Rattle.gd_events.specs.declared.op.Op.{Op}
-use Rattle.gd_events.specs.declared.op.Op.TheVariants.{Create, Delete, Move, Resize, Restyle, Retext, Group, Ungroup, Raise}
+use Rattle.gd_events.specs.declared.op.Op.TheVariants.{Create, Delete, Move, Resize, Restyle, Retext, Group, Ungroup, Raise, Lower}
 use Rattle.gd_events.specs.Sound.{is_above}
 use Rattle.gd_grammar.specs.Reading.{Reads, fault_at, ranged, many_at}
 use Rattle.gd_grammar.specs.Fields.{byte_at, id_at, signed_at, label_within, word_at}
@@ -149,6 +150,11 @@ group_at stamp bytes = do
   members ← members_at count.0 stamp None count.1
   Ok (Group members.0, members.1)
 
+-- whether the version has the operation Lower
+abbrev pub has_lower : Version → Bool
+has_lower One = false
+has_lower Two = true
+
 -- a tag, and the body by the tag
 unfoldable pub op_at : Version → Stamp → List ℕ → Reads Op
 op_at version stamp bytes = do
@@ -162,4 +168,5 @@ op_at version stamp bytes = do
       else if tag.0 == 7 then group_at stamp tag.1
       else if tag.0 == 8 then lone_at Ungroup stamp tag.1
       else if tag.0 == 9 then lone_at Raise stamp tag.1
+      else if tag.0 == 10 && has_lower version then lone_at Lower stamp tag.1
       else Err (fault_at Field bytes)

@@ -28,6 +28,7 @@ IsEdit (wish.Retext id label) = IsStamp id × IsLabel label
 IsEdit (wish.Group ids) = (2 ≤ length ids) × (length ids ≤ MOST_MEMBERS) × AllByRecursion IsStamp ids
 IsEdit (wish.Ungroup id) = IsStamp id
 IsEdit (wish.Raise id) = IsStamp id
+IsEdit (wish.Lower id) = IsStamp id
 
 abbrev pub IsCommand : Command → Type 0
 IsCommand (command.Edit edit) = IsEdit edit

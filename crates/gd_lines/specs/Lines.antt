@@ -15,7 +15,7 @@ use Rattle.gd_base.specs.declared.refusal.LineFault.TheVariants.{LongLine, Unkno
 use Rattle.gd_base.specs.declared.edit.Edit.{Edit}
 use Rattle.gd_base.specs.declared.edit.Edit.TheVariants as edit
 use Rattle.gd_lines.specs.declared.verb.Verb.{Verb}
-use Rattle.gd_lines.specs.declared.verb.Verb.TheVariants.{Create, Delete, Move, Resize, Stroke, Fill, Width, Text, Group, Ungroup, Raise, Show, Poll, Status, Focus, Name, Who, Quit}
+use Rattle.gd_lines.specs.declared.verb.Verb.TheVariants.{Create, Delete, Move, Resize, Stroke, Fill, Width, Text, Group, Ungroup, Raise, Lower, Show, Poll, Status, Focus, Name, Who, Quit}
 use Rattle.gd_lines.specs.declared.command.TheConstants.{LONGEST_LINE}
 use Rattle.gd_lines.specs.declared.command.Command.{Command}
 use Rattle.gd_lines.specs.declared.command.Command.TheVariants as command
@@ -88,6 +88,7 @@ verb text =
     else if bytes_eq text (codes "group") then Some Group
     else if bytes_eq text (codes "ungroup") then Some Ungroup
     else if bytes_eq text (codes "raise") then Some Raise
+    else if bytes_eq text (codes "lower") then Some Lower
     else if bytes_eq text (codes "show") then Some Show
     else if bytes_eq text (codes "poll") then Some Poll
     else if bytes_eq text (codes "status") then Some Status
@@ -110,6 +111,7 @@ fits Width n = n == 2
 fits Delete n = n == 1
 fits Ungroup n = n == 1
 fits Raise n = n == 1
+fits Lower n = n == 1
 fits Focus n = n == 1
 fits Name n = n == 1
 fits Show n = n == 0
@@ -187,6 +189,11 @@ raise_at line = do
   id ← id_at line
   Ok (edit.Raise id.0, id.1)
 
+unfoldable pub lower_at : List ℕ → ReadsWords Edit
+lower_at line = do
+  id ← id_at line
+  Ok (edit.Lower id.0, id.1)
+
 abbrev pub an_edit : ReadsWords Edit → ReadsWords Command
 an_edit (Ok e) = Ok (command.Edit e.0, e.1)
 an_edit (Err fault) = Err fault
@@ -204,6 +211,7 @@ command_at Text n line = an_edit (text_at line)
 command_at Group n line = an_edit (group_at n line)
 command_at Ungroup n line = an_edit (ungroup_at line)
 command_at Raise n line = an_edit (raise_at line)
+command_at Lower n line = an_edit (lower_at line)
 command_at Show n line = Ok (command.Show, line)
 command_at Poll n line = Ok (command.Poll, line)
 command_at Status n line = Ok (command.Status, line)

@@ -117,6 +117,7 @@ judged_over look (wish.Retext id label) = with_target (look id) (λ t. of_shape 
 judged_over look (wish.Group ids) = with_targets (targets look ids)
 judged_over look (wish.Ungroup id) = with_target (look id) (λ t. of_group (op.Ungroup id) t.kind)
 judged_over look (wish.Raise id) = with_target (look id) (λ t. Ok (op.Raise id))
+judged_over look (wish.Lower id) = with_target (look id) (λ t. Ok (op.Lower id))
 
 -- the same over the drawing of these events
 unfoldable pub judged : List Event → Edit → Result Op EditRefusal

@@ -37,7 +37,7 @@ bytes_compute = tt
 
 -- lines that are typed, and lines that are printed
 unfoldable pub lines_compute : ⊤
-unfolding chars is_utf8 encode_utf8 digits behind count_from without_cr word lines.colour_at lines.create_at lines.delete_at lines.fill_at lines.focus_at lines.group_at lines.id_at lines.ids_at lines.kind_at lines.label_at lines.move_at lines.name_at lines.natural_at lines.place_at lines.raise_at lines.read lines.refill_at lines.resize_at lines.rewidth_at lines.size_at lines.stroke_at lines.text_at lines.ungroup_at lines.verb lines.width_at at_at deliver_at mail_at read_script script_verb send_at site_at site_command_at applied_line backdated_line bad_frame_line done_line dropped_line link_fault_line noted_line polled_line ready_line refused_line reworked_line status_line status_text who_line bad_log_line colour_text colours_text end_line head_text hex_digit high_digits id_text item_line look_text nibble size_text width_text colour digit fill focus id kind label name natural_in number number_in numeral
+unfolding chars is_utf8 encode_utf8 digits behind count_from without_cr word lines.colour_at lines.create_at lines.delete_at lines.fill_at lines.focus_at lines.group_at lines.id_at lines.ids_at lines.kind_at lines.label_at lines.lower_at lines.move_at lines.name_at lines.natural_at lines.place_at lines.raise_at lines.read lines.refill_at lines.resize_at lines.rewidth_at lines.size_at lines.stroke_at lines.text_at lines.ungroup_at lines.verb lines.width_at at_at deliver_at mail_at read_script script_verb send_at site_at site_command_at applied_line backdated_line bad_frame_line done_line dropped_line link_fault_line noted_line polled_line ready_line refused_line reworked_line status_line status_text who_line bad_log_line colour_text colours_text end_line head_text hex_digit high_digits id_text item_line look_text nibble size_text width_text colour digit fill focus id kind label name natural_in number number_in numeral
 lines_compute = tt
 
 -- drawings, sites, worlds and runs

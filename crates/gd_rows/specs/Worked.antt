@@ -6,7 +6,7 @@ use Rattle.gd_base.specs.declared.shape.Shape.TheVariants.{Rect, Ellipse}
 use Rattle.gd_base.specs.declared.style.Style.TheVariants.{Stroke, Fill, Width}
 use Rattle.gd_base.specs.declared.version.Version.TheVariants.{One, Two}
 use Rattle.gd_events.specs.declared.op.Op.{Op}
-use Rattle.gd_events.specs.declared.op.Op.TheVariants.{Create, Delete, Move, Resize, Restyle, Retext, Group, Ungroup, Raise}
+use Rattle.gd_events.specs.declared.op.Op.TheVariants.{Create, Delete, Move, Resize, Restyle, Retext, Group, Ungroup, Raise, Lower}
 use Rattle.gd_events.specs.Events.{Event}
 use Rattle.gd_base.specs.declared.fault.LogWhy.{LogWhy}
 use Rattle.gd_base.specs.declared.fault.LogWhy.TheVariants.{Short, Magic, Version, Field, FutureId, MemberOrder, NoSite, Turn, Backdated}
@@ -289,6 +289,13 @@ no_colour_log =
 abbrev pub begun_log : List ℕ → List ℕ
 begun_log bytes = header_bytes ++ 195 ∷ 0 ∷ 0 ∷ 0 ∷ 0 ∷ 0 ∷ 3 ∷ 1 ∷ 0 ∷ 1 ∷ bytes
 
+-- a lower of an object that isn't there, in version 2; no gate stands at the end
+abbrev pub lowered_log : List ℕ
+lowered_log = set (begun_log (10 ∷ 0 ∷ 0 ∷ 0 ∷ 0 ∷ 0 ∷ 1 ∷ 1 ∷ [])) 4 2
+
+abbrev pub lowered_events : List Event
+lowered_events = event 3 1 1 (Lower (at_stamp 1 1)) ∷ []
+
 -- why bytes are no log, and how many of them stand from the fault's place on
 abbrev pub fault_at : LogWhy → ℕ → LogMisread
 fault_at why left = record { why = why; left = left }
@@ -304,8 +311,10 @@ log_faults =
     ∷ (future_resize_log, fault_at FutureId 15)
     ∷ (no_colour_log, fault_at Field 4)
     ∷ (take 32 tie_log, fault_at Short 0)
-    -- an operation that isn't there, and groups of one member and of 33
+    -- a lower in version 1, an operation that version 2 hasn't, and groups of one member and of 33
     ∷ (begun_log (10 ∷ []), fault_at Field 1)
+    ∷ (begun_log (10 ∷ 0 ∷ 0 ∷ 0 ∷ 0 ∷ 0 ∷ 1 ∷ 1 ∷ []), fault_at Field 8)
+    ∷ (set (begun_log (11 ∷ [])) 4 2, fault_at Field 1)
     ∷ (begun_log (7 ∷ 1 ∷ []), fault_at Field 1)
     ∷ (begun_log (7 ∷ 33 ∷ []), fault_at Field 1)
     ∷ (unordered_log, fault_at MemberOrder 15)

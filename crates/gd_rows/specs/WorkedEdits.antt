@@ -4,7 +4,6 @@ use Rattle.gd_base.specs.declared.edit.Edit.{Edit}
 use Rattle.gd_base.specs.declared.edit.Edit.TheVariants as wish
 use Rattle.gd_base.specs.declared.refusal.EditRefusal.{EditRefusal}
 use Rattle.gd_base.specs.declared.refusal.EditRefusal.TheVariants as why
-use Rattle.gd_base.specs.declared.shape.Shape.TheVariants.{Rect}
 use Rattle.gd_events.specs.declared.op.Op.{Op}
 use Rattle.gd_events.specs.declared.op.Op.TheVariants as op
 use Rattle.gd_reference.specs.SlowSite.{SlowSite}
@@ -30,6 +29,8 @@ grouped_edits =
     -- a place is the one to be shown at, and the members of a group stand by their ids
     (move_to 1 1 50 50, Ok (op.Move (at_stamp 1 1) (pos 45) (pos 43)))
     ∷ (group_of 4 1 3 1, Ok (op.Group (member 3 1 (pos 0) (pos 0) ∷ member 4 1 (pos 0) (pos 0) ∷ [])))
+    ∷ (wish.Lower (at_stamp 4 1), Ok (op.Lower (at_stamp 4 1)))
+    ∷ (wish.Lower (at_stamp 9 1), Err why.NoObject)
     ∷ (group_of 9 1 9 1, Err why.NoObject)
     ∷ (wish.Resize (at_stamp 4 1) (pos 1) (pos 1), Err why.NotShape)
     ∷ (wish.Ungroup (at_stamp 1 1), Err why.NotGroup)

@@ -16,6 +16,7 @@ read_lines =
     (codes "text 1.2  a b ", command.Edit (edit.Retext (at_stamp 1 2) (codes " a b ")))
     ∷ (codes "text 1.2", command.Edit (edit.Retext (at_stamp 1 2) []))
     ∷ (codes " group 2.1  01.16" ++ 13 ∷ [], command.Edit (edit.Group (at_stamp 2 1 ∷ at_stamp 1 16 ∷ [])))
+    ∷ (codes "lower 1.1", command.Edit (edit.Lower (at_stamp 1 1)))
     ∷ (codes "focus -", command.Focus None)
     ∷ (codes "  " ++ 13 ∷ [], command.Blank)
     ∷ []

@@ -214,6 +214,10 @@ impl EventBytes {
                 self.put_byte(9);
                 self.put_stamp(*id);
             }
+            Op::Lower { id } => {
+                self.put_byte(10);
+                self.put_stamp(*id);
+            }
         }
     }
 }

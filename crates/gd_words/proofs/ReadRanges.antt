@@ -27,7 +27,7 @@ use Rattle.gd_lines.specs.declared.command.Command.TheVariants as command
 use Rattle.gd_base.specs.Results.{◌>>=◌}
 use Rattle.gd_lines.specs.LineWords.{word, behind, count_words, without_cr}
 use Rattle.gd_lines.specs.WordKinds.{digit, is_digit, push_digit, value, numeral, number, is_between, number_in, natural_in, in_ranges, is_dot, id, colour, fill, focus, label, name}
-use Rattle.gd_lines.specs.Lines.{ReadsWords, or_fault, next, kind_at, place_at, size_at, natural_at, width_at, id_at, colour_at, fill_at, focus_at, name_at, label_at, ids_at, verb, fits, create_at, delete_at, move_at, resize_at, stroke_at, refill_at, rewidth_at, text_at, group_at, ungroup_at, raise_at, an_edit, command_at, counted_at, first_of, read}
+use Rattle.gd_lines.specs.Lines.{ReadsWords, or_fault, next, kind_at, place_at, size_at, natural_at, width_at, id_at, colour_at, fill_at, focus_at, name_at, label_at, ids_at, verb, fits, create_at, delete_at, move_at, resize_at, stroke_at, refill_at, rewidth_at, text_at, group_at, ungroup_at, raise_at, lower_at, an_edit, command_at, counted_at, first_of, read}
 use Rattle.gd_lines.specs.declared.verb.ScriptVerb.{ScriptVerb}
 use Rattle.gd_lines.specs.declared.verb.ScriptVerb.TheVariants as script
 use Rattle.gd_lines.specs.declared.command.ScriptLine.{ScriptLine}
@@ -248,7 +248,7 @@ edit_in (Ok e) h = (h, λ _. tt)
 edit_in (Err fault) h = tt
 
 command_in : (v : Verb) (n : ℕ) (line : List ℕ) → fits v n ≡ true → Yields (IsAskedIf (is_askable v)) (command_at v n line)
-unfolding IsFocus IsFill delete_at move_at resize_at stroke_at refill_at rewidth_at text_at ungroup_at raise_at place_at size_at
+unfolding IsFocus IsFill delete_at move_at resize_at stroke_at refill_at rewidth_at text_at ungroup_at raise_at lower_at place_at size_at
 command_in verb_of.Create n line fit = edit_in (create_at line) (create_in line)
 command_in verb_of.Delete n line fit = edit_in _ (lone_in edit.Delete line (λ id is. is))
 command_in verb_of.Move n line fit = edit_in _ (pair_in place_limit edit.Move line place_at (within_in place_limit) (λ id x y h. h))
@@ -260,6 +260,7 @@ command_in verb_of.Text n line fit = edit_in _ (changed_in _ label_at edit.Retex
 command_in verb_of.Group n line fit = edit_in (group_at n line) (group_in n line fit)
 command_in verb_of.Ungroup n line fit = edit_in _ (lone_in edit.Ungroup line (λ id is. is))
 command_in verb_of.Raise n line fit = edit_in _ (lone_in edit.Raise line (λ id is. is))
+command_in verb_of.Lower n line fit = edit_in _ (lone_in edit.Lower line (λ id is. is))
 command_in verb_of.Show n line fit = (tt, λ _. tt)
 command_in verb_of.Poll n line fit = (tt, λ e. absurd cc)
 command_in verb_of.Status n line fit = (tt, λ _. tt)
