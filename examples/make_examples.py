@@ -1,17 +1,17 @@
 #!/usr/bin/env python3
-"""Writes the logs of this folder, and the input of the stored run of crates/groupdesign. Run again, it writes the same
-bytes.
+"""Writes the logs of this folder, and the input of the stored run of crates/groupdesign. Run again, it writes the
+same bytes.
 
 A log is a header, then each event behind an open gate, then a closed gate. Numbers are big-endian.
 
-    header   the letters GDOL; version 1 (1 byte); the number of the session, which all its sites share (4);
+    header   the letters GDOL; version 1 or 2 (1 byte); the number of the session, which all its sites share (4);
              the site that keeps the log (1); how many sites there are (1)
     gate     C3: an event follows; anything else, or the end of the file: the log ends
     event    stamp (7); its number among the events of its site (2); tag (1); a body, which the tag tells
     stamp    clock (6); site (1)
 
     tag 1    create: kind (1: rect, ellipse, line or text as 1 to 4); x, y, width and height (4 each, signed);
-             the length of the label (1); the label
+             the length of the label (1: at most 64 in version 1, 200 in version 2); the label
     tag 2    delete: the stamp of the event that made the object, which is the object's id (7)
     tag 3    move: id (7); x and y (4 each, signed)
     tag 4    resize: id (7); width and height (4 each, signed)
@@ -21,6 +21,7 @@ A log is a header, then each event behind an open gate, then a closed gate. Numb
     tag 7    group: how many members (1: 2 to 32); for each its id (7), and its shift in x and y (4 each, signed)
     tag 8    ungroup: id (7)
     tag 9    raise: id (7)
+    tag 10   lower, in version 2 alone: id (7)
 """
 
 from pathlib import Path
@@ -79,23 +80,33 @@ def raise_up(clock, site):
     return b"\x09" + stamp(clock, site)
 
 
-def header(drawing, site, sites):
-    return b"GDOL\x01" + pack(">I", drawing) + bytes([site, sites])
+def lower(clock, site):
+    return b"\x0A" + stamp(clock, site)
 
 
-def log(drawing, site, sites, events):
+def header(drawing, site, sites, version=1):
+    return b"GDOL" + bytes([version]) + pack(">I", drawing) + bytes([site, sites])
+
+
+def log(drawing, site, sites, events, version=1):
     """The bytes of a log. An event is (clock, site, what it does); its number is counted here."""
-    counts, parts = {}, [header(drawing, site, sites)]
+    counts, parts = {}, [header(drawing, site, sites, version)]
     for clock, by, what in events:
         counts[by] = counts.get(by, 0) + 1
         parts.append(OPEN + stamp(clock, by) + pack(">H", counts[by]) + what)
     return b"".join(parts) + CLOSED
 
 
-TWO_SHAPES = log(7, 1, 2, [
+TWO_EVENTS = [
     (1, 2, create(RECT, 5, 5, 10, 10)),
     (1, 1, create(ELLIPSE, 0, 0, 20, 20)),
-])
+]
+TWO_SHAPES = log(7, 1, 2, TWO_EVENTS)
+
+# The longest label that there is. A log of version 1 can't have it.
+LONG_LABEL = log(7, 1, 1, [
+    (1, 1, create(RECT, 0, 0, 900, 20, "0123456789" * 20)),
+], version=2)
 
 # Site 3 only watches. It hears all of site 2 first, and then all of site 1.
 EFFECTS_BEFORE_CAUSES = log(7, 3, 3, [
@@ -129,8 +140,8 @@ LOOKS = log(7, 1, 2, [
     (10, 2, restyle(5, 1, WIDTH, 3)),
 ])
 
-# A roof within a house, and two birds. Site 2 lifts the roof, dissolves its group, deletes the birds' group, and raises
-# the wall within the house.
+# A roof within a house, and two birds. Site 2 lifts the roof, dissolves its group, deletes the birds' group, and
+# raises the wall within the house.
 HOUSE = log(7, 1, 2, [
     (1, 1, create(RECT, 0, 40, 100, 60, "Wall")),
     (2, 1, create(LINE, 0, 40, 50, -40)),
@@ -160,6 +171,19 @@ REGROUPED = log(7, 1, 2, [
     (5, 2, group((1, 1, 5, 7), (2, 1, 5, 7))),
 ])
 
+# Site 2 comes late. Of the two that are lowered the one that is lowered last lies at the bottom.
+LOWERED = log(7, 1, 2, [
+    (1, 1, create(RECT, 40, 40, 60, 60, "House")),
+    (2, 1, create(ELLIPSE, 120, 10, 30, 30, "Sun")),
+    (3, 1, create(RECT, 0, 0, 200, 100, "Sky")),
+    (4, 1, lower(3, 1)),
+    (5, 1, raise_up(1, 1)),
+    (6, 1, lower(3, 1)),
+    (4, 2, create(RECT, 0, 90, 200, 30, "Ground")),
+    (5, 2, lower(4, 2)),
+], version=2)
+
+
 def stored_run():
     """A log that takes more than one read of 64 KiB, and ends with the last byte of its last event and no closed gate.
 
@@ -179,10 +203,14 @@ def stored_run():
 
 EXAMPLES = {
     "two-shapes": TWO_SHAPES,
+    # What upgrade makes of it.
+    "two-shapes-2": log(7, 1, 2, TWO_EVENTS, version=2),
+    "long-label": LONG_LABEL,
     "effects-before-causes": EFFECTS_BEFORE_CAUSES,
     "looks": LOOKS,
     "house": HOUSE,
     "regrouped": REGROUPED,
+    "lowered": LOWERED,
     "empty": log(7, 1, 1, []),
     # The end of the file ends a log as a closed gate does.
     "empty-without-gate": header(7, 1, 1),
