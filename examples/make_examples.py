@@ -21,6 +21,7 @@ A log is a header, then each event behind an open gate, then a closed gate. Numb
     tag 7    group: how many members (1: 2 to 32); for each its id (7), and its shift in x and y (4 each, signed)
     tag 8    ungroup: id (7)
     tag 9    raise: id (7)
+    tag 10   lower, in version 2 alone: id (7)
 """
 
 from pathlib import Path
@@ -77,6 +78,10 @@ def ungroup(clock, site):
 
 def raise_up(clock, site):
     return b"\x09" + stamp(clock, site)
+
+
+def lower(clock, site):
+    return b"\x0A" + stamp(clock, site)
 
 
 def header(drawing, site, sites, version=1):
@@ -166,6 +171,19 @@ REGROUPED = log(7, 1, 2, [
     (5, 2, group((1, 1, 5, 7), (2, 1, 5, 7))),
 ])
 
+# Site 2 comes late. Of the two that are lowered the one that is lowered last lies at the bottom.
+LOWERED = log(7, 1, 2, [
+    (1, 1, create(RECT, 40, 40, 60, 60, "House")),
+    (2, 1, create(ELLIPSE, 120, 10, 30, 30, "Sun")),
+    (3, 1, create(RECT, 0, 0, 200, 100, "Sky")),
+    (4, 1, lower(3, 1)),
+    (5, 1, raise_up(1, 1)),
+    (6, 1, lower(3, 1)),
+    (4, 2, create(RECT, 0, 90, 200, 30, "Ground")),
+    (5, 2, lower(4, 2)),
+], version=2)
+
+
 def stored_run():
     """A log that takes more than one read of 64 KiB, and ends with the last byte of its last event and no closed gate.
 
@@ -192,6 +210,7 @@ EXAMPLES = {
     "looks": LOOKS,
     "house": HOUSE,
     "regrouped": REGROUPED,
+    "lowered": LOWERED,
     "empty": log(7, 1, 1, []),
     # The end of the file ends a log as a closed gate does.
     "empty-without-gate": header(7, 1, 1),
