@@ -115,14 +115,21 @@ styled_text =
     ∷ codes "end 1\n"
     ∷ []
 
--- a raise whose stamp is greater comes first in the log, and lifts its object above all
-abbrev pub rank_events : List Event
-rank_events =
+-- a rect, an ellipse, that event at clock 5, and behind it a raise of the ellipse at clock 4
+abbrev pub ranked_by : Op → List Event
+ranked_by op =
     event 1 1 1 (Create Rect (pos 0) (pos 0) (pos 10) (pos 10) [])
     ∷ event 2 1 2 (Create Ellipse (pos 0) (pos 0) (pos 20) (pos 20) [])
-    ∷ event 5 1 3 (Raise (at_stamp 1 1))
+    ∷ event 5 1 3 op
     ∷ event 4 2 1 (Raise (at_stamp 2 1))
     ∷ []
+
+-- the rect is raised, or the ellipse is lowered: in both the ellipse lies below the rect
+abbrev pub rank_events : List Event
+rank_events = ranked_by (Raise (at_stamp 1 1))
+
+abbrev pub ellipse_lowered : List Event
+ellipse_lowered = ranked_by (Lower (at_stamp 2 1))
 
 abbrev pub rank_text : List (List ℕ)
 rank_text =

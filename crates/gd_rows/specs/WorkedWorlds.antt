@@ -5,7 +5,7 @@ use Rattle.gd_base.specs.declared.edit.Edit.TheVariants as wish
 use Rattle.gd_base.specs.declared.note.Note.{Note}
 use Rattle.gd_base.specs.declared.refusal.FrameFault.{FrameFault}
 use Rattle.gd_base.specs.declared.refusal.FrameFault.TheVariants as fault
-use Rattle.gd_base.specs.declared.shape.Shape.TheVariants.{Rect}
+use Rattle.gd_base.specs.declared.shape.Shape.TheVariants.{Rect, Ellipse}
 use Rattle.gd_base.specs.declared.site_status.SiteStatus.{SiteStatus}
 use Rattle.gd_events.specs.declared.op.Op.TheVariants as op
 use Rattle.gd_events.specs.Events.{Event}
@@ -83,6 +83,66 @@ cover_effects = Work 0 ∷ Record (spelling covered_move) ∷ Print (codes "echo
 
 abbrev pub cover_text : List (List ℕ)
 cover_text = codes "rect 1.1 in - at 60 60 size 10 10 stroke 000000 fill none width 1\n" ∷ codes "end 1\n" ∷ []
+
+-- ---- a raise that comes late is covered by a lower
+
+abbrev pub new_ellipse : Event
+new_ellipse = event 2 1 2 (op.Create Ellipse (pos 0) (pos 0) (pos 20) (pos 20) [])
+
+abbrev pub covered_raise : Event
+covered_raise = event 3 1 3 (op.Raise (at_stamp 1 1))
+
+abbrev pub covering_lower : Event
+covering_lower = event 3 2 1 (op.Lower (at_stamp 1 1))
+
+-- all but the delivery of the late raise, and what comes after it
+abbrev pub lower_begins : List Step
+lower_begins =
+    At 1 (Edits (new_rect (pos 0)))
+    ∷ At 1 (Edits (wish.Create Ellipse (pos 0) (pos 0) (pos 20) (pos 20) []))
+    ∷ Send 1 2
+    ∷ Deliver 0
+    ∷ At 1 (Edits (wish.Raise (at_stamp 1 1)))
+    ∷ At 2 (Edits (wish.Lower (at_stamp 1 1)))
+    ∷ Send 1 2
+    ∷ []
+
+abbrev pub lower_steps : List Step
+lower_steps = lower_begins ++ Deliver 1 ∷ Send 2 1 ∷ []
+
+-- site 2 before the late raise comes, and site 1 before the lower comes
+abbrev pub lowering_site : SlowSite
+lowering_site = (after 2 7 lower_begins).at 2
+
+abbrev pub raising_site : SlowSite
+raising_site = (after 2 7 lower_steps).at 1
+
+abbrev pub lower_world : World
+lower_world = after 2 7 (lower_steps ++ Deliver 2 ∷ [])
+
+-- the second mail and the third
+abbrev pub raise_frame : Frame
+raise_frame =
+    record {
+      head = record { session = 7; from = 1; to = 2; ack = 0; count = 3; clock = 3 };
+      note = no_note;
+      events = first_rect ∷ new_ellipse ∷ covered_raise ∷ [];
+    }
+
+abbrev pub covering_frame : Frame
+covering_frame =
+    record {
+      head = record { session = 7; from = 2; to = 1; ack = 3; count = 1; clock = 3 };
+      note = no_note;
+      events = covering_lower ∷ [];
+    }
+
+abbrev pub lower_text : List (List ℕ)
+lower_text =
+    codes "rect 1.1 in - at 0 0 size 10 10 stroke 000000 fill none width 1\n"
+    ∷ codes "ellipse 2.1 in - at 0 0 size 20 20 stroke 000000 fill none width 1\n"
+    ∷ codes "end 2\n"
+    ∷ []
 
 -- ---- two groups at once, one of which takes a member from the other
 

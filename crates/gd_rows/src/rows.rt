@@ -14,7 +14,7 @@ ghost use Rattle.gd_model.specs.Arrivals.{drawn, all_drawn, outcome_of, costs};
 ghost use Rattle.gd_reference.specs.DrawingText.{text};
 ghost use Rattle.gd_reference.specs.SlowRun.{slow_effects, slow_end};
 ghost use Rattle.gd_lines.specs.Replies.{usage_line};
-ghost use Rattle.gd_rows.specs.Worked.{header, header_two, header_bytes, empty_log, tie_log, tie_events, tie_text, rank_events, rank_text, effect_before_cause, end_alone, replay_words, other_words, prints_of, works_of, cut_text, moved_log, moved_events, moved_text, styled_log, styled_events, styled_text, grouped_log, grouped_events, regrouped_events, regrouped_text, nested_events, nested_text, frame_row, frame_value, at_stamp, moves_held, late_move, late_delete, tied_held, late_group, undone_by_the_group, log_faults, lowered_log, lowered_events, frame_faults, last_move};
+ghost use Rattle.gd_rows.specs.Worked.{header, header_two, header_bytes, empty_log, tie_log, tie_events, tie_text, rank_events, ellipse_lowered, rank_text, effect_before_cause, end_alone, replay_words, other_words, prints_of, works_of, cut_text, moved_log, moved_events, moved_text, styled_log, styled_events, styled_text, grouped_log, grouped_events, regrouped_events, regrouped_text, nested_events, nested_text, frame_row, frame_value, at_stamp, moves_held, late_move, late_delete, tied_held, late_group, undone_by_the_group, log_faults, lowered_log, lowered_events, frame_faults, last_move};
 
 /// A log without events prints no object, with its closed gate and without.
 pub fn an_empty_log_prints_its_end()
@@ -44,9 +44,11 @@ pub fn a_look_is_set()
         ≡ works_of (1 ∷ 1 ∷ 1 ∷ 1 ∷ 1 ∷ 1 ∷ 1 ∷ []) ++ prints_of styled_text }
 {}
 
-/// A raise lifts its object above all whose creates and raises come before it by their stamps.
+/// A raise lifts its object above all whose creates and raises come before it by their stamps, and a lower puts its object
+/// below all.
 pub fn the_last_raise_is_on_top()
-    ensures { text (picture rank_events) ≡ rank_text }
+    ensures raised { text (picture rank_events) ≡ rank_text }
+    ensures lowered { text (picture ellipse_lowered) ≡ rank_text }
 {}
 
 /// A group is read with its members and their shifts.
@@ -94,9 +96,10 @@ pub fn dependents_of_dependents_are_redone()
     ensures { outcome_of tied_held late_group ≡ reworked (all_drawn undone_by_the_group) }
 {}
 
-/// A raise doesn't depend on that of another object, and a delete covers the create of its object.
+/// A raise doesn't depend on that of another object, a lower covers the raise of its object, and a delete the create.
 pub fn what_others_do_costs_nothing()
     ensures ranks { costs rank_events ≡ 1 ∷ 1 ∷ 1 ∷ 1 ∷ [] }
+    ensures lowered { costs ellipse_lowered ≡ 1 ∷ 1 ∷ 1 ∷ 0 ∷ [] }
     ensures before_its_cause { costs effect_before_cause ≡ 1 ∷ 0 ∷ [] }
 {}
 

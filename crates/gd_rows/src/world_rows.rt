@@ -15,7 +15,7 @@ ghost use Rattle.gd_base.specs.Notes.{no_note};
 ghost use Rattle.gd_reference.specs.SlowSite.{line, outbox, left_outbox, status, own};
 ghost use Rattle.gd_reference.specs.World.{Names, after_line};
 ghost use Rattle.gd_rows.specs.Worked.{at_stamp, event};
-ghost use Rattle.gd_rows.specs.WorkedWorlds.{site_status, cover_site, cover_world, cover_held, cover_frame, cover_effects, cover_text, closure_site, closure_world, closure_held, closure_frame, closure_effects, closure_text, noted_world, noted_note, answered_world, lost_world, stored_world, taken_world, turned_world, focused_world, listener_of_note, named, listener, ahead_create, ahead_move, ahead_first, ahead_gap, ahead_rest, refused_heads, sure_frame, sure_raise, sure_late_frame, two_held, lower_frame, noting_frame, ahead_one, ahead_none, ahead_all, sure_site, over_acknowledged, first_rect, noted_site};
+ghost use Rattle.gd_rows.specs.WorkedWorlds.{site_status, cover_site, cover_world, cover_held, cover_frame, cover_effects, cover_text, lowering_site, raising_site, lower_world, raise_frame, covering_frame, lower_text, closure_site, closure_world, closure_held, closure_frame, closure_effects, closure_text, noted_world, noted_note, answered_world, lost_world, stored_world, taken_world, turned_world, focused_world, listener_of_note, named, listener, ahead_create, ahead_move, ahead_first, ahead_gap, ahead_rest, refused_heads, sure_frame, sure_raise, sure_late_frame, two_held, lower_frame, noting_frame, ahead_one, ahead_none, ahead_all, sure_site, over_acknowledged, first_rect, noted_site};
 
 /// A move that arrives late, and that a later one covers, is held like any other. It is printed as dropped, and shows nothing.
 pub fn a_covered_move_is_held()
@@ -26,6 +26,18 @@ pub fn a_covered_move_is_held()
         ≡ reply.Dropped (at_stamp 2 2) (at_stamp 3 1) ∷ [] }
     ensures status { status (cover_world.at 1) ≡ site_status 4 1 2 3 }
     ensures shown { text (picture (cover_world.at 1).held) ≡ cover_text }
+{}
+
+/// A raise and a lower of one object that were made at once. The raise comes late and is covered by the lower, and both sites
+/// show the object at the bottom.
+pub fn a_raise_that_a_lower_covers()
+    ensures mail { slice_get lower_world.mail 1 ≡ Some raise_frame }
+    ensures dropped { frame_replies lowering_site raise_frame
+        ≡ reply.Dropped (at_stamp 3 1) (at_stamp 3 2) ∷ [] }
+    ensures back { slice_get lower_world.mail 2 ≡ Some covering_frame }
+    ensures applied { frame_replies raising_site covering_frame ≡ reply.Applied (at_stamp 3 2) ∷ [] }
+    ensures shown { AllByRecursion (λ site. text (picture (lower_world.at site).held) ≡ lower_text)
+        (1 ∷ 2 ∷ []) }
 {}
 
 /// Two groups that were made at once, of which one takes a member from the other. The late one is printed with how many events

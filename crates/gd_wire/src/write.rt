@@ -35,7 +35,7 @@ impl EventBytes {
         self.put(&bytes);
     }
 
-    pub(crate) fn put_stamp(&mut self, stamp: Stamp)
+    pub fn put_stamp(&mut self, stamp: Stamp)
         requires { length self.old + 7 ≤ EVENT_BYTES }
         ensures bytes { self.new ≡ self.old ++ stamp_bytes stamp }
         ensures grown { length self.new ≡ length self.old + 7 }
@@ -45,7 +45,7 @@ impl EventBytes {
     }
 
     /// A number of two bytes.
-    pub(crate) fn put_number(&mut self, number: u16)
+    pub fn put_number(&mut self, number: u16)
         requires { length self.old + 2 ≤ EVENT_BYTES }
         ensures bytes { self.new ≡ self.old ++ bytes_high_first 2 number }
         ensures grown { length self.new ≡ length self.old + 2 }
@@ -56,7 +56,7 @@ impl EventBytes {
     }
 
     /// A number of four bytes.
-    pub(crate) fn put_word(&mut self, word: u32)
+    pub fn put_word(&mut self, word: u32)
         requires { length self.old + 4 ≤ EVENT_BYTES }
         ensures bytes { self.new ≡ self.old ++ word_bytes word }
         ensures grown { length self.new ≡ length self.old + 4 }
@@ -66,7 +66,8 @@ impl EventBytes {
         self.put(&bytes);
     }
 
-    fn put_signed(&mut self, value: i32)
+    /// A signed number of four bytes, in two's complement.
+    pub fn put_signed(&mut self, value: i32)
         requires { length self.old + 4 ≤ EVENT_BYTES }
         ensures bytes { self.new ≡ self.old ++ signed_bytes value }
         ensures grown { length self.new ≡ length self.old + 4 }
@@ -98,7 +99,7 @@ impl EventBytes {
     }
 
     /// A text, behind its length.
-    pub(crate) fn put_text(&mut self, text: &str)
+    pub fn put_text(&mut self, text: &str)
         requires few { length text.now < 256 }
         requires room { length self.old + 1 + length text.now ≤ EVENT_BYTES }
         ensures { self.new ≡ self.old ++ label_bytes text.now }

@@ -62,6 +62,19 @@ fn the_later_raise_is_above_wherever_it_stands(rt: HostRuntime) -> Result<(), Fa
     Ok(())
 }
 
+// In version two the rect isn't raised, and the ellipse is lowered at clock 5.
+#[test]
+fn a_lowered_object_is_below_all(rt: HostRuntime) -> Result<(), Fail> {
+    let mut bytes = RANKS;
+    bytes[4] = 2;
+    bytes[79] = 10;
+    bytes[85] = 2;
+    let (status, output) = ran_over(rt.alloc(), &["replay"], &bytes)?;
+    assert_eq!(rt; status, Status::Done);
+    assert_eq!(rt; output.bytes(), RANKS_TEXT.as_bytes());
+    Ok(())
+}
+
 #[test]
 fn a_delete_before_its_create_deletes(rt: HostRuntime) -> Result<(), Fail> {
     let (status, output) = ran_over(rt.alloc(), &["replay"], &EFFECT_FIRST)?;
