@@ -14,7 +14,7 @@ use gd_words::{AsText, Reply};
 pub fn refuse<K: Sink>(output: &mut K, at: u64, why: LogWhy) -> Result<(), End>
     ensures does { Prints (K.seen output.old) (Print (bad_log_line at why) ∷ []) result
         (K.seen output.new) }
-    ensures end { result ≡ Err End.NoMemory → ⊥ }
+    ensures end { (e : End) → result ≡ Err e → e ≡ End.WriteFault }
 {
     let line = Reply::BadLog { at, why }.text();
     print(output, line.as_slice())

@@ -76,6 +76,23 @@ fn a_lowered_object_is_below_all(rt: HostRuntime) -> Result<(), Fail> {
 }
 
 #[test]
+fn a_lower_is_of_version_two(rt: HostRuntime) -> Result<(), Fail> {
+    for (version, tag) in [(1, 10), (2, 11)] {
+        let mut bytes = RANKS;
+        bytes[4] = version;
+        bytes[79] = tag;
+        let (status, output) = ran_over(rt.alloc(), &["replay"], &bytes)?;
+        assert_eq!(rt; status, Status::BadLog, "version {version}");
+        assert_eq!(rt;
+            output.bytes(),
+            b"bad log at 79: Field\n".as_slice(),
+            "version {version}"
+        );
+    }
+    Ok(())
+}
+
+#[test]
 fn a_delete_before_its_create_deletes(rt: HostRuntime) -> Result<(), Fail> {
     let (status, output) = ran_over(rt.alloc(), &["replay"], &EFFECT_FIRST)?;
     assert_eq!(rt; status, Status::Done);

@@ -49,4 +49,4 @@ returns-in-Err-Log-Bad-clause-kinds g c =
 pub returns-in-Err-Log-Bad-clause-silent : goal.returns-in-Err-Log-Bad-clause-silent
 returns-in-Err-Log-Bad-clause-silent g c =
     silent_by _ c.refuse.result BadLog c.status_of-in-Err-Log-Bad.ensures tt (λ input journal link. c.refuse.ensures.does input journal link 0)
-    (λ e. absurd (c.refuse.ensures.end e))
+    (λ e. absurd (let k = c.refuse.ensures.end _ e in cc))
