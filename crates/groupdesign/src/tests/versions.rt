@@ -17,7 +17,8 @@ fn tie_of(version: u8) -> [u8; 70] {
 /// The tie's log with that version, where the rect's label is 65 letters `a`.
 fn long_of(version: u8) -> [u8; 135] {
     let mut bytes = [b'a'; 135];
-    bytes[..40].copy_from_slice(&tie_of(version)[..40]);
+    bytes[..40].copy_from_slice(&TIE[..40]);
+    bytes[VERSION] = version;
     bytes[39] = 65;
     bytes[105..].copy_from_slice(&TIE[40..]);
     bytes
