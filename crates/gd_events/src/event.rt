@@ -165,7 +165,11 @@ fn is_in_range(op: &Op) -> bool
         Op::Resize { w, h, .. } => is_within(SIZE_LIMIT, *w) && is_within(SIZE_LIMIT, *h),
         Op::Restyle { style, .. } => style.is_in_range(),
         Op::Group { members } => are_shifts_in_range(members.as_slice()),
-        Op::Delete { .. } | Op::Retext { .. } | Op::Ungroup { .. } | Op::Raise { .. } | Op::Lower { .. } => true,
+        Op::Delete { .. }
+        | Op::Retext { .. }
+        | Op::Ungroup { .. }
+        | Op::Raise { .. }
+        | Op::Lower { .. } => true,
     }
 }
 
