@@ -35,7 +35,8 @@ pub fn a_raise_that_a_lower_covers()
     ensures dropped { frame_replies lowering_site raise_frame
         ≡ reply.Dropped (at_stamp 3 1) (at_stamp 3 2) ∷ [] }
     ensures back { slice_get lower_world.mail 2 ≡ Some covering_frame }
-    ensures applied { frame_replies raising_site covering_frame ≡ reply.Applied (at_stamp 3 2) ∷ [] }
+    ensures applied { frame_replies raising_site covering_frame
+        ≡ reply.Applied (at_stamp 3 2) ∷ [] }
     ensures shown { AllByRecursion (λ site. text (picture (lower_world.at site).held) ≡ lower_text)
         (1 ∷ 2 ∷ []) }
 {}
