@@ -12,7 +12,7 @@ use Rattle.gd_model.specs.Relations.{Touch, link_touch, meets, misses, touches, 
 use Rattle.gd_canvas.specs.Aims.{aim_of, touch_of, members_of, aim_covers}
 
 -- an operation touches its first touch and the links of its members
-touches-parts : (stamp : Stamp) (op : Op) → touches stamp op ≡ touch_of stamp op ∷ map link_touch (members_of op)
+pub touches-parts : (stamp : Stamp) (op : Op) → touches stamp op ≡ touch_of stamp op ∷ map link_touch (members_of op)
 touches-parts stamp (Group members) = refl
 touches-parts stamp op = refl
 

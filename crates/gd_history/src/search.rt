@@ -1,26 +1,47 @@
 //! Where an event stands among the entries, and which of the later ones depend on it.
 
-ghost use Rattle.std.specs.Prelude.{◌≡◌, ◌↔◌, ℕ, ◌+◌, ◌<◌, ◌≤◌, IsTrue, length, slice_index, drop, [], ◌∷◌, IfOk};
-ghost use Rattle.gd_repair.specs.Repair.{stamped, is_free};
+ghost use Rattle.std.specs.Prelude.{◌≡◌, ◌↔◌, ℕ, ◌+◌, ◌<◌, ◌≤◌, ◌^◌, if◌then◌else◌, IsTrue, length, slice_index, drop, [], ◌∷◌, ◌++◌, IfOk, OnOk, IfSome};
+ghost use Rattle.gd_repair.specs.Repair.{Stamped, stamped, is_free};
+ghost use Rattle.gd_history.specs.Indexes.{IsIndexed, IsHit, rank_of, all_keys, listed_option, has_key, HasKeys};
 ghost use Rattle.gd_history.specs.Entries.{events_of};
 ghost use Rattle.gd_history.specs.Places.{places_from, event_at, events_at, IsPlaceOf, IsFirstPlace};
 ghost use Rattle.gd_history.specs.Orders.{leading, IsRising, HasNone};
 
 use crate::entry::Entry;
+use crate::index::{Index, next_under};
+use crate::keys::{add_keys, next_of};
 use gd_base::Stamp;
 use gd_repair::Document;
 use std::alloc::{AllocError, Global};
 
-/// How many entries are not later than the stamp. It walks from the end, since
-/// most events have a greater stamp than nearly all entries.
+/// How many entries are not later than the stamp. It looks at the last one first, since most events come in order.
 pub(crate) fn place_of<D: Document>(entries: &[Entry<D>], stamp: Stamp) -> usize
+    requires { IsRising (events_of entries.now) }
     ensures { IsPlaceOf stamp (events_of entries.now) result }
 {
-    let mut place = entries.len();
-    while place > 0 && stamp.is_before(entries[place - 1].stamp()) {
-        place -= 1;
+    let mut low = 0;
+    let mut high = entries.len();
+    if high > 0 && !stamp.is_before(entries[high - 1].stamp()) {
+        return high;
     }
-    place
+    while low < high {
+        let middle = low + (high - low) / 2;
+        let later = stamp.is_before(entries[middle].stamp());
+        (low, high) = narrowed(low, high, middle, later);
+    }
+    low
+}
+
+/// The half of the places that is left.
+fn narrowed(low: usize, high: usize, middle: usize, later: bool) -> (usize, usize)
+    requires { middle < high }
+    ensures { result ≡ (if later then (low, middle) else (middle + 1, high)) }
+{
+    if later {
+        (low, middle)
+    } else {
+        (middle + 1, high)
+    }
 }
 
 /// Whether no entry has the stamp. Of the entries that are not later only the last one can have it.
@@ -60,46 +81,128 @@ pub(crate) fn is_free_at<D: Document>(
     true
 }
 
-/// The place of the first entry, from `from` on, that depends on the event, if there is one. It looks at no entry
-/// behind that.
+/// The place of the entry of that stamp, the one in front of `place` if there is one, where it depends on the event or on
+/// an entry at the places of members.
+fn hit<D: Document>(
+    entries: &[Entry<D>],
+    place: usize,
+    at_stamp: Stamp,
+    stamp: Stamp,
+    op: &D::Op,
+    members: &[usize],
+) -> Option<usize>
+    requires within { place ≤ length entries.now }
+    requires members { (k : ℕ) → k < length members.now → slice_index members.now k < length entries.now }
+    ensures { IsHit D.rules (stamped stamp op.now ∷ events_at (stamped stamp op.now) (events_of entries.now) members.now) (events_of entries.now) at_stamp place result }
+{
+    if place == 0 {
+        return None;
+    }
+    let at = place - 1;
+    if !entries[at].stamp().is_same(at_stamp) {
+        return None;
+    }
+    if is_free_at(entries, stamp, op, members, at) {
+        return None;
+    }
+    Some(at)
+}
+
+/// The number of a stamp among all stamps.
+fn rank(stamp: Stamp) -> u64
+    ensures value { result ≡ rank_of stamp }
+    ensures small { result < 2 ^ 54 }
+    ensures site { stamp.site ≤ 16 }
+{
+    stamp.clock() * 32 + stamp.site() as u64
+}
+
+/// The place of the first entry, from `from` on, that depends on the event, if there is one. It looks at those entries
+/// alone that have a key in common with the event, and at none behind the one that it finds.
 pub(crate) fn find_dependent<D: Document>(
     entries: &[Entry<D>],
+    index: &Index,
     from: usize,
     stamp: Stamp,
     op: &D::Op,
 ) -> Option<usize>
-    requires { from ≤ length entries.now }
+    requires place { IsPlaceOf stamp (events_of entries.now) from }
+    requires rising { IsRising (events_of entries.now) }
+    requires indexed { IsIndexed D.keys index.now (events_of entries.now) }
     ensures { IsFirstPlace D.rules (stamped stamp op.now) (events_of entries.now) from result }
 {
-    for at in from..entries.len() {
-        let entry = &entries[at];
-        if !D::independent(stamp, op, entry.stamp(), entry.op()) {
-            return Some(at);
+    if from == entries.len() {
+        return None;
+    }
+    let mut floor = stamp;
+    let mut at = from;
+    let mut reached = rank(floor);
+    'stamps: while let Some(next) = next_under::<D>(index, stamp, op, floor) {
+        let place = place_of(entries, next);
+        if let Some(found) = hit(entries, place, next, stamp, op, &[]) {
+            return Some(found);
         }
+        floor = next;
+        at = place;
+        reached = rank(floor);
     }
     None
 }
 
-/// The places of the closure of an event whose first dependent is the entry at `first`.
+/// The places of the closure of an event whose first dependent is the entry at `first`. It looks at those entries
+/// alone that have a key in common with the event or with a member.
 pub(crate) fn find_closure<D: Document>(
     alloc: Global,
     entries: &[Entry<D>],
+    index: &Index,
     first: usize,
     stamp: Stamp,
     op: &D::Op,
 ) -> Result<Vec<usize>, AllocError>
-    requires { first < length entries.now }
+    requires first { first < length entries.now }
+    requires rising { IsRising (events_of entries.now) }
+    requires indexed { IsIndexed D.keys index.now (events_of entries.now) }
     ensures places { IfOk result (λ places. places.items ≡ first ∷ places_from D.rules (stamped stamp op.now) (event_at (stamped stamp op.now) (events_of entries.now) first ∷ []) (first + 1) (drop (first + 1) (events_of entries.now))) }
     ensures within { IfOk result (λ places. (k : ℕ) → k < length places.items → slice_index places.items k < length entries.now) }
 {
     let mut places = Vec::new(alloc);
     places.push(first)?;
-    for at in first + 1..entries.len() {
-        if !is_free_at(entries, stamp, op, &places, at) {
-            places.push(at)?;
-        }
+    let mut keys = Vec::new(alloc);
+    add_keys::<D>(stamp, op, &mut keys)?;
+    let entry = &entries[first];
+    add_keys::<D>(entry.stamp(), entry.op(), &mut keys)?;
+    let mut floor = entry.stamp();
+    let mut at = first + 1;
+    let mut reached = rank(floor);
+    'stamps: while let Some(next) = next_of(index, &keys, floor) {
+        let place = place_of(entries, next);
+        let found = hit(entries, place, next, stamp, op, &places);
+        take_member(entries, found, &mut places, &mut keys)?;
+        floor = next;
+        at = place;
+        reached = rank(floor);
     }
     Ok(places)
+}
+
+/// Puts the place that was found, if one was, behind the places, and the keys of its entry to the keys.
+fn take_member<D: Document>(
+    entries: &[Entry<D>],
+    found: Option<usize>,
+    places: &mut Vec<usize>,
+    keys: &mut Vec<u64>,
+) -> Result<(), AllocError>
+    requires { IfSome found (λ at. at < length entries.now) }
+    ensures places { OnOk result (places.new.items ≡ places.old.items ++ listed_option found) }
+    ensures keys { OnOk result ((e : Stamped D.Op) → HasKeys keys.new.items (all_keys D.keys (events_at e (events_of entries.now) (listed_option found)))) }
+    ensures kept { OnOk result ((k : ℕ) → IsTrue (has_key keys.old.items k) → IsTrue (has_key keys.new.items k)) }
+{
+    if let Some(at) = found {
+        let entry = &entries[at];
+        places.push(at)?;
+        add_keys::<D>(entry.stamp(), entry.op(), keys)?;
+    }
+    Ok(())
 }
 
 /// How many of the first entries have a clock of at most the line.

@@ -1,11 +1,13 @@
--- The registers obey the laws of a document. The type's impl cites them, so they stand here and not in proofs/.
-use Rattle.std.specs.Prelude.{◌≡◌, ℕ, Bool, true, false, not, ◌&&◌, ◌==◌, cond, Option, Some, None, IsTrue, refl}
+-- The registers obey the laws of a document and of its keys. The type's impl cites them, so they stand here and not in
+-- proofs/.
+use Rattle.std.specs.Prelude.{◌≡◌, ◌≢◌, ℕ, Bool, true, false, not, ◌&&◌, ◌==◌, cond, List, Option, Some, None, IsTrue, refl}
 use Rattle.std.proofs.Common.{sym, ap, ◌∙◌, arith}
 use Rattle.std.proofs.lemmas.Bool.{eqb-true, not-true}
 use Rattle.std.proofs.lemmas.Bool.Decides.{nat_tests}
-use Rattle.gd_repair.proofs.Moves.{and-left, and-right}
+use Rattle.gd_repair.proofs.Moves.{and-both, and-left, and-right}
 use Rattle.gd_repair.specs.Repair.{Laws}
-use Rattle.gd_registers.specs.Registers.{target_of, reads, overwrites, put, value_of, are_independent, is_covered_by, second_before, rules}
+use Rattle.gd_repair.specs.Keys.{IsNoneOf, AreApart, AreKeys}
+use Rattle.gd_registers.specs.Registers.{target_of, reads, keys_of, overwrites, put, value_of, are_independent, is_covered_by, second_before, rules}
 use Rattle.gd_registers.specs.declared.registers.Edit.{Edit}
 use Rattle.gd_registers.specs.declared.registers.Edit.TheVariants.{Set, Remove, Copy}
 
@@ -14,6 +16,9 @@ same_content f g h = λ i. λ k. h k i
 
 equal_not : (a b : ℕ) → IsTrue (not (a == b)) → (b == a) ≡ false
 equal_not a b h = grind (arith, nat_tests)
+
+unequal : (a b : ℕ) → a ≢ b → (a == b) ≡ false
+unequal a b h = grind (arith, nat_tests)
 
 put-other : (t : ℕ) (v : Option ℕ) (m : ℕ → Option ℕ) (k : ℕ) → (k == t) ≡ false → put t v m k ≡ m k
 put-other t v m k is = ap (λ b. cond b v (m k)) is
@@ -111,3 +116,31 @@ registers_laws = record {
   cover = λ e f m h. edits-cover e.op f.op m h;
   splice = λ e f m h. edits-splice e.op f.op m h;
 }
+
+-- ---- keys
+
+keys-target : (e : Edit) (ks : List ℕ) → AreApart (keys_of e) ks → IsNoneOf (target_of e) ks
+keys-target (Set cell value) ks h = h.0
+keys-target (Remove cell) ks h = h.0
+keys-target (Copy from to) ks h = h.0
+
+none-target : (k : ℕ) (f : Edit) → IsNoneOf k (keys_of f) → IsTrue (not (k == target_of f))
+none-target k (Set cell value) h = ap not (unequal k cell h.0)
+none-target k (Remove cell) h = ap not (unequal k cell h.0)
+none-target k (Copy from to) h = ap not (unequal k to h.0)
+
+none-reads : (k : ℕ) (f : Edit) → IsNoneOf k (keys_of f) → IsTrue (not (reads f k))
+none-reads k (Set cell value) h = refl
+none-reads k (Remove cell) h = refl
+none-reads k (Copy from to) h = ap not (unequal from k (λ e. h.1.0 (sym e)))
+
+keys-reads : (e f : Edit) → AreApart (keys_of e) (keys_of f) → IsTrue (not (reads e (target_of f)))
+keys-reads (Set cell value) f h = refl
+keys-reads (Remove cell) f h = refl
+keys-reads (Copy from to) f h = none-target from f h.1.0
+
+pub registers_keyed : AreKeys rules (λ e. keys_of e.op)
+registers_keyed e f h =
+    let first = keys-target e.op (keys_of f.op) h in
+    and-both (not (target_of e.op == target_of f.op)) (not (reads e.op (target_of f.op)) && not (reads f.op (target_of e.op))) (none-target (target_of e.op) f.op first)
+    (and-both (not (reads e.op (target_of f.op))) (not (reads f.op (target_of e.op))) (keys-reads e.op f.op h) (none-reads (target_of e.op) f.op first))

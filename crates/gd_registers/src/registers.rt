@@ -1,8 +1,8 @@
 //! Registers under numbers, which events set, remove and copy.
 
 ghost use Rattle.std.specs.Prelude.{◌≡◌, ℕ, ◌+◌, ◌<◌, ◌≤◌, List, [], length, Option};
-ghost use Rattle.gd_registers.specs.Registers.{target_of, reads, overwrites, content, rules};
-ghost use Rattle.gd_registers.specs.Laws.{registers_laws};
+ghost use Rattle.gd_registers.specs.Registers.{target_of, reads, keys_of, overwrites, content, rules};
+ghost use Rattle.gd_registers.specs.Laws.{registers_laws, registers_keyed};
 
 use gd_base::{Stamp, Steps};
 use gd_repair::Document;
@@ -95,9 +95,13 @@ impl Document for Registers {
 
     ghost rules = { rules };
 
+    ghost keys = { λ e. keys_of e.op };
+
     ghost is_admitted = { λ d e. target_of e.op < length d.cells.items };
 
     ghost laws = { registers_laws };
+
+    ghost keyed = { registers_keyed };
 
     fn admit(&mut self, _stamp: Stamp, op: &Edit) -> Result<(), AllocError> {
         let target = op.target() as usize;
@@ -157,5 +161,27 @@ impl Document for Registers {
             Edit::Copy { from: _, to: _ } => before,
         };
         (before, second)
+    }
+
+    fn key_count(_stamp: Stamp, op: &Edit) -> usize {
+        match op {
+            Edit::Set { cell: _, value: _ } => 1,
+            Edit::Remove { cell: _ } => 1,
+            Edit::Copy { from: _, to: _ } => 2,
+        }
+    }
+
+    fn key(_stamp: Stamp, op: &Edit, place: usize) -> u64 {
+        match op {
+            Edit::Set { cell, value: _ } => *cell as u64,
+            Edit::Remove { cell } => *cell as u64,
+            Edit::Copy { from, to } => {
+                if place == 0 {
+                    *to as u64
+                } else {
+                    *from as u64
+                }
+            }
+        }
     }
 }

@@ -1,0 +1,142 @@
+-- Pairs in order, and those that came since: both together.
+use Rattle.std.proofs.Common.{◌≡◌, ℕ, ◌+◌, ◌<◌, ◌≤◌, Bool, true, false, cond, List, [], ◌∷◌, ◌++◌, length, take, drop, take-append-drop, add-one, get_or, Option, Some, None, refl, sym, ap, ◌∙◌, subst, IsTrue, IfSome, arith, zero, suc, ◌==◌, ◌||◌, append_assoc}
+use Rattle.std.proofs.lemmas.Bool.{eqb-true, eqb-false}
+use Rattle.std.proofs.lemmas.List.Folds.{list_any-append}
+use Rattle.std.specs.List.{list_any}
+use Rattle.std.specs.Ordering.{nat_cmp, ordering_then, is_eq}
+use Rattle.std.specs.declared.cmp.Ordering.{Ordering}
+use Rattle.std.specs.declared.cmp.Ordering.TheVariants.{Less, Equal, Greater}
+use Rattle.std.specs.Cmp.{nat_cmp_total, ranked, tied_itself}
+use Rattle.gd_base.specs.Stamps.{Stamp, stamp_cmp, is_same, is_before}
+use Rattle.gd_base.proofs.StampLemmas.{stamp_cmp-total, is_same-true}
+use Rattle.gd_base.proofs.StampOrder.{is_before-asym}
+use Rattle.gd_history.specs.Entries.{AllOf}
+use Rattle.gd_history.specs.Indexes.{pair_cmp, Has, IsPast, IsNext, behind_of, earlier_of}
+use Rattle.gd_history.proofs.Skipping.{no_both, past_earlier_left, past_earlier_right}
+
+abbrev Pairs : Type 0
+Pairs = List (ℕ × Stamp)
+
+-- ---- in one of two lists
+
+or_left : (a b : Bool) → a ≡ true → (a || b) ≡ true
+or_left true b h = refl
+or_left false b h = cc
+
+or_right : (a b : Bool) → b ≡ true → (a || b) ≡ true
+or_right true b h = refl
+or_right false b h = h
+
+pub has-left : (xs ys : Pairs) (k : ℕ) (s : Stamp) → Has xs k s → Has (xs ++ ys) k s
+has-left xs ys k s h = let p = λ (q : ℕ × Stamp). is_eq (pair_cmp (k, s) q) in list_any-append p xs ys ∙ or_left (list_any p xs) (list_any p ys) h
+
+pub has-right : (xs ys : Pairs) (k : ℕ) (s : Stamp) → Has ys k s → Has (xs ++ ys) k s
+has-right xs ys k s h = let p = λ (q : ℕ × Stamp). is_eq (pair_cmp (k, s) q) in list_any-append p xs ys ∙ or_right (list_any p xs) (list_any p ys) h
+
+pub has-either : (P : Type 0) (xs ys : Pairs) (k : ℕ) (s : Stamp) → (Has xs k s → P) → (Has ys k s → P) → Has (xs ++ ys) k s → P
+has-either P xs ys k s left right h =
+    let p = λ (q : ℕ × Stamp). is_eq (pair_cmp (k, s) q) in
+    which (list_any p xs) (list_any p ys) left right (sym (list_any-append p xs ys) ∙ h)
+  where
+    which : (a b : Bool) → (a ≡ true → P) → (b ≡ true → P) → (a || b) ≡ true → P
+    which true b l r e = l refl
+    which false b l r e = r e
+
+-- ---- one pair
+
+pub has-itself : (k : ℕ) (s : Stamp) → Has ((k, s) ∷ []) k s
+has-itself k s =
+    ap (λ r. is_eq (ordering_then r (stamp_cmp s s)) || false) (tied_itself nat_cmp_total k)
+    ∙ ap (λ r. is_eq r || false) (tied_itself stamp_cmp-total s)
+
+both_equal : (a b : Ordering) → is_eq (ordering_then a b) || false ≡ true → (a ≡ Equal) × (is_eq b ≡ true)
+both_equal Less b h = cc
+both_equal Equal Less h = cc
+both_equal Equal Equal h = (refl, refl)
+both_equal Equal Greater h = cc
+both_equal Greater b h = cc
+
+pub of-one : (p : ℕ × Stamp) (k : ℕ) (s : Stamp) → Has (p ∷ []) k s → (p.0 ≡ k) × (p.1 ≡ s)
+of-one p k s h =
+    let both = both_equal (nat_cmp k p.0) (stamp_cmp s p.1) h in
+    (sym (ranked k p.0 Equal (sym both.0)), sym (is_same-true s p.1 both.1))
+
+-- a pair is put behind those in order
+pub kept-settled : (sorted new recent left : Pairs) (key : ℕ) (stamp : Stamp) (p : ℕ × Stamp) → recent ≡ left ++ p ∷ [] → p ≡ (key, stamp) → Has new key stamp → ((k : ℕ) (s : Stamp) → Has sorted k s → Has new k s)
+    → (k : ℕ) (s : Stamp) → Has (sorted ++ recent) k s → Has (new ++ left) k s
+kept-settled sorted new recent left key stamp p is pair put kept k s h =
+    has-either (Has (new ++ left) k s) sorted recent k s
+    (λ there. has-left new left k s (kept k s there))
+    (λ there. has-either (Has (new ++ left) k s) left (p ∷ []) k s
+    (λ in_left. has-right new left k s in_left)
+    (λ last.
+    let same = of-one p k s last in
+    has-left new left k s (subst (λ z. Has new k z) (sym (ap (λ q. q.1) pair) ∙ same.1) (subst (λ n. Has new n stamp) (sym (ap (λ q. q.0) pair) ∙ same.0) put)))
+    (subst (λ l. Has l k s) is there))
+    h
+
+-- no pair of a clock up to the line stands for a stamp above it
+none_above : (line : ℕ) (ps : Pairs) (k : ℕ) (s : Stamp) → AllOf (λ p. p.1.clock ≤ line) ps → line < s.clock → Has ps k s → ⊥
+none_above line [] k s upto above h = cc
+none_above line (p ∷ ps) k s upto above h =
+    has-either ⊥ (p ∷ []) ps k s
+    (λ here. let same = ap (λ (t : Stamp). t.clock) (of-one p k s here).1 in let low = upto.0 in omega arith)
+    (λ there. none_above line ps k s upto.1 above there)
+    h
+
+-- the first pairs go, which have clocks up to the line
+pub kept-shed : (sorted recent left : Pairs) (count line : ℕ) → left ≡ drop count recent → AllOf (λ p. p.1.clock ≤ line) (take count recent)
+    → (k : ℕ) (s : Stamp) → line < s.clock → Has (sorted ++ recent) k s → Has (sorted ++ left) k s
+kept-shed sorted recent left count line is upto k s above h =
+    has-either (Has (sorted ++ left) k s) sorted recent k s
+    (λ there. has-left sorted left k s there)
+    (λ there. has-either (Has (sorted ++ left) k s) (take count recent) (drop count recent) k s
+    (λ gone. absurd (none_above line (take count recent) k s upto above gone))
+    (λ stays. has-right sorted left k s (subst (λ l. Has l k s) (sym is) stays))
+    (subst (λ l. Has l k s) (sym (take-append-drop count recent)) there))
+    h
+
+-- ---- the next one of both
+
+pub next-both : (xs ys : Pairs) (floor : Stamp) (a b : Option Stamp) (k : ℕ) → IsNext xs floor a k → IsNext ys floor b k → IsNext (xs ++ ys) floor (earlier_of a b) k
+next-both xs ys floor a b k left right s behind has =
+    has-either (IsPast s (earlier_of a b)) xs ys k s (λ h. past_earlier_left a b s (left s behind h)) (λ h. past_earlier_right a b s (right s behind h)) has
+
+pub next-empty : (floor : Stamp) (k : ℕ) → IsNext [] floor None k
+next-empty floor k s behind has = cc
+
+self_case : (s : Stamp) (b : Bool) → is_before s s ≡ b → b ≡ false
+self_case s true is = absurd (no_both (is_before s s) is (is_before-asym s s is))
+self_case s false is = refl
+
+one_case : (p : ℕ × Stamp) (k : ℕ) (floor s : Stamp) (a b : Bool) → (p.0 == k) ≡ a → is_before floor p.1 ≡ b → p.0 ≡ k → p.1 ≡ s → IsTrue (is_before floor s) → IsPast s (cond a (cond b (Some p.1) None) None)
+one_case p k floor s true true at later same here behind = ap (is_before s) here ∙ self_case s (is_before s s) refl
+one_case p k floor s true false at later same here behind = no_both (is_before floor p.1) (ap (is_before floor) here ∙ behind) later
+one_case p k floor s false b at later same here behind = eqb-false p.0 k at same
+
+pub next-one : (p : ℕ × Stamp) (k : ℕ) (floor : Stamp) → IsNext (p ∷ []) floor (behind_of p k floor) k
+next-one p k floor s behind has = let same = of-one p k s has in one_case p k floor s (p.0 == k) (is_before floor p.1) refl refl same.0 same.1 behind
+
+behind_case : (p : ℕ × Stamp) (floor : Stamp) (a b : Bool) → is_before floor p.1 ≡ b → IfSome (cond a (cond b (Some p.1) None) None) (λ t. IsTrue (is_before floor t))
+behind_case p floor true true is = is
+behind_case p floor true false is = tt
+behind_case p floor false b is = tt
+
+pub behind-one : (p : ℕ × Stamp) (k : ℕ) (floor : Stamp) → IfSome (behind_of p k floor) (λ t. IsTrue (is_before floor t))
+behind-one p k floor = behind_case p floor (p.0 == k) (is_before floor p.1) refl
+
+-- ---- a list from its front
+
+take_by : (xs : Pairs) (k : ℕ) (x : ℕ × Stamp) → k < length xs → take (suc k) xs ≡ take k xs ++ get_or xs k x ∷ []
+take_by [] k x inside = absurd (omega arith)
+take_by (y ∷ ys) zero x inside = ap (λ l. y ∷ l) (none ys)
+  where
+    none : (zs : Pairs) → take 0 zs ≡ []
+    none [] = refl
+    none (z ∷ zs) = refl
+take_by (y ∷ ys) (suc k) x inside = ap (λ l. y ∷ l) (take_by ys k x (omega arith))
+
+pub next-more : (xs : Pairs) (at : ℕ) (x : ℕ × Stamp) (floor : Stamp) (found : Option Stamp) (k : ℕ) → at < length xs → IsNext (take at xs) floor found k → IsNext (take (at + 1) xs) floor (earlier_of found (behind_of (get_or xs at x) k floor)) k
+next-more xs at x floor found k inside front =
+    subst (λ l. IsNext l floor (earlier_of found (behind_of (get_or xs at x) k floor)) k) (sym (rw add-one (take_by xs at x inside)))
+    (next-both (take at xs) (get_or xs at x ∷ []) floor found (behind_of (get_or xs at x) k floor) k front (next-one (get_or xs at x) k floor))
