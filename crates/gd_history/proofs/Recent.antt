@@ -61,6 +61,11 @@ of-one p k s h =
     let both = both_equal (nat_cmp k p.0) (stamp_cmp s p.1) h in
     (sym (ranked k p.0 Equal (sym both.0)), sym (is_same-true s p.1 both.1))
 
+-- what is sorted in stays with what waits
+pub kept-sorted : (sorted new recent : Pairs) → ((k : ℕ) (s : Stamp) → Has sorted k s → Has new k s) → (k : ℕ) (s : Stamp) → Has (sorted ++ recent) k s → Has (new ++ recent) k s
+kept-sorted sorted new recent kept k s h =
+    has-either (Has (new ++ recent) k s) sorted recent k s (λ there. has-left new recent k s (kept k s there)) (λ there. has-right new recent k s there) h
+
 -- a pair is put behind those in order
 pub kept-settled : (sorted new recent left : Pairs) (key : ℕ) (stamp : Stamp) (p : ℕ × Stamp) → recent ≡ left ++ p ∷ [] → p ≡ (key, stamp) → Has new key stamp → ((k : ℕ) (s : Stamp) → Has sorted k s → Has new k s)
     → (k : ℕ) (s : Stamp) → Has (sorted ++ recent) k s → Has (new ++ left) k s

@@ -72,9 +72,9 @@ impl Index {
         ensures { (k : ℕ) (s : StampValue) → Has self.old k s → Has self.new k s }
     {
         while self.recent.len() > 0 {
-            let (key, stamp) = self.recent.as_slice()[self.recent.len() - 1];
-            self.sorted.put(key, stamp)?;
-            let _pair = self.recent.take_last();
+            let last = self.recent.as_slice()[self.recent.len() - 1];
+            self.sorted.put(last.0, last.1)?;
+            let _last = self.recent.take_last();
         }
         Ok(())
     }
