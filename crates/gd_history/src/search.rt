@@ -134,6 +134,7 @@ pub(crate) fn find_dependent<D: Document>(
     if from == entries.len() {
         return None;
     }
+    // Behind `at` all entries are later than the floor. That `reached` rises is why the loop ends.
     let mut floor = stamp;
     let mut at = from;
     let mut reached = rank(floor);
@@ -171,6 +172,7 @@ pub(crate) fn find_closure<D: Document>(
     add_keys::<D>(stamp, op, &mut keys)?;
     let entry = &entries[first];
     add_keys::<D>(entry.stamp(), entry.op(), &mut keys)?;
+    // As in `find_dependent`.
     let mut floor = entry.stamp();
     let mut at = first + 1;
     let mut reached = rank(floor);
