@@ -2,6 +2,7 @@
 //! refusals, versions, and steps.
 #![tactic(auto)]
 
+mod clock;
 mod edit;
 mod fault;
 mod ids;
