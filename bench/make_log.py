@@ -1,5 +1,5 @@
 #!/usr/bin/env python3
-"""Writes a log to standard output, for measuring.
+"""Writes a log of the newest version to standard output, for measuring.
 
     make_log.py events COUNT SITES ORDER     COUNT events by SITES sites; one in ten makes a shape, the others move it, set its
                                              stroke or label, or raise it. ORDER: `stamps` (by stamp, so that nothing comes
@@ -19,6 +19,10 @@ from make_examples import RECT, STROKE, create, group, log, move, raise_up, rest
 
 ORDERS = ["stamps", "sites", "shuffle"]
 SEED = 7
+# The newest version of a log.
+VERSION = 2
+# The most events of a site.
+MOST = 65_535
 
 
 def change(draw, own):
@@ -70,7 +74,7 @@ def in_order(count, sites, order):
 
 
 def log_of(sites, events):
-    return log(7, 1, sites, events)
+    return log(7, 1, sites, events, VERSION)
 
 
 def make_events(count, sites, order):
@@ -87,7 +91,7 @@ def make_nested(depth):
     for clock in range(2, 2 * depth + 2, 2):
         events += [square(clock, 1), (clock + 1, 2, group((*inner, 1, 0), (clock, 1)))]
         inner = (clock + 1, 2)
-    return log(7, 1, 2, events)
+    return log_of(2, events)
 
 
 def make_tree(leaves):
@@ -102,14 +106,14 @@ def make_tree(leaves):
             events.append((clock, 5, group(*level[at:at + 32])))
             above.append((clock, 5))
         level = above
-    return log(7, 1, 5, events)
+    return log_of(5, events)
 
 
 def made(what, *rest):
     if what == "events":
         count, sites, order = int(rest[0]), int(rest[1]), rest[2]
-        if not 1 <= sites <= 16 or count // sites > 65_535 or order not in ORDERS:
-            sys.exit("a log has 1 to 16 sites, and each at most 65,535 events")
+        if not 1 <= sites <= 16 or count // sites > MOST or order not in ORDERS:
+            sys.exit(f"a log has 1 to 16 sites, and each at most {MOST:,} events")
         return make_events(count, sites, order)
     return {"nested": make_nested, "tree": make_tree}[what](int(rest[0]))
 

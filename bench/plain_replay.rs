@@ -1,6 +1,7 @@
 //! What replaying a log looks like in ordinary Rust, without contracts: the bar for the time of the proved program.
 //! It reads the events, sorts them by stamp, folds them over a hashed map, and prints the drawing. It checks what a careful
 //! decoder would, and not all that a log must obey.
+use std::cmp::Reverse;
 use std::collections::HashMap;
 use std::io::{BufWriter, Read, Write};
 use std::process::ExitCode;
@@ -9,6 +10,15 @@ use std::process::ExitCode;
 type Stamp = (u64, u8);
 
 const KINDS: [&str; 4] = ["rect", "ellipse", "line", "text"];
+
+/// Where an object is in the stack, from bottom to top.
+#[derive(Clone, Copy, PartialEq, Eq, PartialOrd, Ord)]
+enum Rank {
+    /// Put there by a lower: the later, the lower.
+    Low(Reverse<Stamp>),
+    /// By what made it, or by a raise.
+    High(Stamp),
+}
 
 #[derive(Clone, Copy)]
 struct Link {
@@ -30,12 +40,11 @@ struct Object {
     label: String,
     link: Option<Link>,
     is_dissolved: bool,
-    /// The stamp that put it where it is in the stack.
-    rank: Stamp,
+    rank: Rank,
 }
 
 impl Object {
-    fn new(kind: u8, label: String, rank: Stamp) -> Self {
+    fn new(kind: u8, label: String, stamp: Stamp) -> Self {
         Object {
             kind,
             x: 0,
@@ -48,7 +57,7 @@ impl Object {
             label,
             link: None,
             is_dissolved: false,
-            rank,
+            rank: Rank::High(stamp),
         }
     }
 
@@ -73,6 +82,7 @@ enum Operation {
     Group(Vec<(Stamp, i32, i32)>),
     Ungroup(Stamp),
     Raise(Stamp),
+    Lower(Stamp),
 }
 
 struct Bytes<'a>(&'a [u8]);
@@ -141,6 +151,7 @@ impl<'a> Bytes<'a> {
             }
             8 => Operation::Ungroup(self.stamp()?),
             9 => Operation::Raise(self.stamp()?),
+            10 => Operation::Lower(self.stamp()?),
             _ => return None,
         })
     }
@@ -223,7 +234,12 @@ fn apply(drawing: &mut Drawing, stamp: Stamp, operation: Operation) {
         }
         Operation::Raise(id) => {
             if let Some(object) = drawing.get_mut(&id) {
-                object.rank = stamp;
+                object.rank = Rank::High(stamp);
+            }
+        }
+        Operation::Lower(id) => {
+            if let Some(object) = drawing.get_mut(&id) {
+                object.rank = Rank::Low(Reverse(stamp));
             }
         }
     }
