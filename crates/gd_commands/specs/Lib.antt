@@ -1,0 +1,9 @@
+pub mod Numbers
+pub mod Forms
+pub mod Replay
+pub mod Upgrade
+pub mod Node
+pub mod Rehearse
+pub mod Churn
+pub mod Commands
+pub mod Plain

@@ -1,0 +1,129 @@
+//! The options and the addresses of `node`.
+
+ghost use Rattle.std.specs.Prelude.{◌≡◌, IfOk, Some, None, false, map};
+ghost use Rattle.clap.specs.Words.{app_of, rule_of};
+ghost use Rattle.gd_commands.specs.Forms.{app, asked_by, text_of};
+ghost use Rattle.gd_commands.specs.Node.{addresses_rule, node_by, node_form, node_numbers, texts_of};
+ghost use Rattle.gd_options.specs.declared.command.Command.TheVariants.{Node};
+
+use crate::fault::CommandFault;
+use crate::matched::{bare, matches_of, text, texts, value};
+use crate::number::number_from;
+use clap::{Arg, Command as ClapCommand};
+use gd_base::SITES;
+use gd_options::Command;
+use gd_outside::{Word, WordList};
+use std::alloc::{AllocError, Global};
+use std::convert::AsStr;
+
+fn addresses<'a>(alloc: Global) -> Arg<'a>
+    ensures rule { rule_of result ≡ addresses_rule }
+    ensures local { result.global ≡ false }
+{
+    Arg::new(alloc, "address").num_args(1..).required(true)
+}
+
+fn node_command<'a>(alloc: Global) -> Result<ClapCommand<'a>, AllocError>
+    ensures { IfOk result (λ c. app_of c ≡ app node_form) }
+{
+    bare(alloc, "node")
+        .arg(value(alloc, "session"))?
+        .arg(value(alloc, "site"))?
+        .arg(value(alloc, "journal"))?
+        .arg(addresses(alloc))
+}
+
+/// The session and the site, where there are so many addresses.
+fn node_numbers(session: &str, site: &str, count: usize) -> Option<(u32, u8)>
+    ensures { result ≡ node_numbers session.now site.now count }
+{
+    if count > usize::from(SITES) {
+        return None;
+    }
+    let session = number_from(0, u64::from(u32::MAX), session)? as u32;
+    let site = number_from(1, count as u64, site)? as u8;
+    Some((session, site))
+}
+
+fn copied(alloc: Global, texts: &[&str]) -> Result<WordList, AllocError>
+    ensures { IfOk result (λ words. words ≡ map (λ s. s.now) texts.now) }
+{
+    let mut words = WordList::new(alloc);
+    for text in texts {
+        words.push(Word::new(alloc, text)?)?;
+    }
+    Ok(words)
+}
+
+fn copied_node(
+    alloc: Global,
+    session: u32,
+    site: u8,
+    journal: &str,
+    addresses: &[&str],
+) -> Result<Command, AllocError>
+    ensures { IfOk result (λ c. c ≡ Node session site journal.now (map (λ s. s.now) addresses.now)) }
+{
+    let journal = Word::new(alloc, journal)?;
+    let addresses = copied(alloc, addresses)?;
+    Ok(Command::Node {
+        session,
+        site,
+        journal,
+        addresses,
+    })
+}
+
+/// The command with these values.
+fn node_with(
+    alloc: Global,
+    session: &str,
+    site: &str,
+    journal: &str,
+    addresses: &[&str],
+) -> Result<Command, CommandFault>
+    ensures asked { IfOk result (λ c. node_by (Some session.now) (Some site.now) (Some journal.now)
+        (Some (map (λ s. s.now) addresses.now)) ≡ Some c) }
+    ensures usage { result ≡ Err CommandFault.Usage → node_by (Some session.now) (Some site.now) (Some journal.now)
+        (Some (map (λ s. s.now) addresses.now)) ≡ None }
+{
+    match node_numbers(session, site, addresses.len()) {
+        Some((session, site)) => Ok(copied_node(alloc, session, site, journal, addresses)?),
+        None => Err(CommandFault::Usage),
+    }
+}
+
+/// The same, where each of them is there.
+fn node_by(
+    alloc: Global,
+    session: Option<&str>,
+    site: Option<&str>,
+    journal: Option<&str>,
+    addresses: Option<&[&str]>,
+) -> Result<Command, CommandFault>
+    ensures asked { IfOk result (λ c. node_by (text_of session.entry) (text_of site.entry) (text_of journal.entry)
+        (texts_of addresses.entry) ≡ Some c) }
+    ensures usage { result ≡ Err CommandFault.Usage → node_by (text_of session.entry) (text_of site.entry)
+        (text_of journal.entry) (texts_of addresses.entry) ≡ None }
+{
+    match (session, site, journal, addresses) {
+        (Some(session), Some(site), Some(journal), Some(addresses)) => {
+            node_with(alloc, session, site, journal, addresses)
+        }
+        _ => Err(CommandFault::Usage),
+    }
+}
+
+pub fn read_node<S: AsStr>(alloc: Global, words: &[S]) -> Result<Command, CommandFault>
+    ensures asked { IfOk result (λ c. asked_by node_form (map S.text words.now) ≡ Some c) }
+    ensures usage { result ≡ Err CommandFault.Usage → asked_by node_form (map S.text words.now) ≡ None }
+{
+    let matches = matches_of(node_command(alloc)?, words)?;
+    node_by(
+        alloc,
+        text(&matches, "session"),
+        text(&matches, "site"),
+        text(&matches, "journal"),
+        texts(&matches, "address"),
+    )
+}

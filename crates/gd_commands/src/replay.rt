@@ -1,0 +1,61 @@
+//! The options of `replay`.
+
+ghost use Rattle.std.specs.Prelude.{◌≡◌, IfOk, Some, None, map};
+ghost use Rattle.clap.specs.Words.{app_of};
+ghost use Rattle.gd_commands.specs.Forms.{app, asked_by, text_of};
+ghost use Rattle.gd_commands.specs.Replay.{format_in, replay_by, replay_form};
+
+use crate::fault::CommandFault;
+use crate::matched::{bare, matches_of, text};
+use clap::{Arg, ArgAction, Command as ClapCommand};
+use gd_options::{Command, Format};
+use std::alloc::{AllocError, Global};
+use std::convert::AsStr;
+
+fn replay_command<'a>(alloc: Global) -> Result<ClapCommand<'a>, AllocError>
+    ensures { IfOk result (λ c. app_of c ≡ app replay_form) }
+{
+    let format = Arg::new(alloc, "format").long("format");
+    let counts = Arg::new(alloc, "counts")
+        .long("counts")
+        .action(ArgAction::SetTrue);
+    bare(alloc, "replay").arg(format)?.arg(counts)
+}
+
+/// The format that a word names.
+fn format_of(word: &str) -> Option<Format>
+    ensures { result ≡ format_in word.now }
+{
+    if word == "text" {
+        Some(Format::Text)
+    } else if word == "json" {
+        Some(Format::Json)
+    } else if word == "events" {
+        Some(Format::Events)
+    } else {
+        None
+    }
+}
+
+/// The command with these values.
+fn replay_by(format: Option<&str>, counts: Option<&str>) -> Option<Command>
+    ensures { result ≡ replay_by (text_of format.entry) (text_of counts.entry) }
+{
+    let format = match format {
+        None => Format::Text,
+        Some(word) => format_of(word)?,
+    };
+    let counts = match counts {
+        None => false,
+        Some(word) => word == "true",
+    };
+    Some(Command::Replay { format, counts })
+}
+
+pub fn read_replay<S: AsStr>(alloc: Global, words: &[S]) -> Result<Command, CommandFault>
+    ensures asked { IfOk result (λ c. asked_by replay_form (map S.text words.now) ≡ Some c) }
+    ensures usage { result ≡ Err CommandFault.Usage → asked_by replay_form (map S.text words.now) ≡ None }
+{
+    let matches = matches_of(replay_command(alloc)?, words)?;
+    replay_by(text(&matches, "format"), text(&matches, "counts")).ok_or(CommandFault::Usage)
+}

@@ -1,0 +1,37 @@
+use crate::format::Format;
+use gd_outside::{Word, WordList};
+
+/// The most steps that `churn` can be asked for.
+pub const CHURN_STEPS: u32 = 10_000;
+
+/// What the program is asked to do.
+#[derive(Drop)]
+pub enum Command {
+    /// Read a log, and print the drawing of its events.
+    Replay {
+        format: Format,
+        /// Whether it is counted, besides, how the events went.
+        counts: bool,
+    },
+    /// Read a log, and write it in the newest version.
+    Upgrade,
+    /// Be one site of a session: answer lines, keep a journal, and exchange frames with the other sites.
+    Node {
+        session: u32,
+        /// From 1 to the number of addresses.
+        site: u8,
+        /// The path of the journal.
+        journal: Word,
+        /// Where each site of the session is, this one too: 1 to 16 of them.
+        addresses: WordList,
+    },
+    /// Play a session of so many sites, 1 to 16, in one process, as the lines say.
+    Rehearse {
+        sites: u8,
+    },
+    /// Play a session by random steps, at most `CHURN_STEPS` of them.
+    Churn {
+        seed: u64,
+        steps: u32,
+    },
+}
