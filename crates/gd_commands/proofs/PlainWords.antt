@@ -1,9 +1,9 @@
 -- How `clap` walks over plain words: each is a value, of the option that waits or of a positional.
-use Rattle.std.proofs.Common.{◌≡◌, ◌∙◌, ℕ, false, refl, ap, ap₂, List, [], ◌∷◌, ne_eqb, eqb, is_some}
+use Rattle.std.proofs.Common.{◌≡◌, ◌∙◌, ℕ, false, refl, ap, ap₂, List, [], ◌∷◌, ne_eqb, eqb, is_some, Some, None}
 use Rattle.std.specs.List.{fold}
-use Rattle.clap.specs.Words.{Kinds, Row, Rule, Text, fault_of, matches_of}
+use Rattle.clap.specs.Words.{Kinds, Row, Rule, Text}
 use Rattle.clap.specs.Kinds.{or_else}
-use Rattle.clap.specs.Walk.{Held, Step, Waiting, Walk, after_step, finished, idle, nothing_held, option, plain_word, positional, settled, walk_from, walked, word_met}
+use Rattle.clap.specs.Walk.{Held, Step, Waiting, Walk, after_step, finished, idle, option, plain_word, positional, settled, walked, word_met}
 use Rattle.clap.specs.Simple.{App, Shape, built, entered}
 use Rattle.clap.specs.Faults.{check_fault, defaults_fault, entered_fault, settle_fault, step_fault, turn_fault, walk_fault, word_fault}
 use Rattle.clap.specs.declared.parser.matches.ValueSource.TheVariants.{CommandLine}

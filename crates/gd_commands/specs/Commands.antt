@@ -1,5 +1,5 @@
 -- What the words of a command line ask for: the first is a command's name, and the others are in that command's form.
-use Rattle.std.specs.Prelude.{List, [], ◌∷◌, Option, Some, None, bytes_eq, if◌then◌else◌, option_and_then}
+use Rattle.std.specs.Prelude.{List, [], ◌∷◌, Option, None, bytes_eq, if◌then◌else◌}
 use Rattle.clap.specs.Words.{Text}
 use Rattle.gd_options.specs.declared.command.Command.{Command}
 use Rattle.gd_commands.specs.Forms.{Form, asked_by}

@@ -7,3 +7,4 @@ pub mod Rehearse
 pub mod Churn
 pub mod Commands
 pub mod Plain
+pub mod Rows

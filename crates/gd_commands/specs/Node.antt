@@ -3,7 +3,7 @@
 use Rattle.std.specs.Prelude.{◌-◌, ◌^◌, ℕ, nat_lt, true, List, [], ◌∷◌, Option, Some, None, codes, length, map, if◌then◌else◌, option_map}
 use Rattle.std.specs.Borrow.{Bor}
 use Rattle.clap.specs.Lexer.{usize_max}
-use Rattle.clap.specs.Words.{Row, Rule, Text, all_of, first_of, new_rule}
+use Rattle.clap.specs.Words.{Rule, Text, all_of, first_of, new_rule}
 use Rattle.gd_base.specs.declared.ranges.TheConstants.{SITES}
 use Rattle.gd_options.specs.declared.command.Command.{Command}
 use Rattle.gd_options.specs.declared.command.Command.TheVariants as command

@@ -1,6 +1,6 @@
 -- The form of `replay`: `[--format text|json|events] [--counts]`. The format is `text` where none is given.
-use Rattle.std.specs.Prelude.{Bool, false, List, [], ◌∷◌, Option, Some, None, bytes_eq, codes, if◌then◌else◌, option_map}
-use Rattle.clap.specs.Words.{Row, Rule, Text, first_of, new_rule}
+use Rattle.std.specs.Prelude.{Bool, false, [], ◌∷◌, Option, Some, None, bytes_eq, codes, if◌then◌else◌, option_map}
+use Rattle.clap.specs.Words.{Rule, Text, first_of, new_rule}
 use Rattle.clap.specs.declared.builder.action.ArgAction.TheVariants.{SetTrue}
 use Rattle.gd_options.specs.declared.command.Command.{Command}
 use Rattle.gd_options.specs.declared.command.Command.TheVariants as command

@@ -32,7 +32,8 @@ fn churn_by(seed: Option<&str>, steps: Option<&str>) -> Option<Command>
 
 pub fn read_churn<S: AsStr>(alloc: Global, words: &[S]) -> Result<Command, CommandFault>
     ensures asked { IfOk result (λ c. asked_by churn_form (map S.text words.now) ≡ Some c) }
-    ensures usage { result ≡ Err CommandFault.Usage → asked_by churn_form (map S.text words.now) ≡ None }
+    ensures usage { result ≡ Err CommandFault.Usage
+        → asked_by churn_form (map S.text words.now) ≡ None }
 {
     let matches = matches_of(churn_command(alloc)?, words)?;
     churn_by(text(&matches, "seed"), text(&matches, "steps")).ok_or(CommandFault::Usage)

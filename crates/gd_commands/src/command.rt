@@ -1,6 +1,7 @@
 //! The command that the words of a command line ask for.
 
 ghost use Rattle.std.specs.Prelude.{◌≡◌, ◌∷◌, IfOk, Some, None};
+ghost use Rattle.gd_options.specs.InRange.{IsInRange};
 ghost use Rattle.gd_commands.specs.Commands.{command_of};
 
 use crate::churn::read_churn;
@@ -20,7 +21,9 @@ use std::alloc::Global;
 #[tactic(auto, unfolding(crate::specs::Commands::command_of))]
 pub fn read_command(alloc: Global, words: &WordList) -> Result<Command, CommandFault>
     ensures asked { IfOk result (λ c. command_of words.now ≡ Some c) }
-    ensures usage { result ≡ Err CommandFault.Usage → command_of words.now ≡ None }
+    ensures in_range { IfOk result IsInRange }
+    ensures usage { result ≡ Err CommandFault.Usage
+        → command_of words.now ≡ None }
 {
     match words.as_slice().split_first() {
         Some((name, rest)) => read_named(alloc, name.as_str(), rest),
@@ -32,7 +35,8 @@ pub fn read_command(alloc: Global, words: &WordList) -> Result<Command, CommandF
 #[tactic(auto, unfolding(crate::specs::Commands::command_of))]
 fn read_named(alloc: Global, name: &str, words: &[Word]) -> Result<Command, CommandFault>
     ensures asked { IfOk result (λ c. command_of (name.now ∷ words.now) ≡ Some c) }
-    ensures usage { result ≡ Err CommandFault.Usage → command_of (name.now ∷ words.now) ≡ None }
+    ensures usage { result ≡ Err CommandFault.Usage
+        → command_of (name.now ∷ words.now) ≡ None }
 {
     if name == "replay" {
         read_replay(alloc, words)

@@ -4,13 +4,17 @@
 mod churn;
 mod command;
 mod fault;
+mod laws;
 mod matched;
 mod node;
 mod number;
 mod rehearse;
 mod replay;
+#[cfg(test)]
+mod tests;
 mod upgrade;
 
 pub use command::read_command;
 pub use fault::CommandFault;
 pub use gd_options::{Command, Format};
+pub use laws::{plain_words_are_taken, what_is_asked_is_in_range, written_words_are_met};

@@ -37,7 +37,8 @@ pub fn matches_of<'a, S: AsStr>(
     requires { is_simple_and_free (app_of command) ≡ true }
     ensures taken { IfOk result (λ m. (form : Form) → app_of command.entry ≡ app form
         → asked_by form (map S.text words.entry.now) ≡ form.asks (rows_of (found_of m))) }
-    ensures refused { result ≡ Err CommandFault.Usage → (form : Form) → app_of command.entry ≡ app form
+    ensures refused { result ≡ Err CommandFault.Usage
+        → (form : Form) → app_of command.entry ≡ app form
         → asked_by form (map S.text words.entry.now) ≡ None }
 {
     match command.try_get_matches_from(words) {

@@ -62,7 +62,8 @@ fn copied_node(
     journal: &str,
     addresses: &[&str],
 ) -> Result<Command, AllocError>
-    ensures { IfOk result (λ c. c ≡ Node session site journal.now (map (λ s. s.now) addresses.now)) }
+    ensures { IfOk result (λ c.
+        c ≡ Node session site journal.now (map (λ s. s.now) addresses.now)) }
 {
     let journal = Word::new(alloc, journal)?;
     let addresses = copied(alloc, addresses)?;
@@ -82,9 +83,11 @@ fn node_with(
     journal: &str,
     addresses: &[&str],
 ) -> Result<Command, CommandFault>
-    ensures asked { IfOk result (λ c. node_by (Some session.now) (Some site.now) (Some journal.now)
+    ensures asked { IfOk result (λ c.
+        node_by (Some session.now) (Some site.now) (Some journal.now)
         (Some (map (λ s. s.now) addresses.now)) ≡ Some c) }
-    ensures usage { result ≡ Err CommandFault.Usage → node_by (Some session.now) (Some site.now) (Some journal.now)
+    ensures usage { result ≡ Err CommandFault.Usage
+        → node_by (Some session.now) (Some site.now) (Some journal.now)
         (Some (map (λ s. s.now) addresses.now)) ≡ None }
 {
     match node_numbers(session, site, addresses.len()) {
@@ -101,9 +104,11 @@ fn node_by(
     journal: Option<&str>,
     addresses: Option<&[&str]>,
 ) -> Result<Command, CommandFault>
-    ensures asked { IfOk result (λ c. node_by (text_of session.entry) (text_of site.entry) (text_of journal.entry)
+    ensures asked { IfOk result (λ c.
+        node_by (text_of session.entry) (text_of site.entry) (text_of journal.entry)
         (texts_of addresses.entry) ≡ Some c) }
-    ensures usage { result ≡ Err CommandFault.Usage → node_by (text_of session.entry) (text_of site.entry)
+    ensures usage { result ≡ Err CommandFault.Usage
+        → node_by (text_of session.entry) (text_of site.entry)
         (text_of journal.entry) (texts_of addresses.entry) ≡ None }
 {
     match (session, site, journal, addresses) {
@@ -116,7 +121,8 @@ fn node_by(
 
 pub fn read_node<S: AsStr>(alloc: Global, words: &[S]) -> Result<Command, CommandFault>
     ensures asked { IfOk result (λ c. asked_by node_form (map S.text words.now) ≡ Some c) }
-    ensures usage { result ≡ Err CommandFault.Usage → asked_by node_form (map S.text words.now) ≡ None }
+    ensures usage { result ≡ Err CommandFault.Usage
+        → asked_by node_form (map S.text words.now) ≡ None }
 {
     let matches = matches_of(node_command(alloc)?, words)?;
     node_by(

@@ -30,7 +30,8 @@ fn rehearse_by(sites: Option<&str>) -> Option<Command>
 
 pub fn read_rehearse<S: AsStr>(alloc: Global, words: &[S]) -> Result<Command, CommandFault>
     ensures asked { IfOk result (λ c. asked_by rehearse_form (map S.text words.now) ≡ Some c) }
-    ensures usage { result ≡ Err CommandFault.Usage → asked_by rehearse_form (map S.text words.now) ≡ None }
+    ensures usage { result ≡ Err CommandFault.Usage
+        → asked_by rehearse_form (map S.text words.now) ≡ None }
 {
     let matches = matches_of(rehearse_command(alloc)?, words)?;
     rehearse_by(text(&matches, "sites")).ok_or(CommandFault::Usage)

@@ -54,7 +54,8 @@ fn replay_by(format: Option<&str>, counts: Option<&str>) -> Option<Command>
 
 pub fn read_replay<S: AsStr>(alloc: Global, words: &[S]) -> Result<Command, CommandFault>
     ensures asked { IfOk result (λ c. asked_by replay_form (map S.text words.now) ≡ Some c) }
-    ensures usage { result ≡ Err CommandFault.Usage → asked_by replay_form (map S.text words.now) ≡ None }
+    ensures usage { result ≡ Err CommandFault.Usage
+        → asked_by replay_form (map S.text words.now) ≡ None }
 {
     let matches = matches_of(replay_command(alloc)?, words)?;
     replay_by(text(&matches, "format"), text(&matches, "counts")).ok_or(CommandFault::Usage)

@@ -12,7 +12,8 @@ use std::convert::AsStr;
 
 pub fn read_upgrade<S: AsStr>(alloc: Global, words: &[S]) -> Result<Command, CommandFault>
     ensures asked { IfOk result (λ c. asked_by upgrade_form (map S.text words.now) ≡ Some c) }
-    ensures usage { result ≡ Err CommandFault.Usage → asked_by upgrade_form (map S.text words.now) ≡ None }
+    ensures usage { result ≡ Err CommandFault.Usage
+        → asked_by upgrade_form (map S.text words.now) ≡ None }
 {
     matches_of(bare(alloc, "upgrade"), words)?;
     Ok(Command::Upgrade)

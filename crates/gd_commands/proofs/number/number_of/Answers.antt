@@ -1,11 +1,11 @@
-use Rattle.std.proofs.Common.{◌≡◌, ◌∙◌, ◌<◌, ◌≤◌, ◌^◌, Ok, Some, None, ap, arith, cond, length, lit<, rules, sym, true}
+use Rattle.std.proofs.Common.{◌≡◌, ◌∙◌, ◌<◌, ◌^◌, Ok, Some, None, ap, arith, cond, lit<, rules, sym, true}
 use Rattle.std.specs.List.{list_all}
 use Rattle.std.specs.Result.{result_ok}
 use Rattle.std.specs.Str.Parse.{digits_value}
 use Rattle.std.proofs.lemmas.Bool.{leb-true, ltb-true}
 use Rattle.std.proofs.lemmas.Str.Parse.{IsNumeralModel, digits_value_short, numerals_by_value, parse_gives}
 use Rattle.clap.proofs.WalkLemmas.{both}
-use Rattle.gd_commands.specs.Numbers.{is_digit, is_number, number_in}
+use Rattle.gd_commands.specs.Numbers.{is_digit, is_number}
 use Rattle.gd_commands.proofs.number.number_of.Goals as goal
 
 own : IsNumeralModel (λ ds. list_all is_digit ds ≡ true) (digits_value 10)
