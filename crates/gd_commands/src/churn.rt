@@ -30,6 +30,7 @@ fn churn_by(seed: Option<&str>, steps: Option<&str>) -> Option<Command>
     Some(Command::Churn { seed, steps })
 }
 
+/// The command that the words behind `churn` ask for; `Usage` only where they aren't in its form.
 pub fn read_churn<S: AsStr>(alloc: Global, words: &[S]) -> Result<Command, CommandFault>
     ensures asked { IfOk result (λ c. asked_by churn_form (map S.text words.now) ≡ Some c) }
     ensures usage { result ≡ Err CommandFault.Usage

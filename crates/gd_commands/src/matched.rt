@@ -1,6 +1,6 @@
 //! What `clap` makes of the words behind a command's name.
 
-ghost use Rattle.std.specs.Prelude.{◌≡◌, IfOk, false, map, None, option_map, true};
+ghost use Rattle.std.specs.Prelude.{◌≡◌, IfOk, false, map, None, true};
 ghost use Rattle.clap.specs.Words.{all_of, app_of, found_of, first_of, is_simple_and_free, rows_of, rule_of};
 ghost use Rattle.gd_commands.specs.Forms.{Form, app, asked_by, bare, text_of, value_rule};
 ghost use Rattle.gd_commands.specs.Node.{texts_of};
@@ -29,7 +29,8 @@ pub fn value<'a>(alloc: Global, name: &'a str) -> Arg<'a>
     Arg::new(alloc, name).long(name).required(true)
 }
 
-/// The values that the words give to a form's arguments, or `Usage` where `clap` doesn't take them.
+/// The values that the words give to the arguments of a form, of which this is the command. `Usage` where `clap` doesn't
+/// take the words.
 pub fn matches_of<'a, S: AsStr>(
     command: ClapCommand<'a>,
     words: &'a [S],

@@ -119,6 +119,7 @@ fn node_by(
     }
 }
 
+/// The command that the words behind `node` ask for; `Usage` only where they aren't in its form.
 pub fn read_node<S: AsStr>(alloc: Global, words: &[S]) -> Result<Command, CommandFault>
     ensures asked { IfOk result (λ c. asked_by node_form (map S.text words.now) ≡ Some c) }
     ensures usage { result ≡ Err CommandFault.Usage

@@ -28,6 +28,7 @@ fn rehearse_by(sites: Option<&str>) -> Option<Command>
     Some(Command::Rehearse { sites })
 }
 
+/// The command that the words behind `rehearse` ask for; `Usage` only where they aren't in its form.
 pub fn read_rehearse<S: AsStr>(alloc: Global, words: &[S]) -> Result<Command, CommandFault>
     ensures asked { IfOk result (λ c. asked_by rehearse_form (map S.text words.now) ≡ Some c) }
     ensures usage { result ≡ Err CommandFault.Usage

@@ -52,6 +52,7 @@ fn replay_by(format: Option<&str>, counts: Option<&str>) -> Option<Command>
     Some(Command::Replay { format, counts })
 }
 
+/// The command that the words behind `replay` ask for; `Usage` only where they aren't in its form.
 pub fn read_replay<S: AsStr>(alloc: Global, words: &[S]) -> Result<Command, CommandFault>
     ensures asked { IfOk result (λ c. asked_by replay_form (map S.text words.now) ≡ Some c) }
     ensures usage { result ≡ Err CommandFault.Usage

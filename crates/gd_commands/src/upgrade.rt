@@ -10,6 +10,7 @@ use gd_options::Command;
 use std::alloc::Global;
 use std::convert::AsStr;
 
+/// The command that the words behind `upgrade` ask for; `Usage` only where they aren't in its form.
 pub fn read_upgrade<S: AsStr>(alloc: Global, words: &[S]) -> Result<Command, CommandFault>
     ensures asked { IfOk result (λ c. asked_by upgrade_form (map S.text words.now) ≡ Some c) }
     ensures usage { result ≡ Err CommandFault.Usage
