@@ -1,0 +1,11 @@
+//! A drawing, and the events of a log, as one line of JSON.
+#![tactic(auto)]
+
+mod array;
+mod events;
+mod picture;
+mod texts;
+
+pub use array::JsonText;
+pub use events::events_json;
+pub use picture::picture_json;

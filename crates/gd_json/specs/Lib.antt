@@ -1,0 +1,5 @@
+pub mod Values
+pub mod Parts
+pub mod PictureJson
+pub mod EventsJson
+pub mod Worked

@@ -1,0 +1,43 @@
+-- JSON as bytes. It is compact: nothing stands between its parts. An object is a list of fields, each a key and a value that
+-- is written already.
+use Rattle.std.specs.Prelude.{ℕ, Bool, ◌||◌, ◌==◌, List, [], ◌∷◌, ◌++◌, map, flat_map, codes, if◌then◌else◌}
+
+-- a quote or a backslash
+abbrev pub is_marked : ℕ → Bool
+is_marked b = (b == 34) || (b == 92)
+
+-- a byte of a label, behind a backslash where it needs one
+abbrev pub marked : ℕ → List ℕ
+marked b = if is_marked b then 92 ∷ b ∷ [] else b ∷ []
+
+-- a string of a label, which can hold no control character: all else stands as it is
+abbrev pub quoted : List ℕ → List ℕ
+quoted text = codes "\"" ++ flat_map marked text ++ codes "\""
+
+-- a string that needs no marks
+abbrev pub plain : List ℕ → List ℕ
+plain text = codes "\"" ++ text ++ codes "\""
+
+abbrev pub null : List ℕ
+null = codes "null"
+
+abbrev pub behind_commas : List (List ℕ) → List ℕ
+behind_commas [] = []
+behind_commas (value ∷ values) = codes "," ++ value ++ behind_commas values
+
+abbrev pub with_commas : List (List ℕ) → List ℕ
+with_commas [] = []
+with_commas (value ∷ values) = value ++ behind_commas values
+
+abbrev pub array : List (List ℕ) → List ℕ
+array values = codes "[" ++ with_commas values ++ codes "]"
+
+-- a key, and its value
+abbrev pub Field : Type 0
+Field = List ℕ × List ℕ
+
+abbrev pub field : Field → List ℕ
+field f = plain f.0 ++ codes ":" ++ f.1
+
+abbrev pub object : List Field → List ℕ
+object fields = codes "{" ++ with_commas (map field fields) ++ codes "}"

@@ -1,0 +1,98 @@
+-- Worked rows: items and events, and their JSON, written by hand.
+use Rattle.std.specs.Prelude.{ℕ, ℤ, pos, negsuc, List, [], ◌∷◌, ◌++◌, codes, Some, None}
+use Rattle.gd_base.specs.Stamps.{Stamp}
+use Rattle.gd_base.specs.declared.item.Item.{Item}
+use Rattle.gd_base.specs.declared.member.Member.{Member}
+use Rattle.gd_base.specs.declared.shape.Shape.TheVariants.{Rect, Ellipse, Line, Text}
+use Rattle.gd_base.specs.declared.style.Style.TheVariants.{Stroke, Fill, Width}
+use Rattle.gd_events.specs.declared.op.Op.{Op}
+use Rattle.gd_events.specs.declared.op.Op.TheVariants.{Create, Delete, Move, Resize, Restyle, Retext, Group, Ungroup, Raise, Lower}
+use Rattle.gd_events.specs.Events.{Event}
+
+abbrev pub at_stamp : ℕ → ℕ → Stamp
+at_stamp clock site = record { clock = clock; site = site }
+
+abbrev pub event : ℕ → ℕ → ℕ → Op → Event
+event clock site number op = record { stamp = at_stamp clock site; number = number; op = op }
+
+abbrev pub member : ℕ → ℕ → ℤ → ℤ → Member
+member clock site dx dy = record { id = at_stamp clock site; dx = dx; dy = dy }
+
+-- two events of one clock: a rect of site 2, and then an ellipse of site 1
+abbrev pub tie_events : List Event
+tie_events =
+    event 1 2 1 (Create Rect (pos 5) (pos 5) (pos 10) (pos 10) [])
+    ∷ event 1 1 1 (Create Ellipse (pos 0) (pos 0) (pos 20) (pos 20) [])
+    ∷ []
+
+abbrev pub tie_picture_json : List ℕ
+tie_picture_json =
+    codes "[{\"at\":[0,0],\"fill\":null,\"id\":\"1.1\",\"in\":null,\"kind\":\"ellipse\",\"label\":\"\",\"size\":[20,20],\"stroke\":\"000000\",\"width\":1},"
+    ++ codes "{\"at\":[5,5],\"fill\":null,\"id\":\"1.2\",\"in\":null,\"kind\":\"rect\",\"label\":\"\",\"size\":[10,10],\"stroke\":\"000000\",\"width\":1}]\n"
+
+abbrev pub tie_events_json : List ℕ
+tie_events_json =
+    codes "[{\"clock\":1,\"h\":10,\"kind\":\"rect\",\"label\":\"\",\"op\":\"create\",\"seq\":1,\"site\":2,\"w\":10,\"x\":5,\"y\":5},"
+    ++ codes "{\"clock\":1,\"h\":20,\"kind\":\"ellipse\",\"label\":\"\",\"op\":\"create\",\"seq\":1,\"site\":1,\"w\":20,\"x\":0,\"y\":0}]\n"
+
+-- a quote, a backslash, a letter of two bytes, the last character of all, and a slash and a space, which have no marks
+abbrev pub odd_label : List ℕ
+odd_label = codes "a\"b\\" ++ 195 ∷ 169 ∷ 244 ∷ 143 ∷ 191 ∷ 191 ∷ codes "/ "
+
+abbrev pub odd_label_json : List ℕ
+odd_label_json = codes "\"a\\\"b\\\\" ++ 195 ∷ 169 ∷ 244 ∷ 143 ∷ 191 ∷ 191 ∷ codes "/ \""
+
+-- a shape in a group, with a fill, and that group in another
+abbrev pub filled_line : Item
+filled_line = record {
+  id = at_stamp 281474976710655 16;
+  parent = Some (at_stamp 9 2);
+  at = record { x = negsuc 4294967295; y = pos 7 };
+  shape = Some record { kind = Line; w = negsuc 9; h = pos 0; stroke = 0x00AB0C; fill = Some 0xFF8000; width = 64; label = odd_label };
+}
+
+abbrev pub inner_group : Item
+inner_group = record { id = at_stamp 9 2; parent = Some (at_stamp 12 1); at = record { x = negsuc 2; y = pos 4 }; shape = None }
+
+-- a shape with a label, in no group and with no fill
+abbrev pub lone_text : Item
+lone_text = record {
+  id = at_stamp 3 1;
+  parent = None;
+  at = record { x = pos 1; y = pos 2 };
+  shape = Some record { kind = Text; w = pos 3; h = pos 4; stroke = 0x0A0B0C; fill = None; width = 5; label = codes "none" };
+}
+
+-- items, each with its JSON
+abbrev pub items_of_json : List (Item × List ℕ)
+items_of_json = (
+  filled_line,
+  codes "{\"at\":[-4294967296,7],\"fill\":\"FF8000\",\"id\":\"281474976710655.16\",\"in\":\"9.2\",\"kind\":\"line\",\"label\":" ++ odd_label_json
+      ++ codes ",\"size\":[-10,0],\"stroke\":\"00AB0C\",\"width\":64}",
+)
+    ∷ (inner_group, codes "{\"at\":[-3,4],\"id\":\"9.2\",\"in\":\"12.1\",\"kind\":\"group\"}")
+    ∷ (lone_text, codes "{\"at\":[1,2],\"fill\":null,\"id\":\"3.1\",\"in\":null,\"kind\":\"text\",\"label\":\"none\",\"size\":[3,4],\"stroke\":\"0A0B0C\",\"width\":5}")
+    ∷ []
+
+-- each operation, with the JSON of its event
+abbrev pub events_of_json : List (Event × List ℕ)
+events_of_json = (
+  event 7 3 1 (Create Text (negsuc 4) (pos 6) (pos 7) (negsuc 7) odd_label),
+  codes "{\"clock\":7,\"h\":-8,\"kind\":\"text\",\"label\":" ++ odd_label_json ++ codes ",\"op\":\"create\",\"seq\":1,\"site\":3,\"w\":7,\"x\":-5,\"y\":6}",
+)
+    ∷ (event 8 3 2 (Delete (at_stamp 7 16)), codes "{\"clock\":8,\"id\":\"7.16\",\"op\":\"delete\",\"seq\":2,\"site\":3}")
+    ∷ (event 9 3 3 (Move (at_stamp 7 3) (pos 2147483647) (negsuc 2147483646)), codes "{\"clock\":9,\"id\":\"7.3\",\"op\":\"move\",\"seq\":3,\"site\":3,\"x\":2147483647,\"y\":-2147483647}")
+    ∷ (event 10 3 4 (Resize (at_stamp 7 3) (pos 11) (pos 12)), codes "{\"clock\":10,\"h\":12,\"id\":\"7.3\",\"op\":\"resize\",\"seq\":4,\"site\":3,\"w\":11}")
+    ∷ (event 11 3 5 (Restyle (at_stamp 7 3) (Stroke 0x00AB0C)), codes "{\"clock\":11,\"id\":\"7.3\",\"op\":\"restyle\",\"seq\":5,\"site\":3,\"stroke\":\"00AB0C\"}")
+    ∷ (event 12 3 6 (Restyle (at_stamp 7 3) (Fill (Some 0))), codes "{\"clock\":12,\"fill\":\"000000\",\"id\":\"7.3\",\"op\":\"restyle\",\"seq\":6,\"site\":3}")
+    ∷ (event 13 3 7 (Restyle (at_stamp 7 3) (Fill None)), codes "{\"clock\":13,\"fill\":null,\"id\":\"7.3\",\"op\":\"restyle\",\"seq\":7,\"site\":3}")
+    ∷ (event 14 3 8 (Restyle (at_stamp 7 3) (Width 64)), codes "{\"clock\":14,\"id\":\"7.3\",\"op\":\"restyle\",\"seq\":8,\"site\":3,\"width\":64}")
+    ∷ (event 15 3 9 (Retext (at_stamp 7 3) odd_label), codes "{\"clock\":15,\"id\":\"7.3\",\"label\":" ++ odd_label_json ++ codes ",\"op\":\"retext\",\"seq\":9,\"site\":3}")
+    ∷ (
+      event 16 3 10 (Group (member 2 1 (pos 0) (negsuc 8) ∷ member 7 3 (pos 10) (pos 0) ∷ [])),
+      codes "{\"clock\":16,\"members\":[{\"dx\":0,\"dy\":-9,\"id\":\"2.1\"},{\"dx\":10,\"dy\":0,\"id\":\"7.3\"}],\"op\":\"group\",\"seq\":10,\"site\":3}",
+    )
+    ∷ (event 17 3 11 (Ungroup (at_stamp 16 3)), codes "{\"clock\":17,\"id\":\"16.3\",\"op\":\"ungroup\",\"seq\":11,\"site\":3}")
+    ∷ (event 18 3 12 (Raise (at_stamp 7 3)), codes "{\"clock\":18,\"id\":\"7.3\",\"op\":\"raise\",\"seq\":12,\"site\":3}")
+    ∷ (event 281474976710655 16 65535 (Lower (at_stamp 7 3)), codes "{\"clock\":281474976710655,\"id\":\"7.3\",\"op\":\"lower\",\"seq\":65535,\"site\":16}")
+    ∷ []
