@@ -4,6 +4,8 @@
 mod array;
 mod events;
 mod picture;
+#[cfg(test)]
+mod tests;
 mod texts;
 
 pub use array::JsonText;

@@ -32,7 +32,7 @@ pub fn picture_json(alloc: Global, picture: &Picture) -> Result<JsonText, AllocE
     array.into_line()
 }
 
-fn item_of(alloc: Global, item: &Item) -> Result<Value, AllocError>
+pub(crate) fn item_of(alloc: Global, item: &Item) -> Result<Value, AllocError>
     ensures { IfOk result (λ value. IsSpelled (view value) (item_json item.now)) }
 {
     match &item.shape {
