@@ -1,5 +1,5 @@
 -- An array that is written item by item.
-use Rattle.std.proofs.Common.{◌≡◌, ◌∙◌, ℕ, Bool, true, false, cond, List, [], ◌∷◌, ◌++◌, map, refl, sym, ap, ap₂, append_assoc, codes, subst, take, get_or, length, ◌+◌, ◌<◌}
+use Rattle.std.proofs.Common.{◌≡◌, ◌∙◌, ℕ, Bool, false, List, [], ◌∷◌, ◌++◌, map, refl, sym, ap, ap₂, append_assoc, codes, subst, take, get_or, length, ◌+◌, ◌<◌}
 use Rattle.std.proofs.lemmas.List.{append-nil, map_more}
 use Rattle.std.specs.Prelude.{Result, Ok, Err, OnOk, is_ok, if◌then◌else◌, string_bytes}
 use Rattle.gd_json.specs.Values.{array, behind_commas, with_commas}

@@ -1,6 +1,6 @@
 -- The value of an event is written as its JSON.
 use Rattle.std.proofs.Common.{◌≡◌, ℕ, ℤ, List, [], ◌∷◌, map, refl, sym, ap, codes, subst}
-use Rattle.std.specs.Prelude.{Option, Some, None, Result, Ok, Err, IfOk, decimal}
+use Rattle.std.specs.Prelude.{Result, Ok, Err, IfOk, decimal}
 use Rattle.std.specs.declared.alloc.AllocError.{AllocError}
 use Rattle.json.specs.Print.{escape_byte}
 use Rattle.serde_json.specs.Data.{Data, Members, member, no_members, string, array}
@@ -15,7 +15,7 @@ use Rattle.gd_base.specs.declared.style.Style.{Style}
 use Rattle.gd_base.specs.declared.style.Style.TheVariants.{Stroke, Fill, Width}
 use Rattle.gd_events.specs.Events.{Event}
 use Rattle.gd_events.specs.declared.op.Op.{Op}
-use Rattle.gd_events.specs.declared.op.Op.TheVariants.{Create, Delete, Move, Resize, Restyle, Retext, Group, Ungroup, Raise, Lower}
+use Rattle.gd_events.specs.declared.op.Op.TheVariants.{Create, Delete, Move, Resize, Retext, Group, Ungroup, Raise, Lower}
 use Rattle.gd_json.specs.Values.{Field, object}
 use Rattle.gd_json.specs.EventsJson.{event_json, member_fields, member_json, named, number_field, op_fields, style_fields, target_fields}
 use Rattle.gd_json.specs.Parts.{colour_json}

@@ -1,5 +1,5 @@
 -- The values of events.
-use Rattle.std.specs.Prelude.{ℕ, ℤ, List, map, Option, codes}
+use Rattle.std.specs.Prelude.{ℕ, ℤ, List, map, codes}
 use Rattle.serde_json.specs.Data.{Data, Items, Members, array, member, no_members, number, object, string, unsigned}
 use Rattle.serde_json.specs.Find.{of_integer}
 use Rattle.serde_json.specs.View.{items_of}
