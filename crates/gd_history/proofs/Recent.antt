@@ -1,13 +1,13 @@
 -- Pairs in order, and those that came since: both together.
-use Rattle.std.proofs.Common.{◌≡◌, ℕ, ◌+◌, ◌<◌, ◌≤◌, Bool, true, false, cond, List, [], ◌∷◌, ◌++◌, length, take, drop, take-append-drop, add-one, get_or, Option, Some, None, refl, sym, ap, ◌∙◌, subst, IsTrue, IfSome, arith, zero, suc, ◌==◌, ◌||◌, append_assoc}
-use Rattle.std.proofs.lemmas.Bool.{eqb-true, eqb-false}
+use Rattle.std.proofs.Common.{◌≡◌, ℕ, ◌+◌, ◌<◌, ◌≤◌, Bool, true, false, cond, List, [], ◌∷◌, ◌++◌, length, take, drop, take-append-drop, add-one, get_or, Option, Some, None, refl, sym, ap, ◌∙◌, subst, IsTrue, IfSome, arith, zero, suc, ◌==◌, ◌||◌}
+use Rattle.std.proofs.lemmas.Bool.{eqb-false}
 use Rattle.std.proofs.lemmas.List.Folds.{list_any-append}
 use Rattle.std.specs.List.{list_any}
 use Rattle.std.specs.Ordering.{nat_cmp, ordering_then, is_eq}
 use Rattle.std.specs.declared.cmp.Ordering.{Ordering}
 use Rattle.std.specs.declared.cmp.Ordering.TheVariants.{Less, Equal, Greater}
 use Rattle.std.specs.Cmp.{nat_cmp_total, ranked, tied_itself}
-use Rattle.gd_base.specs.Stamps.{Stamp, stamp_cmp, is_same, is_before}
+use Rattle.gd_base.specs.Stamps.{Stamp, stamp_cmp, is_before}
 use Rattle.gd_base.proofs.StampLemmas.{stamp_cmp-total, is_same-true}
 use Rattle.gd_base.proofs.StampOrder.{is_before-asym}
 use Rattle.gd_history.specs.Entries.{AllOf}

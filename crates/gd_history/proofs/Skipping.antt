@@ -1,8 +1,7 @@
 -- The closure by the index: what stands between two stamps of the index is independent of all members.
-use Rattle.std.proofs.Common.{◌≡◌, ◌≢◌, ℕ, ◌+◌, ◌*◌, ◌-◌, ◌<◌, ◌≤◌, cond, take, add-one, IfSome, Ordering, Bool, true, false, ◌&&◌, List, [], ◌∷◌, ◌++◌, length, drop, get_or, Option, Some, None, refl, sym, ap, ◌∙◌, subst, IsTrue, arith, suc, zero, ⊎_elim}
+use Rattle.std.proofs.Common.{◌≡◌, ◌≢◌, ℕ, ◌+◌, ◌*◌, ◌-◌, ◌<◌, ◌≤◌, cond, take, add-one, IfSome, Ordering, Bool, true, false, List, [], ◌∷◌, ◌++◌, length, drop, get_or, Option, Some, None, refl, sym, ap, ◌∙◌, subst, IsTrue, arith, suc, zero, ⊎_elim}
 use Rattle.std.proofs.lemmas.List.{nil_from_length, length-drop, append_assoc, append-nil, map-append}
 use Rattle.std.proofs.lemmas.Bool.{cases_lt, eqb-true}
-use Rattle.std.proofs.lemmas.Bool.Decides.{nat_tests}
 use Rattle.std.specs.Prelude.{◌==◌, ◌||◌}
 use mathlib.Core.Bool.{true≢false}
 use Rattle.std.proofs.Math.Seq.{append_snoc}

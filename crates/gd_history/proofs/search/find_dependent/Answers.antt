@@ -1,7 +1,7 @@
-use Rattle.std.proofs.Common.{◌≡◌, ◌<◌, ◌∷◌, ◌∙◌, [], length, Some, None, refl, arith}
+use Rattle.std.proofs.Common.{◌<◌, ◌∙◌, [], length, Some, None, refl, arith}
 use Rattle.gd_repair.specs.Repair.{stamped}
 use Rattle.gd_history.specs.Entries.{events_of}
-use Rattle.gd_history.specs.Indexes.{IsNext, rank_of}
+use Rattle.gd_history.specs.Indexes.{IsNext}
 use Rattle.gd_history.proofs.Skipping.{of_event, turn_hit, turn_end, searched_case, first_hit, rank_rises}
 use Rattle.gd_history.proofs.search.find_dependent.Goals as goal
 

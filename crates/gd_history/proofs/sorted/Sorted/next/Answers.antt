@@ -1,4 +1,3 @@
-use Rattle.std.proofs.Common.{◌∷◌}
 use Rattle.gd_base.specs.Stamps.{stamp_cmp}
 use Rattle.gd_history.proofs.Pairs.{next-behind, next-first, next-none}
 use Rattle.gd_history.proofs.sorted.Sorted.next.Goals as goal
