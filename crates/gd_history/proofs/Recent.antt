@@ -1,18 +1,19 @@
 -- Pairs in order, and those that came since: both together.
-use Rattle.std.proofs.Common.{◌≡◌, ℕ, ◌+◌, ◌<◌, ◌≤◌, Bool, true, false, cond, List, [], ◌∷◌, ◌++◌, length, take, drop, take-append-drop, add-one, get_or, Option, Some, None, refl, sym, ap, ◌∙◌, subst, IsTrue, IfSome, arith, zero, suc, ◌==◌, ◌||◌}
+use Rattle.std.proofs.Common.{◌≡◌, ℕ, ◌+◌, ◌<◌, ◌≤◌, Bool, true, false, cond, List, [], ◌∷◌, ◌++◌, length, take, drop, take-append-drop, add-one, get_or, Option, Some, None, refl, sym, ap, ◌∙◌, subst, IsTrue, IfSome, arith, ◌==◌, ◌||◌}
 use Rattle.std.proofs.lemmas.Bool.{eqb-false}
 use Rattle.std.proofs.lemmas.List.Folds.{list_any-append}
-use Rattle.std.specs.List.{list_any}
+use Rattle.std.specs.List.{AllByRecursion as Every, list_any}
 use Rattle.std.specs.Ordering.{nat_cmp, ordering_then, is_eq}
 use Rattle.std.specs.declared.cmp.Ordering.{Ordering}
 use Rattle.std.specs.declared.cmp.Ordering.TheVariants.{Less, Equal, Greater}
 use Rattle.std.specs.Cmp.{nat_cmp_total, ranked, tied_itself}
 use Rattle.gd_base.specs.Stamps.{Stamp, stamp_cmp, is_before}
 use Rattle.gd_base.proofs.StampLemmas.{stamp_cmp-total, is_same-true}
-use Rattle.gd_base.proofs.StampOrder.{is_before-asym}
-use Rattle.gd_history.specs.Entries.{AllOf}
 use Rattle.gd_history.specs.Indexes.{pair_cmp, Has, IsPast, IsNext, behind_of, earlier_of}
-use Rattle.gd_history.proofs.Skipping.{no_both, past_earlier_left, past_earlier_right}
+use Rattle.std.proofs.Math.Seq.{take-suc}
+use Rattle.gd_history.proofs.Entries.{false_when}
+use Rattle.gd_history.proofs.Ordering.{never_itself}
+use Rattle.gd_history.proofs.EarlierOfTwo.{past_earlier_left, past_earlier_right}
 
 abbrev Pairs : Type 0
 Pairs = List (ℕ × Stamp)
@@ -81,7 +82,7 @@ kept-settled sorted new recent left key stamp p is pair put kept k s h =
     h
 
 -- no pair of a clock up to the line stands for a stamp above it
-none_above : (line : ℕ) (ps : Pairs) (k : ℕ) (s : Stamp) → AllOf (λ p. p.1.clock ≤ line) ps → line < s.clock → Has ps k s → ⊥
+none_above : (line : ℕ) (ps : Pairs) (k : ℕ) (s : Stamp) → Every (λ p. p.1.clock ≤ line) ps → line < s.clock → Has ps k s → ⊥
 none_above line [] k s upto above h = cc
 none_above line (p ∷ ps) k s upto above h =
     has-either ⊥ (p ∷ []) ps k s
@@ -90,7 +91,7 @@ none_above line (p ∷ ps) k s upto above h =
     h
 
 -- the first pairs go, which have clocks up to the line
-pub kept-shed : (sorted recent left : Pairs) (count line : ℕ) → left ≡ drop count recent → AllOf (λ p. p.1.clock ≤ line) (take count recent)
+pub kept-shed : (sorted recent left : Pairs) (count line : ℕ) → left ≡ drop count recent → Every (λ p. p.1.clock ≤ line) (take count recent)
     → (k : ℕ) (s : Stamp) → line < s.clock → Has (sorted ++ recent) k s → Has (sorted ++ left) k s
 kept-shed sorted recent left count line is upto k s above h =
     has-either (Has (sorted ++ left) k s) sorted recent k s
@@ -107,16 +108,9 @@ pub next-both : (xs ys : Pairs) (floor : Stamp) (a b : Option Stamp) (k : ℕ) �
 next-both xs ys floor a b k left right s behind has =
     has-either (IsPast s (earlier_of a b)) xs ys k s (λ h. past_earlier_left a b s (left s behind h)) (λ h. past_earlier_right a b s (right s behind h)) has
 
-pub next-empty : (floor : Stamp) (k : ℕ) → IsNext [] floor None k
-next-empty floor k s behind has = cc
-
-self_case : (s : Stamp) (b : Bool) → is_before s s ≡ b → b ≡ false
-self_case s true is = absurd (no_both (is_before s s) is (is_before-asym s s is))
-self_case s false is = refl
-
 one_case : (p : ℕ × Stamp) (k : ℕ) (floor s : Stamp) (a b : Bool) → (p.0 == k) ≡ a → is_before floor p.1 ≡ b → p.0 ≡ k → p.1 ≡ s → IsTrue (is_before floor s) → IsPast s (cond a (cond b (Some p.1) None) None)
-one_case p k floor s true true at later same here behind = ap (is_before s) here ∙ self_case s (is_before s s) refl
-one_case p k floor s true false at later same here behind = no_both (is_before floor p.1) (ap (is_before floor) here ∙ behind) later
+one_case p k floor s true true at later same here behind = ap (is_before s) here ∙ false_when (is_before s s) (never_itself s)
+one_case p k floor s true false at later same here behind = cc (ap (is_before floor) here ∙ behind, later)
 one_case p k floor s false b at later same here behind = eqb-false p.0 k at same
 
 pub next-one : (p : ℕ × Stamp) (k : ℕ) (floor : Stamp) → IsNext (p ∷ []) floor (behind_of p k floor) k
@@ -132,16 +126,7 @@ behind-one p k floor = behind_case p floor (p.0 == k) (is_before floor p.1) refl
 
 -- ---- a list from its front
 
-take_by : (xs : Pairs) (k : ℕ) (x : ℕ × Stamp) → k < length xs → take (suc k) xs ≡ take k xs ++ get_or xs k x ∷ []
-take_by [] k x inside = absurd (omega arith)
-take_by (y ∷ ys) zero x inside = ap (λ l. y ∷ l) (none ys)
-  where
-    none : (zs : Pairs) → take 0 zs ≡ []
-    none [] = refl
-    none (z ∷ zs) = refl
-take_by (y ∷ ys) (suc k) x inside = ap (λ l. y ∷ l) (take_by ys k x (omega arith))
-
 pub next-more : (xs : Pairs) (at : ℕ) (x : ℕ × Stamp) (floor : Stamp) (found : Option Stamp) (k : ℕ) → at < length xs → IsNext (take at xs) floor found k → IsNext (take (at + 1) xs) floor (earlier_of found (behind_of (get_or xs at x) k floor)) k
 next-more xs at x floor found k inside front =
-    subst (λ l. IsNext l floor (earlier_of found (behind_of (get_or xs at x) k floor)) k) (sym (rw add-one (take_by xs at x inside)))
+    rw (add-one, take-suc xs at x)
     (next-both (take at xs) (get_or xs at x ∷ []) floor found (behind_of (get_or xs at x) k floor) k front (next-one (get_or xs at x) k floor))

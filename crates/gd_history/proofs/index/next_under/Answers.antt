@@ -1,7 +1,8 @@
 use Rattle.std.proofs.Common.{◌<◌, length, subst, arith}
 use Rattle.gd_repair.specs.Repair.{stamped}
 use Rattle.gd_history.specs.Indexes.{IsNext, earlier_of}
-use Rattle.gd_history.proofs.Skipping.{AllOf-more, behind_earlier, next_earlier_left, past_earlier_right}
+use Rattle.gd_history.proofs.Entries.{Every-more}
+use Rattle.gd_history.proofs.EarlierOfTwo.{behind_earlier, next_earlier_left, past_earlier_right}
 use Rattle.gd_history.proofs.index.next_under.Goals as goal
 
 pub loop-at-preserved : goal.loop-at-preserved
@@ -17,7 +18,7 @@ loop-at-preserved g c =
       behind = rw c.earlier-found.ensures (behind_earlier floor a b loop.behind c.next.ensures.behind);
       first =
           rw c.earlier-found.ensures
-          (AllOf-more (IsNext pairs floor (earlier_of a b)) ks c.loop-at.at 0 inside
+          (Every-more (IsNext pairs floor (earlier_of a b)) ks c.loop-at.at 0 inside
           (next_earlier_left pairs floor a b _ loop.first)
           (subst (IsNext pairs floor (earlier_of a b)) c.key.ensures (λ s behind has. past_earlier_right a b s (c.next.ensures.first s behind has))));
     }

@@ -1,5 +1,6 @@
 use Rattle.gd_history.specs.Indexes.{IsNext, earlier_of}
-use Rattle.gd_history.proofs.Skipping.{AllOf-more, behind_earlier, next_earlier_left, past_earlier_right}
+use Rattle.gd_history.proofs.Entries.{Every-more}
+use Rattle.gd_history.proofs.EarlierOfTwo.{behind_earlier, next_earlier_left, past_earlier_right}
 use Rattle.gd_history.proofs.keys.next_of.Goals as goal
 
 pub loop-at-preserved : goal.loop-at-preserved
@@ -13,7 +14,7 @@ loop-at-preserved c =
       behind = rw c.earlier-found.ensures (behind_earlier floor a b loop.behind c.next.ensures.behind);
       first =
           rw c.earlier-found.ensures
-          (AllOf-more (IsNext pairs floor (earlier_of a b)) c.args.keys.now c.loop-at.at _ c.loop-at-test.true
+          (Every-more (IsNext pairs floor (earlier_of a b)) c.args.keys.now c.loop-at.at _ c.loop-at-test.true
           (next_earlier_left pairs floor a b _ loop.first)
           (λ s behind has. past_earlier_right a b s (c.next.ensures.first s behind has)));
     }
