@@ -1,8 +1,8 @@
 -- The keys of an event and of its members: what has none of them is independent of all.
-use Rattle.std.proofs.Common.{◌≡◌, ◌≢◌, ℕ, Bool, true, false, List, [], ◌∷◌, ◌++◌, Option, refl, sym, ap, ◌∙◌, subst, IsTrue}
+use Rattle.std.proofs.Common.{◌≡◌, ◌≢◌, ℕ, true, List, [], ◌∷◌, ◌++◌, Option, refl, sym, ap, ◌∙◌, subst, IsTrue, inl, inr}
 use Rattle.std.proofs.lemmas.List.{append_assoc, append-nil, map-append}
-use Rattle.std.proofs.lemmas.Bool.{eqb-true}
-use Rattle.std.specs.Prelude.{◌==◌, ◌||◌}
+use Rattle.std.proofs.lemmas.Bool.{eqb-true, or_cases}
+use Rattle.std.specs.Prelude.{◌==◌}
 use Rattle.std.specs.List.{AllByRecursion as Every}
 use Rattle.gd_base.specs.Stamps.{Stamp, is_before}
 use Rattle.gd_base.proofs.Lists.{Every-append, Every-prefix, Every-back, Every-weaker}
@@ -43,13 +43,12 @@ pub of_event : {E : Type 0} (keys : E → List ℕ) (e : E) (P : ℕ → Type 0)
 of_event keys e P h = subst (Every P) (sym (append-nil (keys e))) h
 
 -- what holds of each element of a list holds of each key that it has
-key_case : (P : ℕ → Type 0) (k j : ℕ) (rest : Bool) (same : Bool) → (k == j) ≡ same → P j → (rest ≡ true → P k) → (same || rest) ≡ true → P k
-key_case P k j rest true is here further h = subst P (sym (eqb-true k j is)) here
-key_case P k j rest false is here further h = further h
-
 key_at : (P : ℕ → Type 0) (list : List ℕ) (k : ℕ) → Every P list → IsTrue (has_key list k) → P k
 key_at P [] k all has = cc
-key_at P (j ∷ js) k all has = key_case P k j (has_key js k) (k == j) refl all.0 (key_at P js k all.1) has
+key_at P (j ∷ js) k all has = elim (or_cases (k == j) (has_key js k) has) [
+      | inl same ↦ subst P (sym (eqb-true k j same)) all.0
+      | inr further ↦ key_at P js k all.1 further
+    ]
 
 pub asked_of : (P : ℕ → Type 0) (list ks : List ℕ) → Every P list → HasKeys list ks → Every P ks
 asked_of P list ks all has = Every-weaker (λ k. IsTrue (has_key list k)) P (λ k h. key_at P list k all h) ks has

@@ -1,6 +1,7 @@
 -- Pairs in order, and those that came since: both together.
-use Rattle.std.proofs.Common.{◌≡◌, ℕ, ◌+◌, ◌<◌, ◌≤◌, Bool, true, false, cond, List, [], ◌∷◌, ◌++◌, length, take, drop, take-append-drop, add-one, get_or, Option, Some, None, refl, sym, ap, ◌∙◌, subst, IsTrue, IfSome, arith, ◌==◌, ◌||◌}
-use Rattle.std.proofs.lemmas.Bool.{eqb-false}
+use Rattle.std.proofs.Common.{◌≡◌, ℕ, ◌+◌, ◌<◌, ◌≤◌, true, false, cond, List, [], ◌∷◌, ◌++◌, length, take, drop, take-append-drop, add-one, get_or, Option, Some, None, refl, sym, ap, ◌∙◌, subst, IsTrue, IfSome, arith, ◌==◌, ◌||◌, ⊎_elim}
+use Rattle.std.proofs.lemmas.Bool.{eqb-false, or_cases, cond_both, true_from_ne_false, false_from_ne_true}
+use Rattle.std.proofs.Math.Bool.{or-true}
 use Rattle.std.proofs.lemmas.List.Folds.{list_any-append}
 use Rattle.std.specs.List.{AllByRecursion as Every, list_any}
 use Rattle.std.specs.Ordering.{nat_cmp, ordering_then, is_eq}
@@ -11,7 +12,6 @@ use Rattle.gd_base.specs.Stamps.{Stamp, stamp_cmp, is_before}
 use Rattle.gd_base.proofs.StampLemmas.{stamp_cmp-total, is_same-true}
 use Rattle.gd_history.specs.Indexes.{pair_cmp, Has, IsPast, IsNext, behind_of, earlier_of}
 use Rattle.std.proofs.Math.Seq.{take-suc}
-use Rattle.gd_history.proofs.Entries.{false_when}
 use Rattle.gd_history.proofs.Ordering.{never_itself}
 use Rattle.gd_history.proofs.EarlierOfTwo.{past_earlier_left, past_earlier_right}
 
@@ -20,28 +20,16 @@ Pairs = List (ℕ × Stamp)
 
 -- ---- in one of two lists
 
-or_left : (a b : Bool) → a ≡ true → (a || b) ≡ true
-or_left true b h = refl
-or_left false b h = cc
-
-or_right : (a b : Bool) → b ≡ true → (a || b) ≡ true
-or_right true b h = refl
-or_right false b h = h
-
 pub has-left : (xs ys : Pairs) (k : ℕ) (s : Stamp) → Has xs k s → Has (xs ++ ys) k s
-has-left xs ys k s h = let p = λ (q : ℕ × Stamp). is_eq (pair_cmp (k, s) q) in list_any-append p xs ys ∙ or_left (list_any p xs) (list_any p ys) h
+has-left xs ys k s h = list_any-append (λ (q : ℕ × Stamp). is_eq (pair_cmp (k, s) q)) xs ys ∙ rw h refl
 
 pub has-right : (xs ys : Pairs) (k : ℕ) (s : Stamp) → Has ys k s → Has (xs ++ ys) k s
-has-right xs ys k s h = let p = λ (q : ℕ × Stamp). is_eq (pair_cmp (k, s) q) in list_any-append p xs ys ∙ or_right (list_any p xs) (list_any p ys) h
+has-right xs ys k s h = let p = λ (q : ℕ × Stamp). is_eq (pair_cmp (k, s) q) in list_any-append p xs ys ∙ rw h (or-true (list_any p xs))
 
 pub has-either : (P : Type 0) (xs ys : Pairs) (k : ℕ) (s : Stamp) → (Has xs k s → P) → (Has ys k s → P) → Has (xs ++ ys) k s → P
 has-either P xs ys k s left right h =
     let p = λ (q : ℕ × Stamp). is_eq (pair_cmp (k, s) q) in
-    which (list_any p xs) (list_any p ys) left right (sym (list_any-append p xs ys) ∙ h)
-  where
-    which : (a b : Bool) → (a ≡ true → P) → (b ≡ true → P) → (a || b) ≡ true → P
-    which true b l r e = l refl
-    which false b l r e = r e
+    ⊎_elim left right (or_cases (list_any p xs) (list_any p ys) (sym (list_any-append p xs ys) ∙ h))
 
 -- ---- one pair
 
@@ -108,21 +96,13 @@ pub next-both : (xs ys : Pairs) (floor : Stamp) (a b : Option Stamp) (k : ℕ) �
 next-both xs ys floor a b k left right s behind has =
     has-either (IsPast s (earlier_of a b)) xs ys k s (λ h. past_earlier_left a b s (left s behind h)) (λ h. past_earlier_right a b s (right s behind h)) has
 
-one_case : (p : ℕ × Stamp) (k : ℕ) (floor s : Stamp) (a b : Bool) → (p.0 == k) ≡ a → is_before floor p.1 ≡ b → p.0 ≡ k → p.1 ≡ s → IsTrue (is_before floor s) → IsPast s (cond a (cond b (Some p.1) None) None)
-one_case p k floor s true true at later same here behind = ap (is_before s) here ∙ false_when (is_before s s) (never_itself s)
-one_case p k floor s true false at later same here behind = cc (ap (is_before floor) here ∙ behind, later)
-one_case p k floor s false b at later same here behind = eqb-false p.0 k at same
-
 pub next-one : (p : ℕ × Stamp) (k : ℕ) (floor : Stamp) → IsNext (p ∷ []) floor (behind_of p k floor) k
-next-one p k floor s behind has = let same = of-one p k s has in one_case p k floor s (p.0 == k) (is_before floor p.1) refl refl same.0 same.1 behind
-
-behind_case : (p : ℕ × Stamp) (floor : Stamp) (a b : Bool) → is_before floor p.1 ≡ b → IfSome (cond a (cond b (Some p.1) None) None) (λ t. IsTrue (is_before floor t))
-behind_case p floor true true is = is
-behind_case p floor true false is = tt
-behind_case p floor false b is = tt
+next-one p k floor s behind has = let same = of-one p k s has in rw (same.0, true_from_ne_false (k == k) (λ h. eqb-false k k h refl), same.1, behind) (false_from_ne_true (is_before s s) (never_itself s))
 
 pub behind-one : (p : ℕ × Stamp) (k : ℕ) (floor : Stamp) → IfSome (behind_of p k floor) (λ t. IsTrue (is_before floor t))
-behind-one p k floor = behind_case p floor (p.0 == k) (is_before floor p.1) refl
+behind-one p k floor =
+    let Q : Option Stamp → Type 0 = λ f. IfSome f (λ t. IsTrue (is_before floor t)) in
+    cond_both (p.0 == k) (cond (is_before floor p.1) (Some p.1) None) None Q (λ same. cond_both (is_before floor p.1) (Some p.1) None Q (λ is. is) (λ is. tt)) (λ other. tt)
 
 -- ---- a list from its front
 

@@ -1,7 +1,7 @@
 -- The turns of a search by the index: what stands between two stamps of the index is independent of all members.
 use Rattle.std.proofs.Common.{◌≡◌, ℕ, ◌+◌, ◌*◌, ◌-◌, ◌<◌, ◌≤◌, Ordering, true, List, [], ◌∷◌, ◌++◌, length, drop, get_or, Option, Some, None, refl, sym, ap, ◌∙◌, IsTrue, arith, suc, zero, ⊎_elim}
 use Rattle.std.proofs.lemmas.List.{nil_from_length, length-drop, append-nil, map-append}
-use Rattle.std.proofs.lemmas.Bool.{cases_lt}
+use Rattle.std.proofs.lemmas.Bool.{cases_lt, false_from_ne_true, true_from_ne_false}
 use Rattle.std.proofs.Math.Seq.{append_snoc}
 use Rattle.std.specs.List.{AllByRecursion as Every}
 use Rattle.std.specs.Ordering.{nat_cmp, ordering_then, is_lt}
@@ -16,7 +16,6 @@ use Rattle.gd_repair.specs.Keys.{AreKeys}
 use Rattle.gd_history.specs.Places.{event_at, events_at, places_from, IsPlaceOf}
 use Rattle.gd_history.specs.Orders.{IsRising}
 use Rattle.gd_history.specs.Indexes.{Has, IsIndexed, IsPast, IsNext, all_keys, IsHit, listed_option, rank_of}
-use Rattle.gd_history.proofs.Entries.{false_when, true_when}
 use Rattle.gd_history.proofs.Ordering.{never_itself, before_late, rising_at, not_behind, at_or_behind}
 use Rattle.gd_history.proofs.Places.{places_from-free, places_from-taken, drop_at}
 use Rattle.gd_history.proofs.KeysInHand.{free_of_all}
@@ -88,7 +87,7 @@ module _ {O B M : Type 0} (d : Rules (Stamped O) B M) (keys : Stamped O → List
         (λ low. early k up inside (before_late x.stamp (event_at e es (k + 1)).stamp t (rising_at es k (k + 1) e rising (omega arith) (omega arith)) (not_behind t es place there rising (k + 1) e low)))
         (λ high.
         let last : k + 1 ≡ place = omega arith in
-        true_when (is_free d.independent (e ∷ cs) x) (λ taken. cc (early k up inside (is_before-total t x.stamp (not_behind t es place there rising k e below) (λ same. cc (none k e last (sym same), taken))), taken)))
+        true_from_ne_false (is_free d.independent (e ∷ cs) x) (λ taken. cc (early k up inside (is_before-total t x.stamp (not_behind t es place there rising k e below) (λ same. cc (none k e last (sym same), taken))), taken)))
         (cases_lt (k + 1) place)
 
     -- the stamp is that of a member
@@ -135,7 +134,7 @@ searched_behind d e es rising first inside f read s is places one =
         later = λ k x from below. ap (λ z. is_before z (get_or es k x).stamp) (is ∙ ap (λ g. g.stamp) (sym (read x))) ∙ rising_at es first k x rising (omega arith) below;
         not_later = λ x some.
             let at : (first + 1) - 1 ≡ first = omega arith in
-            ap (λ n. is_before s (get_or es n x).stamp) at ∙ ap (is_before s) (ap (λ g. g.stamp) (read x) ∙ sym is) ∙ false_when (is_before s s) (never_itself s);
+            ap (λ n. is_before s (get_or es n x).stamp) at ∙ ap (is_before s) (ap (λ g. g.stamp) (read x) ∙ sym is) ∙ false_from_ne_true (is_before s s) (never_itself s);
       };
       left = ap (λ l. l ++ places_from d e (events_at e es l) (first + 1) (drop (first + 1) es)) (sym one);
     }
