@@ -46,9 +46,9 @@ of_event keys e P h = subst (Every P) (sym (append-nil (keys e))) h
 key_at : (P : ℕ → Type 0) (list : List ℕ) (k : ℕ) → Every P list → IsTrue (has_key list k) → P k
 key_at P [] k all has = cc
 key_at P (j ∷ js) k all has = elim (or_cases (k == j) (has_key js k) has) [
-      | inl same ↦ subst P (sym (eqb-true k j same)) all.0
-      | inr further ↦ key_at P js k all.1 further
-    ]
+  | inl same ↦ subst P (sym (eqb-true k j same)) all.0
+  | inr further ↦ key_at P js k all.1 further
+]
 
 pub asked_of : (P : ℕ → Type 0) (list ks : List ℕ) → Every P list → HasKeys list ks → Every P ks
 asked_of P list ks all has = Every-weaker (λ k. IsTrue (has_key list k)) P (λ k h. key_at P list k all h) ks has

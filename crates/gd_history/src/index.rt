@@ -131,13 +131,7 @@ pub(crate) fn earlier(a: Option<Stamp>, b: Option<Stamp>) -> Option<Stamp>
     ensures { result ≡ earlier_of a b }
 {
     match (a, b) {
-        (Some(s), Some(t)) => {
-            if t.is_before(s) {
-                Some(t)
-            } else {
-                Some(s)
-            }
-        }
+        (Some(s), Some(t)) => { if t.is_before(s) { Some(t) } else { Some(s) } }
         (Some(s), None) => Some(s),
         (None, other) => other,
     }
