@@ -1,5 +1,5 @@
 -- The turns of a search by the index: what stands between two stamps of the index is independent of all members.
-use Rattle.std.proofs.Common.{◌≡◌, ℕ, ◌+◌, ◌*◌, ◌-◌, ◌<◌, ◌≤◌, Ordering, true, List, [], ◌∷◌, ◌++◌, length, drop, get_or, Option, Some, None, refl, sym, ap, ◌∙◌, IsTrue, arith, suc, zero, ⊎_elim}
+use Rattle.std.proofs.Common.{◌≡◌, ℕ, ◌+◌, ◌*◌, ◌-◌, ◌^◌, ◌<◌, ◌≤◌, Ordering, true, List, [], ◌∷◌, ◌++◌, length, drop, get_or, Option, Some, None, refl, sym, ap, ◌∙◌, IsTrue, arith, suc, zero, ⊎_elim}
 use Rattle.std.proofs.lemmas.List.{nil_from_length, length-drop, append-nil, map-append}
 use Rattle.std.proofs.lemmas.Bool.{cases_lt, false_from_ne_true, true_from_ne_false}
 use Rattle.std.proofs.Math.Seq.{append_snoc}
@@ -153,6 +153,10 @@ rises_by Equal Equal a b x y is at small other h = cc
 rises_by Equal Greater a b x y is at small other h = cc
 rises_by Greater q a b x y is at small other h = cc
 
-pub rank_rises : (s t : Stamp) → s.site ≤ 16 → t.site ≤ 16 → IsTrue (is_before s t) → rank_of s < rank_of t
+rank_rises : (s t : Stamp) → s.site ≤ 16 → t.site ≤ 16 → IsTrue (is_before s t) → rank_of s < rank_of t
 unfolding stamp_cmp
 rank_rises s t small other h = rises_by (nat_cmp s.clock t.clock) (nat_cmp s.site t.site) s.clock t.clock s.site t.site refl refl small other h
+
+-- so what is left to search falls
+pub rank_falls : (s t : Stamp) (old new : ℕ) → s.site ≤ 16 → t.site ≤ 16 → IsTrue (is_before s t) → old ≡ rank_of s → new ≡ rank_of t → new < 2 ^ 54 → 2 ^ 54 - new < 2 ^ 54 - old
+rank_falls s t old new small other before was is low = let rises = rank_rises s t small other before in omega arith

@@ -3,7 +3,7 @@ use Rattle.gd_repair.specs.Repair.{stamped}
 use Rattle.gd_history.specs.Entries.{events_of}
 use Rattle.gd_history.specs.Indexes.{IsNext}
 use Rattle.gd_history.proofs.KeysInHand.{of_event}
-use Rattle.gd_history.proofs.Turns.{turn_hit, turn_end, searched_further, rank_rises}
+use Rattle.gd_history.proofs.Turns.{turn_hit, turn_end, searched_further, rank_falls}
 use Rattle.gd_history.proofs.search.find_dependent.Goals as goal
 
 pub returns-in-Some-hit : goal.returns-in-Some-hit
@@ -23,11 +23,8 @@ returns-in-Some-hit g c =
 
 pub stamps-smaller : goal.stamps-smaller
 stamps-smaller g c =
-    let rises = rank_rises c.stamps.floor c.in-Some.next c.stamps.invariant.site c.rank-reached-in-Some.ensures.site c.in-Some.ensures.behind in
-    let old = c.stamps.invariant.reached in
-    let new = c.rank-reached-in-Some.ensures.value in
-    let small = c.rank-reached-in-Some.ensures.small in
-    omega arith
+    let now = c.rank-reached-in-Some.ensures in
+    rank_falls c.stamps.floor c.in-Some.next c.stamps.reached c.rank-reached-in-Some.result c.stamps.invariant.site now.site c.in-Some.ensures.behind c.stamps.invariant.reached now.value now.small
 
 pub stamps-preserved : goal.stamps-preserved
 stamps-preserved g c =
