@@ -175,13 +175,7 @@ impl Document for Registers {
         match op {
             Edit::Set { cell, value: _ } => *cell as u64,
             Edit::Remove { cell } => *cell as u64,
-            Edit::Copy { from, to } => {
-                if place == 0 {
-                    *to as u64
-                } else {
-                    *from as u64
-                }
-            }
+            Edit::Copy { from, to } => { if place == 0 { *to as u64 } else { *from as u64 } }
         }
     }
 }
