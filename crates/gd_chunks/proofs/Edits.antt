@@ -1,0 +1,154 @@
+-- Edits of rows, and of where they start.
+use Rattle.std.proofs.Common.{◌≡◌, ℕ, ◌+◌, ◌-◌, ◌<◌, ◌≤◌, Bool, true, false, cond, if◌then◌else◌, nat_lt, List, [], ◌∷◌, ◌++◌, length, take, drop, set, map, get_or, suc, zero, add-one, append_assoc, append-nil, length-append, length-take, length-drop, take-append-drop, sym, ap, ◌∙◌, refl, subst, arith, slice_index}
+use Rattle.std.specs.List.{insert}
+use Rattle.std.proofs.lemmas.List.{drop_more, take_more, set_split, set_at, get_or_at, get_or_push, take_at, drop_at, take-append-le, drop-append-le, map-append, length_push, length-take-le, length-map}
+use Rattle.std.proofs.lemmas.List.Edits.{insert-append_left, insert-append_right, length-insert}
+use Rattle.std.proofs.lemmas.Bool.Decides.{nat_tests}
+use Rattle.gd_chunks.specs.declared.row.TheConstants.{ROW, HALF}
+use Rattle.gd_chunks.specs.Rows.{joined, starts_from, row_at, IsPlace, HasRoom, raised, parted}
+use Rattle.gd_chunks.proofs.Lists.{joined-append, split}
+use Rattle.gd_chunks.proofs.Starts.{starts-joined, length-starts, starts-raised}
+
+-- ---- numbers raised one by one
+
+length-raised : (from : ℕ) (ns : List ℕ) → length (raised from ns) ≡ length ns
+length-raised from ns =
+    length-append (take from ns) (map (λ n. n + 1) (drop from ns))
+    ∙ ap (λ m. length (take from ns) + m) (length-map (drop from ns) (λ n. n + 1))
+    ∙ sym (length-append (take from ns) (drop from ns))
+    ∙ ap length (take-append-drop from ns)
+
+raised-push : (from : ℕ) (ns : List ℕ) (n : ℕ) → from ≤ length ns → raised from (ns ++ n ∷ []) ≡ raised from ns ++ (n + 1) ∷ []
+raised-push from ns n within =
+    (λ j. take-append-le from ns (n ∷ []) within j ++ map (λ m. m + 1) (drop-append-le from ns (n ∷ []) within j))
+    ∙ ap (λ l. take from ns ++ l) (map-append (λ m. m + 1) (drop from ns) (n ∷ []))
+    ∙ sym (append_assoc (take from ns) (map (λ m. m + 1) (drop from ns)) ((n + 1) ∷ []))
+
+pub raised_more : (ns now : List ℕ) (from at x : ℕ) → from ≤ at → at < length ns → now ≡ raised from (take at ns) ++ drop at ns → x ≡ get_or now at x → set now at (x + 1) ≡ raised from (take (at + 1) ns) ++ drop (at + 1) ns
+raised_more ns now from at x low inside is read =
+    let front = raised from (take at ns) in
+    let y = get_or ns at 0 in
+    let rest = drop (at + 1) ns in
+    let long : length front ≡ at = length-raised from (take at ns) ∙ length-take-le at ns (omega arith) in
+    let parts : now ≡ front ++ y ∷ rest = is ∙ ap (λ l. front ++ l) (drop_more ns at 0 inside) in
+    let same : x ≡ y = read ∙ ap (λ l. get_or l at x) parts ∙ get_or_at front y rest x at long in
+    let within : from ≤ length (take at ns) = omega (arith, length-take-le at ns (omega arith)) in
+    ap (λ l. set l at (x + 1)) parts
+    ∙ set_at front y rest (x + 1) at long
+    ∙ ap (λ n. front ++ (n + 1) ∷ rest) same
+    ∙ sym (append_assoc front ((y + 1) ∷ []) rest)
+    ∙ ap (λ l. l ++ rest) (sym (raised-push from (take at ns) y within))
+    ∙ ap (λ l. raised from l ++ rest) (sym (take_more ns at 0 inside))
+
+-- ---- a row more
+
+module _ {X : Type 0} where
+  pub starts_more : (rows : List (List X)) (k : ℕ) (starts : List ℕ) (n : ℕ) → k < length rows → starts ≡ starts_from 0 (take k rows) → n ≡ length (joined (take k rows)) → starts ++ n ∷ [] ≡ starts_from 0 (take (k + 1) rows)
+  starts_more rows k starts n within are is =
+      (λ j. are j ++ (is j) ∷ [])
+      ∙ sym (starts-joined (take k rows) (row_at rows k ∷ []))
+      ∙ ap (starts_from 0) (sym (take_more rows k [] within))
+
+  pub opened : (rows rows2 : List (List X)) (starts starts2 : List ℕ) (at k : ℕ) → starts ≡ starts_from 0 rows → at ≡ length (joined rows) → k ≡ length rows → rows2 ≡ rows ++ [] ∷ [] → starts2 ≡ starts ++ at ∷ [] → HasRoom rows rows2 starts2 at k 0
+  opened rows rows2 starts starts2 at k are end last is is2 =
+      let here : row_at rows2 k ≡ [] = ap (λ l. row_at l k) is ∙ get_or_push rows [] [] k (sym last) in
+      let front : take k rows2 ≡ rows = ap (take k) is ∙ take_at rows ([] ∷ []) k (sym last) in
+      record {
+        items = ap joined is ∙ joined-append rows ([] ∷ []) ∙ append-nil (joined rows);
+        starts_are = is2 ∙ (λ j. are j ++ (end j) ∷ []) ∙ sym (starts-joined rows ([] ∷ [])) ∙ ap (starts_from 0) (sym is);
+        place = record {
+          row = omega (arith, ap length is, length_push rows []);
+          column = omega arith;
+          here = omega (arith, end, ap (λ l. length (joined l)) front);
+        };
+        room = omega (arith, ap length here);
+      }
+
+-- ---- a row in two
+
+module _ {X : Type 0} (rows : List (List X)) (k n : ℕ) (within : k < length rows) (cut : n ≤ length (row_at rows k)) where
+  abbrev left : List (List X)
+  left = take k rows
+
+  abbrev row : List X
+  row = row_at rows k
+
+  abbrev right : List (List X)
+  right = drop (k + 1) rows
+
+  length-left : length left ≡ k
+  length-left = length-take-le k rows (omega arith)
+
+  length-first : length (take n row) ≡ n
+  length-first = length-take-le n row cut
+
+  length-second : length (drop n row) ≡ length row - n
+  length-second = length-drop n row
+
+  pub joined-parted : joined (parted rows k n) ≡ joined rows
+  joined-parted =
+      joined-append left (take n row ∷ drop n row ∷ right)
+      ∙ ap (λ l. joined left ++ l) (sym (append_assoc (take n row) (drop n row) (joined right)) ∙ ap (λ l. l ++ joined right) (take-append-drop n row))
+      ∙ sym (joined-append left (row ∷ right))
+      ∙ ap joined (sym (split rows k within))
+
+  pub starts-parted : (starts : List ℕ) (x : ℕ) → starts ≡ starts_from 0 rows → x ≡ get_or starts k x → insert starts (k + 1) (x + n) ≡ starts_from 0 (parted rows k n)
+  starts-parted starts x are read =
+      let m = length (joined left) in
+      let front = starts_from 0 left in
+      let long : length front ≡ k = length-starts 0 left ∙ length-left in
+      let rest = starts_from (m + length row) right in
+      let parts : starts ≡ front ++ m ∷ rest = are ∙ ap (starts_from 0) (split rows k within) ∙ starts-joined left (row ∷ right) in
+      let same : x ≡ m = read ∙ ap (λ l. get_or l k x) parts ∙ get_or_at front m rest x k long in
+      let one : (k + 1) - k ≡ 1 = omega arith in
+      let first : m + length (take n row) ≡ m + n = omega (arith, length-first) in
+      let second : (m + length (take n row)) + length (drop n row) ≡ m + length row = omega (arith, length-first, length-second) in
+      ap (λ l. insert l (k + 1) (x + n)) parts
+      ∙ insert-append_right front (m ∷ rest) k (k + 1) (x + n) long (omega arith)
+      ∙ ap (λ j. front ++ insert (m ∷ rest) j (x + n)) one
+      ∙ ap (λ y. front ++ m ∷ (y + n) ∷ rest) same
+      ∙ (λ j. front ++ m ∷ (sym first j) ∷ starts_from (sym second j) right)
+      ∙ sym (starts-joined left (take n row ∷ drop n row ∷ right))
+
+  abbrev both : List (List X)
+  both = left ++ take n row ∷ []
+
+  length-both : length both ≡ k + 1
+  length-both = omega (arith, length_push left (take n row), length-left)
+
+  apart : parted rows k n ≡ both ++ drop n row ∷ right
+  apart = sym (append_assoc left (take n row ∷ []) (drop n row ∷ right))
+
+  length-parted : k + 1 < length (parted rows k n)
+  length-parted = omega (arith, ap length apart, length-append both (drop n row ∷ right), length-both)
+
+  -- the place of an element once its row is in two
+  parted_front : (at i : ℕ) → IsPlace rows at k i → i ≤ n → IsPlace (parted rows k n) at k i
+  parted_front at i place low =
+      let first : row_at (parted rows k n) k ≡ take n row = get_or_at left (take n row) (drop n row ∷ right) [] k length-left in
+      let front : take k (parted rows k n) ≡ left = take_at left (take n row ∷ drop n row ∷ right) k length-left in
+      record {
+        row = omega (arith, length-parted);
+        column = omega (arith, ap length first, length-first);
+        here = place.here ∙ ap (λ l. length (joined l) + i) (sym front);
+      }
+
+  parted_back : (at i : ℕ) → IsPlace rows at k i → n ≤ i → IsPlace (parted rows k n) at (k + 1) (i - n)
+  parted_back at i place high =
+      let second : row_at (parted rows k n) (k + 1) ≡ drop n row = ap (λ l. row_at l (k + 1)) apart ∙ get_or_at both (drop n row) right [] (k + 1) length-both in
+      let front : take (k + 1) (parted rows k n) ≡ both = ap (take (k + 1)) apart ∙ take_at both (drop n row ∷ right) (k + 1) length-both in
+      let joined_both : length (joined both) ≡ length (joined left) + n =
+      ap length (joined-append left (take n row ∷ [])) ∙ length-append (joined left) (take n row ++ []) ∙ ap (λ m. length (joined left) + m) (ap length (append-nil (take n row)) ∙ length-first) in
+      let column = place.column in
+      let here = place.here in
+      record {
+        row = length-parted;
+        column = omega (arith, ap length second, length-second);
+        here = omega (arith, joined_both, ap (λ l. length (joined l)) front);
+      }
+
+  front_room : length (row_at (parted rows k n) k) ≡ n
+  front_room = ap length (get_or_at left (take n row) (drop n row ∷ right) [] k length-left) ∙ length-first
+
+  back_room : length (row_at (parted rows k n) (k + 1)) ≡ length row - n
+  back_room = ap (λ l. length (row_at l (k + 1))) apart ∙ ap length (get_or_at both (drop n row) right [] (k + 1) length-both) ∙ length-second

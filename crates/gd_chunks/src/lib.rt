@@ -1,0 +1,9 @@
+//! A list of many elements into whose middle one can be put at a cost of some hundred words.
+#![tactic(auto)]
+
+mod chunks;
+mod places;
+mod row;
+
+pub use chunks::Chunks;
+pub use row::ROW;

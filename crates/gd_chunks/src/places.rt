@@ -1,0 +1,177 @@
+//! Where an element stands in rows, and what changes the rows around it.
+
+ghost use Rattle.std.specs.Prelude.{◌≡◌, ℕ, ◌+◌, ◌-◌, ◌^◌, nat_lt, ◌<◌, ◌≤◌, [], ◌∷◌, ◌++◌, length, take, drop, slice_index, if◌then◌else◌, vec_len, vec_capacity};
+ghost use Rattle.gd_chunks.specs.Rows.{joined, starts_from, row_at, IsPlace, IsLastUpto, HasRoom, raised, parted};
+
+use crate::row::{HALF, ROW, Row};
+use std::alloc::Global;
+use std::mem;
+
+/// A row, and a column in it.
+#[derive(Drop, Clone, Copy)]
+pub(crate) struct Place {
+    pub(crate) row: usize,
+    pub(crate) column: usize,
+}
+
+/// The place of the last of the rising numbers that is not above `n`, by halving.
+fn last_upto(starts: &[usize], n: usize) -> usize
+    requires some { 0 < length starts.now }
+    requires first { slice_index starts.now 0 ≤ n }
+    ensures { IsLastUpto starts.now n result }
+{
+    let mut low = 0;
+    let mut high = starts.len();
+    while low + 1 < high {
+        let middle = low + (high - low) / 2;
+        (low, high) = narrowed(low, high, middle, n < starts[middle]);
+    }
+    low
+}
+
+/// The half of the places that is left.
+fn narrowed(low: usize, high: usize, middle: usize, above: bool) -> (usize, usize)
+    ensures { result ≡ (if above then (low, middle) else (middle, high)) }
+{
+    if above { (low, middle) } else { (middle, high) }
+}
+
+/// The place of element `at`, or, at the end, the place behind the last row.
+pub(crate) fn find<T>(rows: &[Row<T>], starts: &[usize], at: usize) -> Place
+    requires some { 0 < length rows.now }
+    requires starts { starts.now ≡ starts_from 0 rows.now }
+    requires at { at ≤ length (joined rows.now) }
+    ensures place { IsPlace rows.now at result.row result.column }
+    ensures inside { at < length (joined rows.now) → result.column < length (row_at rows.now result.row) }
+{
+    let row = last_upto(starts, at);
+    Place {
+        row,
+        column: at - starts[row],
+    }
+}
+
+/// Raises the numbers from place `from` on by one.
+pub(crate) fn raise(starts: &mut Vec<usize>, from: usize)
+    requires from { from ≤ length starts.old.items }
+    requires room { (k : ℕ) → k < length starts.old.items → slice_index starts.old.items k + 1 < 2 ^ 64 }
+    ensures { starts.new.items ≡ raised from starts.old.items }
+{
+    for at in from..starts.len() {
+        starts[at] += 1;
+    }
+}
+
+/// Puts an empty row at the end, for an element behind all.
+fn open<T>(rows: &mut Vec<Row<T>>, starts: &mut Vec<usize>, blank: Vec<T>, at: usize) -> Place
+    requires starts { starts.old.items ≡ starts_from 0 rows.old.items }
+    requires at { at ≡ length (joined rows.old.items) }
+    requires blank { blank.items ≡ [] }
+    requires blank_room { ROW ≤ vec_capacity blank }
+    requires rows_room { vec_len rows.old < vec_capacity rows.old }
+    requires starts_room { vec_len starts.old < vec_capacity starts.old }
+    ensures { HasRoom rows.old.items rows.new.items starts.new.items at result.row result.column }
+{
+    let row = rows.len();
+    rows.push_reserved(Row::of(blank));
+    starts.push_reserved(at);
+    Place { row, column: 0 }
+}
+
+/// Parts the full row of a place in halves.
+fn part<T: Drop>(rows: &mut Vec<Row<T>>, starts: &mut Vec<usize>, blank: Vec<T>, row: usize)
+    requires starts { starts.old.items ≡ starts_from 0 rows.old.items }
+    requires row { row < length rows.old.items }
+    requires full { length (row_at rows.old.items row) ≡ ROW }
+    requires fits { length (joined rows.old.items) < 2 ^ 64 }
+    requires blank { blank.items ≡ [] }
+    requires blank_room { ROW ≤ vec_capacity blank }
+    requires rows_room { vec_len rows.old < vec_capacity rows.old }
+    requires starts_room { vec_len starts.old < vec_capacity starts.old }
+    ensures rows { rows.new.items ≡ parted rows.old.items row HALF }
+    ensures starts { starts.new.items ≡ starts_from 0 rows.new.items }
+{
+    let second = rows[row].part(blank);
+    let start = starts[row] + HALF;
+    let _row = rows.insert(row + 1, second);
+    let _start = starts.insert(row + 1, start);
+}
+
+/// Where a place of a row is once that row was parted in halves.
+fn halved(place: Place) -> Place
+    requires { place.row + 1 < 2 ^ 64 }
+    ensures row { result.row ≡ (if nat_lt HALF place.column then place.row + 1 else place.row) }
+    ensures column { result.column ≡ (if nat_lt HALF place.column then place.column - HALF else place.column) }
+{
+    if HALF < place.column {
+        Place {
+            row: place.row + 1,
+            column: place.column - HALF,
+        }
+    } else {
+        place
+    }
+}
+
+/// A place in front of element `at`, in a row that is not full. A full row is parted in halves; but behind the last one
+/// an empty row is put, so that rows that are filled in order stay full.
+pub(crate) fn room_for<T: Drop>(
+    rows: &mut Vec<Row<T>>,
+    starts: &mut Vec<usize>,
+    blank: &mut Vec<T>,
+    alloc: Global,
+    at: usize,
+) -> Place
+    requires starts { starts.old.items ≡ starts_from 0 rows.old.items }
+    requires at { at ≤ length (joined rows.old.items) }
+    requires fits { length (joined rows.old.items) < 2 ^ 64 }
+    requires blank { blank.old.items ≡ [] }
+    requires blank_room { ROW ≤ vec_capacity blank.old }
+    requires rows_room { vec_len rows.old < vec_capacity rows.old }
+    requires starts_room { vec_len starts.old < vec_capacity starts.old }
+    ensures room { HasRoom rows.old.items rows.new.items starts.new.items at result.row result.column }
+    ensures blank { blank.new.items ≡ [] }
+{
+    if rows.is_empty() {
+        return open(rows, starts, mem::replace(blank, Vec::new(alloc)), at);
+    }
+    let place = find(rows.as_slice(), starts.as_slice(), at);
+    if rows[place.row].len() < ROW {
+        return place;
+    }
+    let blank = mem::replace(blank, Vec::new(alloc));
+    if place.column == ROW && place.row + 1 == rows.len() {
+        return open(rows, starts, blank, at);
+    }
+    part(rows, starts, blank, place.row);
+    halved(place)
+}
+
+/// Counts the elements in front of each row anew.
+fn count_again<T>(rows: &[Row<T>], starts: &mut Vec<usize>)
+    requires room { length rows.now ≤ vec_capacity starts.old }
+    requires fits { length (joined rows.now) < 2 ^ 64 }
+    ensures { starts.new.items ≡ starts_from 0 rows.now }
+{
+    starts.clear();
+    let mut count = 0;
+    for at in 0..rows.len() {
+        starts.push_reserved(count);
+        count += rows[at].len();
+    }
+}
+
+/// Takes the first `count` elements away.
+pub(crate) fn shed<T: Drop>(rows: &mut Vec<Row<T>>, starts: &mut Vec<usize>, count: usize)
+    requires some { 0 < length rows.old.items }
+    requires starts { starts.old.items ≡ starts_from 0 rows.old.items }
+    requires count { count ≤ length (joined rows.old.items) }
+    requires fits { length (joined rows.old.items) < 2 ^ 64 }
+    ensures items { joined rows.new.items ≡ drop count (joined rows.old.items) }
+    ensures starts { starts.new.items ≡ starts_from 0 rows.new.items }
+{
+    let place = find(rows.as_slice(), starts.as_slice(), count);
+    drop(rows.drain(..place.row));
+    rows[0].shed(place.column);
+    count_again(rows.as_slice(), starts);
+}
