@@ -29,6 +29,6 @@ module _ {X : Type 0} (rows : List (List X)) (at k i : ℕ) (place : IsPlace row
     room = omega (arith, front_room rows k HALF place.row cut);
   }
 
-  pub room-halved : (rows2 : List (List X)) (starts : List ℕ) (k2 i2 : ℕ) → rows2 ≡ parted rows k HALF → starts ≡ starts_from 0 rows2 → k2 ≡ (if nat_lt HALF i then k + 1 else k) → i2 ≡ (if nat_lt HALF i then i - HALF else i) → HasRoom rows rows2 starts at k2 i2
+  pub room-halved : (rows2 : List (List X)) (starts : List ℕ) (k2 i2 : ℕ) → rows2 ≡ parted rows k HALF → starts ≡ starts_from 0 (parted rows k HALF) → k2 ≡ (if nat_lt HALF i then k + 1 else k) → i2 ≡ (if nat_lt HALF i then i - HALF else i) → HasRoom rows rows2 starts at k2 i2
   room-halved rows2 starts k2 i2 is are row column =
-      rw (row, column) (subst (λ l. HasRoom rows l starts at (if nat_lt HALF i then k + 1 else k) (if nat_lt HALF i then i - HALF else i)) (sym is) (by_case starts (are ∙ ap (starts_from 0) is) (nat_lt HALF i) refl))
+      rw (row, column) (subst (λ l. HasRoom rows l starts at (if nat_lt HALF i then k + 1 else k) (if nat_lt HALF i then i - HALF else i)) (sym is) (by_case starts are (nat_lt HALF i) refl))

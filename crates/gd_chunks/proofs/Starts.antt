@@ -1,10 +1,10 @@
 -- Where rows start, and a place that is found by it.
 use Rattle.std.proofs.Common.{◌≡◌, ℕ, ◌+◌, ◌-◌, ◌<◌, ◌≤◌, Bool, true, false, if◌then◌else◌, nat_lt, List, [], ◌∷◌, ◌++◌, length, take, drop, map, get_or, suc, zero, add-one, length-append, sym, ap, ◌∙◌, refl, subst, arith, slice_index, ⊎_elim}
 use Rattle.std.proofs.lemmas.Bool.{cases_lt}
-use Rattle.std.proofs.lemmas.List.{take_all}
+use Rattle.std.proofs.lemmas.List.{take_all, get_or_default}
 use Rattle.std.proofs.lemmas.Bool.Decides.{nat_tests}
 use Rattle.gd_chunks.specs.Rows.{joined, starts_from, row_at, IsPlace, IsLastUpto}
-use Rattle.gd_chunks.proofs.Lists.{length-joined_more}
+use Rattle.gd_chunks.proofs.Lists.{length-joined_more, length-joined_upto}
 
 -- the place lies from low up to high
 pub record Between (starts : List ℕ) (n low high : ℕ) : Type 0 where
@@ -60,6 +60,15 @@ module _ {X : Type 0} where
   start_at n [] k h = absurd (omega arith)
   start_at n (row ∷ rows) zero h = omega arith
   start_at n (row ∷ rows) (suc k) h = start_at (n + length row) rows k (omega arith) ∙ omega (arith, length-append row (joined (take k rows)))
+
+  pub first_start : (rows : List (List X)) (starts : List ℕ) (at : ℕ) → starts ≡ starts_from 0 rows → 0 < length rows → slice_index starts 0 ≤ at
+  first_start rows starts at are some = omega (arith, ap (λ l. slice_index l 0) are, start_at 0 rows 0 some)
+
+  pub start_within : (rows : List (List X)) (starts : List ℕ) (k x : ℕ) → starts ≡ starts_from 0 rows → k < length rows → x ≡ get_or starts k x → x + length (row_at rows k) ≤ length (joined rows)
+  start_within rows starts k x are within read =
+      let long : length starts ≡ length rows = ap length are ∙ length-starts 0 rows in
+      let start : x ≡ slice_index starts k = read ∙ get_or_default starts k x 0 (omega arith) in
+      omega (arith, start, ap (λ l. slice_index l k) are, start_at 0 rows k within, length-joined_more rows k within, length-joined_upto rows (k + 1))
 
 module _ {X : Type 0} (rows : List (List X)) (starts : List ℕ) (are : starts ≡ starts_from 0 rows) (at k : ℕ) (last : IsLastUpto starts at k) where
   inside_rows : k < length rows

@@ -89,7 +89,7 @@ fn part<T: Drop>(rows: &mut Vec<Row<T>>, starts: &mut Vec<usize>, blank: Vec<T>,
     requires rows_room { vec_len rows.old < vec_capacity rows.old }
     requires starts_room { vec_len starts.old < vec_capacity starts.old }
     ensures rows { rows.new.items ≡ parted rows.old.items row HALF }
-    ensures starts { starts.new.items ≡ starts_from 0 rows.new.items }
+    ensures starts { starts.new.items ≡ starts_from 0 (parted rows.old.items row HALF) }
 {
     let second = rows[row].part(blank);
     let start = starts[row] + HALF;
@@ -161,6 +161,14 @@ fn count_again<T>(rows: &[Row<T>], starts: &mut Vec<usize>)
     }
 }
 
+/// Drops the first `count` rows.
+fn drop_rows<T: Drop>(rows: &mut Vec<Row<T>>, count: usize)
+    requires { count ≤ length rows.old.items }
+    ensures { rows.new.items ≡ drop count rows.old.items }
+{
+    drop(rows.drain(..count));
+}
+
 /// Takes the first `count` elements away.
 pub(crate) fn shed<T: Drop>(rows: &mut Vec<Row<T>>, starts: &mut Vec<usize>, count: usize)
     requires some { 0 < length rows.old.items }
@@ -171,7 +179,7 @@ pub(crate) fn shed<T: Drop>(rows: &mut Vec<Row<T>>, starts: &mut Vec<usize>, cou
     ensures starts { starts.new.items ≡ starts_from 0 rows.new.items }
 {
     let place = find(rows.as_slice(), starts.as_slice(), count);
-    drop(rows.drain(..place.row));
+    drop_rows(rows, place.row);
     rows[0].shed(place.column);
     count_again(rows.as_slice(), starts);
 }
