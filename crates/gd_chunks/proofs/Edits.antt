@@ -123,7 +123,7 @@ module _ {X : Type 0} (rows : List (List X)) (k n : ℕ) (within : k < length ro
   length-parted = omega (arith, ap length apart, length-append both (drop n row ∷ right), length-both)
 
   -- the place of an element once its row is in two
-  parted_front : (at i : ℕ) → IsPlace rows at k i → i ≤ n → IsPlace (parted rows k n) at k i
+  pub parted_front : (at i : ℕ) → IsPlace rows at k i → i ≤ n → IsPlace (parted rows k n) at k i
   parted_front at i place low =
       let first : row_at (parted rows k n) k ≡ take n row = get_or_at left (take n row) (drop n row ∷ right) [] k length-left in
       let front : take k (parted rows k n) ≡ left = take_at left (take n row ∷ drop n row ∷ right) k length-left in
@@ -133,7 +133,7 @@ module _ {X : Type 0} (rows : List (List X)) (k n : ℕ) (within : k < length ro
         here = place.here ∙ ap (λ l. length (joined l) + i) (sym front);
       }
 
-  parted_back : (at i : ℕ) → IsPlace rows at k i → n ≤ i → IsPlace (parted rows k n) at (k + 1) (i - n)
+  pub parted_back : (at i : ℕ) → IsPlace rows at k i → n ≤ i → IsPlace (parted rows k n) at (k + 1) (i - n)
   parted_back at i place high =
       let second : row_at (parted rows k n) (k + 1) ≡ drop n row = ap (λ l. row_at l (k + 1)) apart ∙ get_or_at both (drop n row) right [] (k + 1) length-both in
       let front : take (k + 1) (parted rows k n) ≡ both = ap (take (k + 1)) apart ∙ take_at both (drop n row ∷ right) (k + 1) length-both in
@@ -147,8 +147,8 @@ module _ {X : Type 0} (rows : List (List X)) (k n : ℕ) (within : k < length ro
         here = omega (arith, joined_both, ap (λ l. length (joined l)) front);
       }
 
-  front_room : length (row_at (parted rows k n) k) ≡ n
+  pub front_room : length (row_at (parted rows k n) k) ≡ n
   front_room = ap length (get_or_at left (take n row) (drop n row ∷ right) [] k length-left) ∙ length-first
 
-  back_room : length (row_at (parted rows k n) (k + 1)) ≡ length row - n
+  pub back_room : length (row_at (parted rows k n) (k + 1)) ≡ length row - n
   back_room = ap (λ l. length (row_at l (k + 1))) apart ∙ ap length (get_or_at both (drop n row) right [] (k + 1) length-both) ∙ length-second
