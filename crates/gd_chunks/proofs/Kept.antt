@@ -1,11 +1,11 @@
 -- What is kept of a list in rows stays right: reads, a replaced element, one put in, and first ones taken away.
-use Rattle.std.proofs.Common.{◌≡◌, ℕ, ◌+◌, ◌-◌, ◌^◌, ◌<◌, ◌≤◌, List, [], ◌∷◌, ◌++◌, length, take, drop, set, map, get_or, suc, zero, add-one, length-set, length-drop, length-take, take-append-drop, sym, ap, ◌∙◌, refl, subst, arith}
+use Rattle.std.proofs.Common.{◌≡◌, ℕ, ◌+◌, ◌-◌, ◌^◌, ◌<◌, ◌≤◌, List, [], ◌∷◌, ◌++◌, length, take, drop, set, map, get_or, suc, zero, add-one, length-set, length-drop, length-take, take-append-drop, sym, ap, ◌∙◌, refl, subst, arith, slice_index}
 use Rattle.std.specs.List.{insert}
 use Rattle.std.proofs.lemmas.List.{get_or_read, get_or-drop, drop-drop, drop_at, drop-set-add}
 use Rattle.std.proofs.lemmas.List.Edits.{insert-append_right, length-insert}
 use Rattle.gd_chunks.specs.Rows.{joined, starts_from, row_at, IsPlace, HasRoom, AreKept, raised}
-use Rattle.gd_chunks.proofs.Lists.{joined-read, joined-insert, joined-replace, joined-drop}
-use Rattle.gd_chunks.proofs.Starts.{starts-raised}
+use Rattle.gd_chunks.proofs.Lists.{length-joined_upto, joined-read, joined-insert, joined-replace, joined-drop}
+use Rattle.gd_chunks.proofs.Starts.{starts-raised, length-starts, start_at}
 
 module _ {X : Type 0} where
   -- an element put in behind the trimmed ones
@@ -116,6 +116,15 @@ module _ {X : Type 0} (rows : List (List X)) (starts : List ℕ) (count trimmed 
     items-insert =
         let within = kept.within in
         ap (drop trimmed) joined_more ∙ drop-insert (joined rows) trimmed index y (omega (arith, kept.count_is)) ∙ ap (λ l. insert l index y) view
+
+  -- the numbers that are raised
+  pub starts_reach : (rows2 : List (List X)) (starts2 : List ℕ) (at k i : ℕ) → HasRoom rows rows2 starts2 at k i → k + 1 ≤ length starts2
+  starts_reach rows2 starts2 at k i room = let place = room.place in let within = place.row in omega (arith, ap length room.starts_are, length-starts 0 rows2)
+
+  pub starts_fit : (rows2 : List (List X)) (starts2 : List ℕ) (at k i : ℕ) → HasRoom rows rows2 starts2 at k i → count + 1 < 2 ^ 64 → (j : ℕ) → j < length starts2 → slice_index starts2 j + 1 < 2 ^ 64
+  starts_fit rows2 starts2 at k i room fits j inside =
+      let within : j < length rows2 = omega (arith, ap length room.starts_are, length-starts 0 rows2) in
+      omega (arith, ap (λ l. slice_index l j) room.starts_are, start_at 0 rows2 j within, length-joined_upto rows2 j, ap length room.items, kept.count_is)
 
   pub AreKept-trim : (n : ℕ) → n ≤ length items → AreKept rows starts count (trimmed + n)
   AreKept-trim n low = record {

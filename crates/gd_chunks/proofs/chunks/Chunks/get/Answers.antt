@@ -6,7 +6,7 @@ pub overflow_add-self-inside : goal.overflow_add-self-inside
 overflow_add-self-inside g c =
     let inside = c.self.inside in
     let below = c.requires in
-    at_fits inside.rows.items inside.starts.items inside.count inside.trimmed c.self.invariant.0 c.args.self.now.items (ap (λ z. z.items) c.self.view_is) c.args.index (omega arith)
+    omega (arith, at_fits inside.rows.items inside.starts.items inside.count inside.trimmed c.self.invariant.0 c.args.self.now.items (ap (λ z. z.items) c.self.view_is) c.args.index (omega arith))
 
 pub returns : goal.returns
 returns g c =
