@@ -29,7 +29,6 @@ module _ (starts : List ℕ) (n low high middle : ℕ) (was : Between starts n l
       subst (λ p. Between starts n p.0 p.1) (sym e)
       (record { order = below; within = was.within; upto = not_above (slice_index starts middle) n is; behind = was.behind })
 
-
 pub found : (starts : List ℕ) (n low high : ℕ) → Between starts n low high → high ≤ low + 1 → IsLastUpto starts n low
 found starts n low high was h =
     let order = was.order in

@@ -112,7 +112,7 @@ impl<T> Chunks<T> {
         ensures ok { OnOk result (0 < self.new.spare) }
     {
         self.spare = 0;
-        if self.count >= usize::MAX - 1 {
+        if self.count == usize::MAX {
             return Err(AllocError);
         }
         self.rows.reserve(1)?;

@@ -4,6 +4,8 @@
 mod chunks;
 mod places;
 mod row;
+#[cfg(test)]
+mod tests;
 
 pub use chunks::Chunks;
 pub use row::ROW;

@@ -14,7 +14,8 @@ pub(crate) struct Place {
     pub(crate) column: usize,
 }
 
-/// The place of the last of the rising numbers that is not above `n`, by halving.
+/// The place of the last of the rising numbers that is not above `n`, by halving. It looks at the last one first, since
+/// most elements come at the end.
 fn last_upto(starts: &[usize], n: usize) -> usize
     requires some { 0 < length starts.now }
     requires first { slice_index starts.now 0 ≤ n }
@@ -22,6 +23,9 @@ fn last_upto(starts: &[usize], n: usize) -> usize
 {
     let mut low = 0;
     let mut high = starts.len();
+    if starts[high - 1] <= n {
+        return high - 1;
+    }
     while low + 1 < high {
         let middle = low + (high - low) / 2;
         (low, high) = narrowed(low, high, middle, n < starts[middle]);
