@@ -1,13 +1,11 @@
 -- Edits of rows, and of where they start.
-use Rattle.std.proofs.Common.{◌≡◌, ℕ, ◌+◌, ◌-◌, ◌<◌, ◌≤◌, Bool, true, false, cond, if◌then◌else◌, nat_lt, List, [], ◌∷◌, ◌++◌, length, take, drop, set, map, get_or, suc, zero, add-one, append_assoc, append-nil, length-append, length-take, length-drop, take-append-drop, sym, ap, ◌∙◌, refl, subst, arith, slice_index}
+use Rattle.std.proofs.Common.{◌≡◌, ℕ, ◌+◌, ◌-◌, ◌<◌, ◌≤◌, List, [], ◌∷◌, ◌++◌, length, take, drop, set, map, get_or, append_assoc, append-nil, length-append, length-drop, take-append-drop, sym, ap, ◌∙◌, arith}
 use Rattle.std.specs.List.{insert}
-use Rattle.std.proofs.lemmas.List.{drop_more, take_more, set_split, set_at, get_or_at, get_or_push, take_at, drop_at, take-append-le, drop-append-le, map-append, length_push, length-take-le, length-map}
-use Rattle.std.proofs.lemmas.List.Edits.{insert-append_left, insert-append_right, length-insert}
-use Rattle.std.proofs.lemmas.Bool.Decides.{nat_tests}
-use Rattle.gd_chunks.specs.declared.row.TheConstants.{ROW, HALF}
+use Rattle.std.proofs.lemmas.List.{drop_more, take_more, set_at, get_or_at, get_or_push, take_at, take-append-le, drop-append-le, map-append, length_push, length-take-le, length-map}
+use Rattle.std.proofs.lemmas.List.Edits.{insert-append_right}
 use Rattle.gd_chunks.specs.Rows.{joined, starts_from, row_at, IsPlace, HasRoom, raised, parted}
 use Rattle.gd_chunks.proofs.Lists.{joined-append, split}
-use Rattle.gd_chunks.proofs.Starts.{starts-joined, length-starts, starts-raised}
+use Rattle.gd_chunks.proofs.Starts.{starts-joined, length-starts}
 
 -- ---- numbers raised one by one
 

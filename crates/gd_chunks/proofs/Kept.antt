@@ -1,5 +1,5 @@
 -- What is kept of a list in rows stays right: reads, a replaced element, one put in, and first ones taken away.
-use Rattle.std.proofs.Common.{◌≡◌, ℕ, ◌+◌, ◌-◌, ◌^◌, ◌<◌, ◌≤◌, List, [], ◌∷◌, ◌++◌, length, take, drop, set, map, get_or, suc, zero, add-one, length-set, length-drop, length-take, take-append-drop, sym, ap, ◌∙◌, refl, subst, arith, slice_index}
+use Rattle.std.proofs.Common.{◌≡◌, ℕ, ◌+◌, ◌-◌, ◌^◌, ◌<◌, ◌≤◌, List, [], ◌∷◌, ◌++◌, length, take, drop, set, get_or, suc, zero, add-one, length-set, length-drop, length-take, take-append-drop, sym, ap, ◌∙◌, refl, arith, slice_index}
 use Rattle.std.specs.List.{insert}
 use Rattle.std.proofs.lemmas.List.{get_or_read, get_or-drop, drop-drop, drop_at, drop-set-add}
 use Rattle.std.proofs.lemmas.List.Edits.{insert-append_right, length-insert}
