@@ -8,6 +8,14 @@ use Rattle.gd_chunks.proofs.Lists.{length-joined_upto, joined-read, joined-inser
 use Rattle.gd_chunks.proofs.Starts.{starts-raised, length-starts, start_at}
 
 module _ {X : Type 0} where
+  pub same_element : (xs : List X) (i : ℕ) (x y : X) → i < length xs → x ≡ get_or xs i x → y ≡ get_or xs i y → x ≡ y
+  same_element xs i x y inside is here = get_or_read xs i x inside is y ∙ sym here
+
+  pub element_at : (xs : List X) (i : ℕ) → i < length xs → (x : X) × ((default : X) → x ≡ get_or xs i default)
+  element_at [] i inside = absurd (omega arith)
+  element_at (x ∷ xs) zero inside = (x, λ default. refl)
+  element_at (x ∷ xs) (suc i) inside = element_at xs i (omega arith)
+
   -- an element put in behind the trimmed ones
   pub drop-insert : (xs : List X) (start i : ℕ) (y : X) → start ≤ length xs → drop start (insert xs (start + i) y) ≡ insert (drop start xs) i y
   drop-insert xs start i y within =
@@ -61,6 +69,16 @@ module _ {X : Type 0} (rows : List (List X)) (starts : List ℕ) (count trimmed 
         ∙ sym (joined-read rows (trimmed + index) k i place inside x)
         ∙ sym (get_or-drop trimmed (joined rows) index x)
         ∙ ap (λ l. get_or l index x) view
+
+    -- the element of the list is the one of the row
+    pub found_kept : (x : X) → i < length (row_at rows k) → index < length items → x ≡ get_or items index x → x ≡ get_or row i x
+    found_kept x inside low is =
+        let found = element_at (row_at rows k) i inside in
+        let here : found.0 ≡ get_or items index found.0 = read_kept found.0 inside (found.1 found.0 ∙ ap (λ l. get_or l i found.0) (sym row_is)) in
+        get_or_read items index x low is found.0 ∙ sym here ∙ found.1 x ∙ ap (λ l. get_or l i x) (sym row_is)
+
+    pub some_in_row : i < length (row_at rows k) → (x : X) × (x ≡ get_or row i x)
+    some_in_row inside = let found = element_at (row_at rows k) i inside in (found.0, found.1 found.0 ∙ ap (λ l. get_or l i found.0) (sym row_is))
 
     pub run_kept : (run : List X) → run ≡ drop i row → drop index items ≡ run ++ drop (index + length run) items
     run_kept run is =

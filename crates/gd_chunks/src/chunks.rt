@@ -3,6 +3,7 @@
 ghost use Rattle.std.specs.Prelude.{◌≡◌, ℕ, ◌+◌, ◌^◌, ◌<◌, ◌≤◌, [], ◌∷◌, ◌++◌, length, drop, slice_index_or, slice_set, ◌==◌, OnOk};
 ghost use Rattle.std.specs.List.{insert};
 
+use crate::exchange::Exchange;
 use crate::places::{find, raise, room_for, shed};
 use crate::row::{ROW, Row};
 use std::alloc::{AllocError, Global};
@@ -120,6 +121,23 @@ impl<T> Chunks<T> {
         self.blank.reserve(ROW)?;
         self.spare = 1;
         Ok(())
+    }
+}
+
+impl<T: Exchange> Chunks<T> {
+    /// Exchanges the part of the element at the index, where it stands, and returns the old part.
+    pub fn exchange(&mut self, index: usize, part: T::Part) -> T::Part
+        requires { index < length self.old.items }
+        ensures items { (x : T) → x ≡ slice_index_or self.old.items index x → self.new.items ≡ slice_set self.old.items index (T.with_part x part) }
+        ensures old { (x : T) → x ≡ slice_index_or self.old.items index x → result ≡ T.part_of x }
+        ensures spare { self.new.spare ≡ self.old.spare }
+    {
+        let place = find(
+            self.rows.as_slice(),
+            self.starts.as_slice(),
+            self.trimmed + index,
+        );
+        self.rows[place.row].exchange(place.column, part)
     }
 }
 

@@ -3,6 +3,7 @@
 ghost use Rattle.std.specs.Prelude.{◌≡◌, ◌<◌, ◌≤◌, ◌++◌, [], length, take, drop, reverse, slice_index_or, slice_set, vec_len, vec_capacity};
 ghost use Rattle.std.specs.List.{insert};
 
+use crate::exchange::Exchange;
 use std::marker::Model;
 use std::mem;
 
@@ -83,6 +84,17 @@ impl<T> Row<T> {
         let mut second = blank;
         move_back(&mut self.items, &mut second, HALF);
         Row::of(second)
+    }
+}
+
+impl<T: Exchange> Row<T> {
+    /// Exchanges the part of the element at the index.
+    pub(crate) fn exchange(&mut self, index: usize, part: T::Part) -> T::Part
+        requires { index < length self.old }
+        ensures items { (x : T) → x ≡ slice_index_or self.old index x → self.new ≡ slice_set self.old index (T.with_part x part) }
+        ensures old { (x : T) → x ≡ slice_index_or self.old index x → result ≡ T.part_of x }
+    {
+        self.items[index].exchange(part)
     }
 }
 
