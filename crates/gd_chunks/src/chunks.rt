@@ -68,7 +68,8 @@ impl<T> Chunks<T> {
     /// The element at the index.
     pub fn get(&self, index: usize) -> &T
         requires { index < length self.now.items }
-        ensures { result.now ≡ slice_index_or self.now.items index result.now }
+        ensures element { result.now ≡ slice_index_or self.now.items index result.now }
+        ensures few { length self.now.items < 2 ^ 64 }
     {
         let place = find(
             self.rows.as_slice(),

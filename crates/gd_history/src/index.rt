@@ -10,6 +10,7 @@ use crate::entry::Entry;
 use crate::sorted::Sorted;
 use crate::tail::Tail;
 use gd_base::Stamp;
+use gd_chunks::Chunks;
 use gd_repair::Document;
 use std::alloc::{AllocError, Global};
 use std::marker::Model;
@@ -185,14 +186,21 @@ fn take_event<D: Document>(index: &mut Index, stamp: Stamp, op: &D::Op)
     }
 }
 
-/// Takes out what stands in the index for entries whose clocks are at most the line. What has a clock above it stays.
-pub(crate) fn forget<D: Document>(index: &mut Index, entries: &[Entry<D>], line: u64)
-    requires { AllOf (λ f. f.stamp.clock ≤ line) (events_of entries.now) }
+/// Takes out what stands in the index for the first `count` entries, whose clocks are at most the line. What has a clock
+/// above it stays.
+pub(crate) fn forget<D: Document>(
+    index: &mut Index,
+    entries: &Chunks<Entry<D>>,
+    count: usize,
+    line: u64,
+)
+    requires within { count ≤ length entries.now.items }
+    requires upto { AllOf (λ f. f.stamp.clock ≤ line) (take count (events_of entries.now.items)) }
     ensures { (k : ℕ) (s : StampValue) → line < s.clock → Has index.old k s → Has index.new k s }
 {
     index.shed(line);
-    for at in 0..entries.len() {
-        let entry = &entries[at];
+    for at in 0..count {
+        let entry = entries.get(at);
         take_event::<D>(index, entry.stamp(), entry.op());
     }
 }

@@ -11,22 +11,23 @@ use crate::entry::Entry;
 use crate::index::{Index, next_under};
 use crate::keys::{add_keys, next_of};
 use gd_base::Stamp;
+use gd_chunks::Chunks;
 use gd_repair::Document;
 use std::alloc::{AllocError, Global};
 
 /// How many entries are not later than the stamp. It looks at the last one first, since most events come in order.
-pub(crate) fn place_of<D: Document>(entries: &[Entry<D>], stamp: Stamp) -> usize
-    requires { IsRising (events_of entries.now) }
-    ensures { IsPlaceOf stamp (events_of entries.now) result }
+pub(crate) fn place_of<D: Document>(entries: &Chunks<Entry<D>>, stamp: Stamp) -> usize
+    requires { IsRising (events_of entries.now.items) }
+    ensures { IsPlaceOf stamp (events_of entries.now.items) result }
 {
     let mut low = 0;
     let mut high = entries.len();
-    if high > 0 && !stamp.is_before(entries[high - 1].stamp()) {
+    if high > 0 && !stamp.is_before(entries.get(high - 1).stamp()) {
         return high;
     }
     while low < high {
         let middle = low + (high - low) / 2;
-        let later = stamp.is_before(entries[middle].stamp());
+        let later = stamp.is_before(entries.get(middle).stamp());
         (low, high) = narrowed(low, high, middle, later);
     }
     low
@@ -45,35 +46,35 @@ fn narrowed(low: usize, high: usize, middle: usize, later: bool) -> (usize, usiz
 }
 
 /// Whether no entry has the stamp. Of the entries that are not later only the last one can have it.
-pub(crate) fn is_fresh<D: Document>(entries: &[Entry<D>], stamp: Stamp) -> bool
-    requires { IsRising (events_of entries.now) }
-    ensures { IsTrue result ↔ HasNone stamp (events_of entries.now) }
+pub(crate) fn is_fresh<D: Document>(entries: &Chunks<Entry<D>>, stamp: Stamp) -> bool
+    requires { IsRising (events_of entries.now.items) }
+    ensures { IsTrue result ↔ HasNone stamp (events_of entries.now.items) }
 {
     let place = place_of(entries, stamp);
     if place == 0 {
         return true;
     }
-    entries[place - 1].stamp().is_before(stamp)
+    entries.get(place - 1).stamp().is_before(stamp)
 }
 
 /// Whether the entry at `at` is independent of the event and of each entry at the places.
 pub(crate) fn is_free_at<D: Document>(
-    entries: &[Entry<D>],
+    entries: &Chunks<Entry<D>>,
     stamp: Stamp,
     op: &D::Op,
     places: &[usize],
     at: usize,
 ) -> bool
-    requires at { at < length entries.now }
-    requires places { (k : ℕ) → k < length places.now → slice_index places.now k < length entries.now }
-    ensures { result ≡ is_free D.rules.independent (stamped stamp op.now ∷ events_at (stamped stamp op.now) (events_of entries.now) places.now) (event_at (stamped stamp op.now) (events_of entries.now) at) }
+    requires at { at < length entries.now.items }
+    requires places { (k : ℕ) → k < length places.now → slice_index places.now k < length entries.now.items }
+    ensures { result ≡ is_free D.rules.independent (stamped stamp op.now ∷ events_at (stamped stamp op.now) (events_of entries.now.items) places.now) (event_at (stamped stamp op.now) (events_of entries.now.items) at) }
 {
-    let entry = &entries[at];
+    let entry = entries.get(at);
     if !D::independent(stamp, op, entry.stamp(), entry.op()) {
         return false;
     }
     for place in places {
-        let member = &entries[*place];
+        let member = entries.get(*place);
         if !D::independent(member.stamp(), member.op(), entry.stamp(), entry.op()) {
             return false;
         }
@@ -84,22 +85,22 @@ pub(crate) fn is_free_at<D: Document>(
 /// The place of the entry of that stamp, the one in front of `place` if there is one, where it depends on the event or on
 /// an entry at the places of members.
 fn hit<D: Document>(
-    entries: &[Entry<D>],
+    entries: &Chunks<Entry<D>>,
     place: usize,
     at_stamp: Stamp,
     stamp: Stamp,
     op: &D::Op,
     members: &[usize],
 ) -> Option<usize>
-    requires within { place ≤ length entries.now }
-    requires members { (k : ℕ) → k < length members.now → slice_index members.now k < length entries.now }
-    ensures { IsHit D.rules (stamped stamp op.now ∷ events_at (stamped stamp op.now) (events_of entries.now) members.now) (events_of entries.now) at_stamp place result }
+    requires within { place ≤ length entries.now.items }
+    requires members { (k : ℕ) → k < length members.now → slice_index members.now k < length entries.now.items }
+    ensures { IsHit D.rules (stamped stamp op.now ∷ events_at (stamped stamp op.now) (events_of entries.now.items) members.now) (events_of entries.now.items) at_stamp place result }
 {
     if place == 0 {
         return None;
     }
     let at = place - 1;
-    if !entries[at].stamp().is_same(at_stamp) {
+    if !entries.get(at).stamp().is_same(at_stamp) {
         return None;
     }
     if is_free_at(entries, stamp, op, members, at) {
@@ -120,16 +121,16 @@ fn rank(stamp: Stamp) -> u64
 /// The place of the first entry, from `from` on, that depends on the event, if there is one. It looks at those entries
 /// alone that have a key in common with the event, and at none behind the one that it finds.
 pub(crate) fn find_dependent<D: Document>(
-    entries: &[Entry<D>],
+    entries: &Chunks<Entry<D>>,
     index: &Index,
     from: usize,
     stamp: Stamp,
     op: &D::Op,
 ) -> Option<usize>
-    requires place { IsPlaceOf stamp (events_of entries.now) from }
-    requires rising { IsRising (events_of entries.now) }
-    requires indexed { IsIndexed D.keys index.now (events_of entries.now) }
-    ensures { IsFirstPlace D.rules (stamped stamp op.now) (events_of entries.now) from result }
+    requires place { IsPlaceOf stamp (events_of entries.now.items) from }
+    requires rising { IsRising (events_of entries.now.items) }
+    requires indexed { IsIndexed D.keys index.now (events_of entries.now.items) }
+    ensures { IsFirstPlace D.rules (stamped stamp op.now) (events_of entries.now.items) from result }
 {
     if from == entries.len() {
         return None;
@@ -154,23 +155,23 @@ pub(crate) fn find_dependent<D: Document>(
 /// alone that have a key in common with the event or with a member.
 pub(crate) fn find_closure<D: Document>(
     alloc: Global,
-    entries: &[Entry<D>],
+    entries: &Chunks<Entry<D>>,
     index: &Index,
     first: usize,
     stamp: Stamp,
     op: &D::Op,
 ) -> Result<Vec<usize>, AllocError>
-    requires first { first < length entries.now }
-    requires rising { IsRising (events_of entries.now) }
-    requires indexed { IsIndexed D.keys index.now (events_of entries.now) }
-    ensures places { IfOk result (λ places. places.items ≡ first ∷ places_from D.rules (stamped stamp op.now) (event_at (stamped stamp op.now) (events_of entries.now) first ∷ []) (first + 1) (drop (first + 1) (events_of entries.now))) }
-    ensures within { IfOk result (λ places. (k : ℕ) → k < length places.items → slice_index places.items k < length entries.now) }
+    requires first { first < length entries.now.items }
+    requires rising { IsRising (events_of entries.now.items) }
+    requires indexed { IsIndexed D.keys index.now (events_of entries.now.items) }
+    ensures places { IfOk result (λ places. places.items ≡ first ∷ places_from D.rules (stamped stamp op.now) (event_at (stamped stamp op.now) (events_of entries.now.items) first ∷ []) (first + 1) (drop (first + 1) (events_of entries.now.items))) }
+    ensures within { IfOk result (λ places. (k : ℕ) → k < length places.items → slice_index places.items k < length entries.now.items) }
 {
     let mut places = Vec::new(alloc);
     places.push(first)?;
     let mut keys = Vec::new(alloc);
     add_keys::<D>(stamp, op, &mut keys)?;
-    let entry = &entries[first];
+    let entry = entries.get(first);
     add_keys::<D>(entry.stamp(), entry.op(), &mut keys)?;
     // As in `find_dependent`.
     let mut floor = entry.stamp();
@@ -189,18 +190,18 @@ pub(crate) fn find_closure<D: Document>(
 
 /// Puts the place that was found, if one was, behind the places, and the keys of its entry to the keys.
 fn take_member<D: Document>(
-    entries: &[Entry<D>],
+    entries: &Chunks<Entry<D>>,
     found: Option<usize>,
     places: &mut Vec<usize>,
     keys: &mut Vec<u64>,
 ) -> Result<(), AllocError>
-    requires { IfSome found (λ at. at < length entries.now) }
+    requires { IfSome found (λ at. at < length entries.now.items) }
     ensures places { OnOk result (places.new.items ≡ places.old.items ++ listed_option found) }
-    ensures keys { OnOk result ((e : Stamped D.Op) → HasKeys keys.new.items (all_keys D.keys (events_at e (events_of entries.now) (listed_option found)))) }
+    ensures keys { OnOk result ((e : Stamped D.Op) → HasKeys keys.new.items (all_keys D.keys (events_at e (events_of entries.now.items) (listed_option found)))) }
     ensures kept { OnOk result ((k : ℕ) → IsTrue (has_key keys.old.items k) → IsTrue (has_key keys.new.items k)) }
 {
     if let Some(at) = found {
-        let entry = &entries[at];
+        let entry = entries.get(at);
         places.push(at)?;
         add_keys::<D>(entry.stamp(), entry.op(), keys)?;
     }
@@ -208,11 +209,11 @@ fn take_member<D: Document>(
 }
 
 /// How many of the first entries have a clock of at most the line.
-pub(crate) fn count_leading<D: Document>(entries: &[Entry<D>], line: u64) -> usize
-    ensures { result ≡ leading line (events_of entries.now) }
+pub(crate) fn count_leading<D: Document>(entries: &Chunks<Entry<D>>, line: u64) -> usize
+    ensures { result ≡ leading line (events_of entries.now.items) }
 {
     let mut count = 0;
-    while count < entries.len() && entries[count].stamp().clock() <= line {
+    while count < entries.len() && entries.get(count).stamp().clock() <= line {
         count += 1;
     }
     count

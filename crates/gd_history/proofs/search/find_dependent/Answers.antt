@@ -10,7 +10,7 @@ pub returns-in-Some-hit : goal.returns-in-Some-hit
 returns-in-Some-hit g c =
     let D = g.D.Document in
     let e = stamped c.args.stamp c.args.op.now in
-    let es = events_of c.args.entries.now in
+    let es = events_of c.args.entries.now.items in
     let there = c.place_of-place.ensures in
     let found = c.in-Some-hit.ensures in
     let next = found.0 in
@@ -32,7 +32,7 @@ stamps-preserved g c =
     let e = stamped c.args.stamp c.args.op.now in
     let asked = of_event D.keys e (IsNext c.args.index.now c.stamps.floor (Some c.in-Some.next)) c.in-Some.ensures.first in
     record {
-      searched = searched_further D.rules D.keys g.met.D.Document.keyed c.args.index.now e (events_of c.args.entries.now) c.requires.rising c.requires.indexed _ [] c.stamps.floor c.stamps.at c.stamps.invariant.searched c.in-Some.next c.place_of-place.result c.in-Some.ensures.behind asked c.place_of-place.ensures None c.in_default-hit.ensures [] refl;
+      searched = searched_further D.rules D.keys g.met.D.Document.keyed c.args.index.now e (events_of c.args.entries.now.items) c.requires.rising c.requires.indexed _ [] c.stamps.floor c.stamps.at c.stamps.invariant.searched c.in-Some.next c.place_of-place.result c.in-Some.ensures.behind asked c.place_of-place.ensures None c.in_default-hit.ensures [] refl;
       reached = c.rank-reached-in-Some.ensures.value;
       site = c.rank-reached-in-Some.ensures.site;
     }
@@ -42,4 +42,4 @@ returns g c =
     let D = g.D.Document in
     let e = stamped c.args.stamp c.args.op.now in
     let asked = of_event D.keys e (IsNext c.args.index.now c.stamps.floor None) c.in_default.ensures.first in
-    turn_end D.rules D.keys g.met.D.Document.keyed c.args.index.now e (events_of c.args.entries.now) c.requires.rising c.requires.indexed _ [] c.stamps.floor c.stamps.at c.stamps.invariant.searched asked
+    turn_end D.rules D.keys g.met.D.Document.keyed c.args.index.now e (events_of c.args.entries.now.items) c.requires.rising c.requires.indexed _ [] c.stamps.floor c.stamps.at c.stamps.invariant.searched asked

@@ -1,4 +1,4 @@
-use Rattle.std.proofs.Common.{◌≡◌, set, ap, ◌∙◌}
+use Rattle.std.proofs.Common.{set, ap, ◌∙◌}
 use Rattle.gd_chunks.proofs.Kept.{same_element}
 use Rattle.gd_chunks.proofs.row.Row.exchange.Goals as goal
 
