@@ -1,32 +1,61 @@
-ghost use Rattle.std.specs.Prelude.{◌≡◌, [], ◌∷◌, ◌++◌, OnOk, OnErr, MatchOption};
+ghost use Rattle.std.specs.Prelude.{◌≡◌, ◌≤◌, [], ◌∷◌, ◌++◌, OnOk, OnErr, MatchOption};
+ghost use Rattle.gd_events.specs.Events.{IsSoundWith};
 
 use crate::event::Event;
 use crate::op::Op;
 use crate::operation::Operation;
+use gd_base::Stamp;
 use std::alloc::{AllocError, Global};
 use std::marker::Model;
 use std::vec::IntoIter;
 
-/// An event of a list, which contracts see as the event. It lies in a box of its own, so that the list is grown
-/// by moving one word for each event.
+/// An event of a list, which contracts see as the event. It lies in the memory that its operation needs.
 #[derive(Drop)]
 pub struct ListedEvent<O: Operation = Op> {
-    event: Box<Event<O>>,
+    stamp: Stamp,
+    number: u16,
+    op: O::Packed,
 }
 
 impl<O: Operation> Model for ListedEvent<O> {
-    ghost use Rattle.gd_events.specs.Events.{EventValue};
+    ghost use Rattle.gd_events.specs.Events.{EventValue, IsSoundWith};
 
     ghost Value = { EventValue O };
 
-    ghost view = { λ l. l.event.value };
+    ghost view = { λ l. record { stamp = l.stamp; number = l.number; op = O.unpacked l.op } };
+
+    ghost invariant = { λ l.
+        IsSoundWith O.IsOp (record { stamp = l.stamp; number = l.number; op = O.unpacked l.op }) };
 }
 
 impl<O: Operation> ListedEvent<O> {
-    pub fn event(&self) -> &Event<O>
-        ensures { result.now ≡ self.now }
+    pub fn stamp(&self) -> Stamp
+        ensures { result ≡ self.now.stamp }
     {
-        &self.event
+        self.stamp
+    }
+
+    /// Its number among the events of its site, from 1.
+    pub fn number(&self) -> u16
+        ensures { result ≡ self.now.number }
+    {
+        self.number
+    }
+
+    /// A copy of the event, inline. It takes no memory.
+    pub fn event(&self) -> Event<O>
+        ensures { result ≡ self.now }
+    {
+        Event::sound(self.stamp, self.number, O::unpack(&self.op))
+    }
+
+    /// Its stamp, and its operation as it is packed, which is moved.
+    pub fn into_parts(self) -> (Stamp, O::Packed)
+        ensures stamp { result.0 ≡ self.stamp }
+        ensures op { O.unpacked result.1 ≡ self.op }
+        ensures sound { IsSoundWith O.IsOp self }
+    {
+        (self.stamp, self.op)
     }
 }
 
@@ -60,8 +89,26 @@ impl<O: Operation> EventList<O> {
         ensures ok { OnOk result (self.new ≡ self.old ++ event ∷ []) }
         ensures err { OnErr result (self.new ≡ self.old) }
     {
-        let event = Box::new(*self.items.allocator(), event)?;
-        self.items.push(ListedEvent { event })?;
+        let number = event.number();
+        let (stamp, op) = event.into_parts();
+        let op = O::pack(*self.items.allocator(), op)?;
+        self.push_packed(stamp, number, op)
+    }
+
+    /// Puts the event of a packed operation last, in the same way.
+    pub fn push_packed(
+        &mut self,
+        stamp: Stamp,
+        number: u16,
+        op: O::Packed,
+    ) -> Result<(), AllocError>
+        requires above { 1 ≤ number }
+        requires op { O.IsOp stamp (O.unpacked op) }
+        ensures ok { OnOk result (self.new ≡ self.old
+            ++ record { stamp = stamp; number = number; op = O.unpacked op } ∷ []) }
+        ensures err { OnErr result (self.new ≡ self.old) }
+    {
+        self.items.push(ListedEvent { stamp, number, op })?;
         Ok(())
     }
 
@@ -99,12 +146,11 @@ impl<O: Operation> Model for Events<O> {
 
 impl<O: Operation> Events<O> {
     /// Takes the first event. None exactly where none is left.
-    pub fn next(&mut self) -> Option<Event<O>>
+    pub fn next(&mut self) -> Option<ListedEvent<O>>
         ensures { MatchOption result
             ((self.old ≡ []) × (self.new ≡ []))
             (λ e. self.old ≡ e ∷ self.new) }
     {
-        let listed = self.items.next()?;
-        Some(Box::into_inner(listed.event))
+        self.items.next()
     }
 }

@@ -1,7 +1,9 @@
 ghost use Rattle.std.specs.Prelude.{◌≡◌};
 
 use crate::operation::Operation;
+use crate::packed::PackedOp;
 use gd_base::{Label, Members, Shape, Stamp, Style};
+use std::alloc::{AllocError, Global};
 
 /// An operation on a drawing. In a sound event places and shifts are from `-PLACE_LIMIT` to `PLACE_LIMIT`, and sizes from
 /// `-SIZE_LIMIT` to `SIZE_LIMIT`.
@@ -60,8 +62,21 @@ pub enum Op {
 
 impl Operation for Op {
     ghost use Rattle.gd_events.specs.Sound.{IsOp as is_op};
+    ghost use Rattle.gd_events.specs.Packed.{unpacked as unpacked_op};
 
     ghost IsOp = { is_op };
+
+    type Packed = PackedOp;
+
+    ghost unpacked = { unpacked_op };
+
+    fn pack(alloc: Global, op: Op) -> Result<PackedOp, AllocError> {
+        PackedOp::new(alloc, op)
+    }
+
+    fn unpack(packed: &PackedOp) -> Op {
+        packed.op()
+    }
 }
 
 impl Op {
