@@ -26,7 +26,7 @@ pub fn events_json(alloc: Global, events: &EventList) -> Result<JsonText, AllocE
 {
     let mut array = ArrayText::new(alloc)?;
     for listed in events.as_slice() {
-        array.put(alloc, &event_of(alloc, listed.event())?)?;
+        array.put(alloc, &event_of(alloc, &listed.event())?)?;
     }
     array.into_line()
 }

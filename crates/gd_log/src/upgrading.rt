@@ -62,7 +62,7 @@ fn write_log<K: Sink>(header: LogHeader, events: EventList, output: &mut K) -> R
     print(output, head.as_slice())?;
     let mut left = events.into_events();
     'records: while let Some(event) = left.next() {
-        let record = gated_of::<Drawings>(&event);
+        let record = gated_of::<Drawings>(&event.event());
         print(output, record.as_slice())?;
     }
     print(output, &[CLOSED])
