@@ -149,15 +149,15 @@ pub(crate) fn settle_where(index: &mut Index, late: bool) -> Result<(), AllocErr
 pub(crate) fn next_under<D: Document>(
     index: &Index,
     stamp: Stamp,
-    op: &D::Op,
+    event: &D::Kept,
     floor: Stamp,
 ) -> Option<Stamp>
     ensures behind { IfSome result (λ t. IsTrue (is_before floor t)) }
-    ensures first { AllOf (IsNext index.now floor result) (D.keys (stamped stamp op.now)) }
+    ensures first { AllOf (IsNext index.now floor result) (D.keys (stamped stamp (D.op_of event.now))) }
 {
     let mut found = None;
-    for at in 0..D::key_count(stamp, op) {
-        found = earlier(found, index.next(D::key(stamp, op, at), floor));
+    for at in 0..D::key_count(stamp, event) {
+        found = earlier(found, index.next(D::key(stamp, event, at), floor));
     }
     found
 }
@@ -166,23 +166,23 @@ pub(crate) fn next_under<D: Document>(
 pub(crate) fn put_event<D: Document>(
     index: &mut Index,
     stamp: Stamp,
-    op: &D::Op,
+    event: &D::Kept,
 ) -> Result<(), AllocError>
-    ensures put { OnOk result (AllOf (λ k. Has index.new k stamp) (D.keys (stamped stamp op.now))) }
+    ensures put { OnOk result (AllOf (λ k. Has index.new k stamp) (D.keys (stamped stamp (D.op_of event.now)))) }
     ensures kept { (k : ℕ) (s : StampValue) → Has index.old k s → Has index.new k s }
 {
-    for at in 0..D::key_count(stamp, op) {
-        index.put(D::key(stamp, op, at), stamp)?;
+    for at in 0..D::key_count(stamp, event) {
+        index.put(D::key(stamp, event, at), stamp)?;
     }
     Ok(())
 }
 
 /// Takes the stamp of the event away from each of its keys. What else stands in the index stays.
-fn take_event<D: Document>(index: &mut Index, stamp: Stamp, op: &D::Op)
+fn take_event<D: Document>(index: &mut Index, stamp: Stamp, event: &D::Kept)
     ensures { (k : ℕ) (s : StampValue) → s ≢ stamp → Has index.old k s → Has index.new k s }
 {
-    for at in 0..D::key_count(stamp, op) {
-        index.take(D::key(stamp, op, at), stamp);
+    for at in 0..D::key_count(stamp, event) {
+        index.take(D::key(stamp, event, at), stamp);
     }
 }
 
@@ -201,6 +201,6 @@ pub(crate) fn forget<D: Document>(
     index.shed(line);
     for at in 0..count {
         let entry = entries.get(at);
-        take_event::<D>(index, entry.stamp(), entry.op());
+        take_event::<D>(index, entry.stamp(), entry.kept());
     }
 }

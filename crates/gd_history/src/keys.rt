@@ -26,14 +26,14 @@ pub(crate) fn next_of(index: &Index, keys: &[u64], floor: Stamp) -> Option<Stamp
 /// Puts those keys of the event at the end of the list that aren't in it.
 pub(crate) fn add_keys<D: Document>(
     stamp: Stamp,
-    op: &D::Op,
+    event: &D::Kept,
     list: &mut Vec<u64>,
 ) -> Result<(), AllocError>
-    ensures held { OnOk result (HasKeys list.new.items (D.keys (stamped stamp op.now))) }
+    ensures held { OnOk result (HasKeys list.new.items (D.keys (stamped stamp (D.op_of event.now)))) }
     ensures kept { OnOk result ((k : ℕ) → IsTrue (has_key list.old.items k) → IsTrue (has_key list.new.items k)) }
 {
-    for at in 0..D::key_count(stamp, op) {
-        add_key(list, D::key(stamp, op, at))?;
+    for at in 0..D::key_count(stamp, event) {
+        add_key(list, D::key(stamp, event, at))?;
     }
     Ok(())
 }

@@ -61,21 +61,21 @@ pub(crate) fn is_fresh<D: Document>(entries: &Chunks<Entry<D>>, stamp: Stamp) ->
 pub(crate) fn is_free_at<D: Document>(
     entries: &Chunks<Entry<D>>,
     stamp: Stamp,
-    op: &D::Op,
+    event: &D::Kept,
     places: &[usize],
     at: usize,
 ) -> bool
     requires at { at < length entries.now.items }
     requires places { (k : ℕ) → k < length places.now → slice_index places.now k < length entries.now.items }
-    ensures { result ≡ is_free D.rules.independent (stamped stamp op.now ∷ events_at (stamped stamp op.now) (events_of entries.now.items) places.now) (event_at (stamped stamp op.now) (events_of entries.now.items) at) }
+    ensures { result ≡ is_free D.rules.independent (stamped stamp (D.op_of event.now) ∷ events_at (stamped stamp (D.op_of event.now)) (events_of entries.now.items) places.now) (event_at (stamped stamp (D.op_of event.now)) (events_of entries.now.items) at) }
 {
     let entry = entries.get(at);
-    if !D::independent(stamp, op, entry.stamp(), entry.op()) {
+    if !D::independent(stamp, event, entry.stamp(), entry.kept()) {
         return false;
     }
     for place in places {
         let member = entries.get(*place);
-        if !D::independent(member.stamp(), member.op(), entry.stamp(), entry.op()) {
+        if !D::independent(member.stamp(), member.kept(), entry.stamp(), entry.kept()) {
             return false;
         }
     }
@@ -89,12 +89,12 @@ fn hit<D: Document>(
     place: usize,
     at_stamp: Stamp,
     stamp: Stamp,
-    op: &D::Op,
+    event: &D::Kept,
     members: &[usize],
 ) -> Option<usize>
     requires within { place ≤ length entries.now.items }
     requires members { (k : ℕ) → k < length members.now → slice_index members.now k < length entries.now.items }
-    ensures { IsHit D.rules (stamped stamp op.now ∷ events_at (stamped stamp op.now) (events_of entries.now.items) members.now) (events_of entries.now.items) at_stamp place result }
+    ensures { IsHit D.rules (stamped stamp (D.op_of event.now) ∷ events_at (stamped stamp (D.op_of event.now)) (events_of entries.now.items) members.now) (events_of entries.now.items) at_stamp place result }
 {
     if place == 0 {
         return None;
@@ -103,7 +103,7 @@ fn hit<D: Document>(
     if !entries.get(at).stamp().is_same(at_stamp) {
         return None;
     }
-    if is_free_at(entries, stamp, op, members, at) {
+    if is_free_at(entries, stamp, event, members, at) {
         return None;
     }
     Some(at)
@@ -125,12 +125,12 @@ pub(crate) fn find_dependent<D: Document>(
     index: &Index,
     from: usize,
     stamp: Stamp,
-    op: &D::Op,
+    event: &D::Kept,
 ) -> Option<usize>
     requires place { IsPlaceOf stamp (events_of entries.now.items) from }
     requires rising { IsRising (events_of entries.now.items) }
     requires indexed { IsIndexed D.keys index.now (events_of entries.now.items) }
-    ensures { IsFirstPlace D.rules (stamped stamp op.now) (events_of entries.now.items) from result }
+    ensures { IsFirstPlace D.rules (stamped stamp (D.op_of event.now)) (events_of entries.now.items) from result }
 {
     if from == entries.len() {
         return None;
@@ -139,9 +139,9 @@ pub(crate) fn find_dependent<D: Document>(
     let mut floor = stamp;
     let mut at = from;
     let mut reached = rank(floor);
-    'stamps: while let Some(next) = next_under::<D>(index, stamp, op, floor) {
+    'stamps: while let Some(next) = next_under::<D>(index, stamp, event, floor) {
         let place = place_of(entries, next);
-        if let Some(found) = hit(entries, place, next, stamp, op, &[]) {
+        if let Some(found) = hit(entries, place, next, stamp, event, &[]) {
             return Some(found);
         }
         floor = next;
@@ -159,27 +159,27 @@ pub(crate) fn find_closure<D: Document>(
     index: &Index,
     first: usize,
     stamp: Stamp,
-    op: &D::Op,
+    event: &D::Kept,
 ) -> Result<Vec<usize>, AllocError>
     requires first { first < length entries.now.items }
     requires rising { IsRising (events_of entries.now.items) }
     requires indexed { IsIndexed D.keys index.now (events_of entries.now.items) }
-    ensures places { IfOk result (λ places. places.items ≡ first ∷ places_from D.rules (stamped stamp op.now) (event_at (stamped stamp op.now) (events_of entries.now.items) first ∷ []) (first + 1) (drop (first + 1) (events_of entries.now.items))) }
+    ensures places { IfOk result (λ places. places.items ≡ first ∷ places_from D.rules (stamped stamp (D.op_of event.now)) (event_at (stamped stamp (D.op_of event.now)) (events_of entries.now.items) first ∷ []) (first + 1) (drop (first + 1) (events_of entries.now.items))) }
     ensures within { IfOk result (λ places. (k : ℕ) → k < length places.items → slice_index places.items k < length entries.now.items) }
 {
     let mut places = Vec::new(alloc);
     places.push(first)?;
     let mut keys = Vec::new(alloc);
-    add_keys::<D>(stamp, op, &mut keys)?;
+    add_keys::<D>(stamp, event, &mut keys)?;
     let entry = entries.get(first);
-    add_keys::<D>(entry.stamp(), entry.op(), &mut keys)?;
+    add_keys::<D>(entry.stamp(), entry.kept(), &mut keys)?;
     // As in `find_dependent`.
     let mut floor = entry.stamp();
     let mut at = first + 1;
     let mut reached = rank(floor);
     'stamps: while let Some(next) = next_of(index, &keys, floor) {
         let place = place_of(entries, next);
-        let found = hit(entries, place, next, stamp, op, &places);
+        let found = hit(entries, place, next, stamp, event, &places);
         take_member(entries, found, &mut places, &mut keys)?;
         floor = next;
         at = place;
@@ -203,7 +203,7 @@ fn take_member<D: Document>(
     if let Some(at) = found {
         let entry = entries.get(at);
         places.push(at)?;
-        add_keys::<D>(entry.stamp(), entry.op(), keys)?;
+        add_keys::<D>(entry.stamp(), entry.kept(), keys)?;
     }
     Ok(())
 }

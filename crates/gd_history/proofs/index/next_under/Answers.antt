@@ -9,7 +9,7 @@ pub loop-at-preserved : goal.loop-at-preserved
 loop-at-preserved g c =
     let pairs = c.args.index.now in
     let floor = c.args.floor in
-    let ks = g.D.Document.keys (stamped c.args.stamp c.args.op.now) in
+    let ks = g.D.Document.keys (stamped c.args.stamp (g.D.Document.op_of c.args.event.now)) in
     let a = c.loop-at.found in
     let b = c.next.result in
     let loop = c.loop-at.invariant in

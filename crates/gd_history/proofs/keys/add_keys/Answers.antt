@@ -7,7 +7,7 @@ use Rattle.gd_history.proofs.keys.add_keys.Goals as goal
 
 pub loop-at-preserved : goal.loop-at-preserved
 loop-at-preserved g c =
-    let ks = g.D.Document.keys (stamped c.args.stamp c.args.op.now) in
+    let ks = g.D.Document.keys (stamped c.args.stamp (g.D.Document.op_of c.args.event.now)) in
     let new = c.add_key.new.list.items in
     let loop = c.loop-at.invariant in
     let one = c.in_ok-add_key.ensures in

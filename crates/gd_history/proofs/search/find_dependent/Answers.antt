@@ -9,7 +9,7 @@ use Rattle.gd_history.proofs.search.find_dependent.Goals as goal
 pub returns-in-Some-hit : goal.returns-in-Some-hit
 returns-in-Some-hit g c =
     let D = g.D.Document in
-    let e = stamped c.args.stamp c.args.op.now in
+    let e = stamped c.args.stamp (g.D.Document.op_of c.args.event.now) in
     let es = events_of c.args.entries.now.items in
     let there = c.place_of-place.ensures in
     let found = c.in-Some-hit.ensures in
@@ -29,7 +29,7 @@ stamps-smaller g c =
 pub stamps-preserved : goal.stamps-preserved
 stamps-preserved g c =
     let D = g.D.Document in
-    let e = stamped c.args.stamp c.args.op.now in
+    let e = stamped c.args.stamp (g.D.Document.op_of c.args.event.now) in
     let asked = of_event D.keys e (IsNext c.args.index.now c.stamps.floor (Some c.in-Some.next)) c.in-Some.ensures.first in
     record {
       searched = searched_further D.rules D.keys g.met.D.Document.keyed c.args.index.now e (events_of c.args.entries.now.items) c.requires.rising c.requires.indexed _ [] c.stamps.floor c.stamps.at c.stamps.invariant.searched c.in-Some.next c.place_of-place.result c.in-Some.ensures.behind asked c.place_of-place.ensures None c.in_default-hit.ensures [] refl;
@@ -40,6 +40,6 @@ stamps-preserved g c =
 pub returns : goal.returns
 returns g c =
     let D = g.D.Document in
-    let e = stamped c.args.stamp c.args.op.now in
+    let e = stamped c.args.stamp (g.D.Document.op_of c.args.event.now) in
     let asked = of_event D.keys e (IsNext c.args.index.now c.stamps.floor None) c.in_default.ensures.first in
     turn_end D.rules D.keys g.met.D.Document.keyed c.args.index.now e (events_of c.args.entries.now.items) c.requires.rising c.requires.indexed _ [] c.stamps.floor c.stamps.at c.stamps.invariant.searched asked
