@@ -20,6 +20,22 @@ pub enum Edit {
     Copy { from: u8, to: u8 },
 }
 
+/// An edit, and what its register held before it.
+#[derive(Drop)]
+pub struct Kept {
+    edit: Edit,
+    before: Option<u32>,
+}
+
+impl Default for Kept {
+    fn default() -> Kept {
+        Kept {
+            edit: Edit::Remove { cell: 0 },
+            before: None,
+        }
+    }
+}
+
 /// Registers with the numbers from 0 to 255, which hold nothing until they are set.
 #[derive(Drop)]
 pub struct Registers {
@@ -89,6 +105,12 @@ impl Document for Registers {
 
     type Before = Option<u32>;
 
+    type Kept = Kept;
+
+    ghost op_of = { λ k. k.edit };
+
+    ghost before_of = { λ k. k.before };
+
     ghost Meaning = { ℕ → Option ℕ };
 
     ghost meaning = { λ d. content d.cells.items };
@@ -103,79 +125,82 @@ impl Document for Registers {
 
     ghost keyed = { registers_keyed };
 
-    fn admit(&mut self, _stamp: Stamp, op: &Edit) -> Result<(), AllocError> {
-        let target = op.target() as usize;
+    fn keep(_alloc: Global, op: Edit) -> Result<Kept, AllocError> {
+        Ok(Kept {
+            edit: op,
+            before: None,
+        })
+    }
+
+    fn op(event: &Kept) -> Edit {
+        event.edit
+    }
+
+    fn before(event: &Kept) -> Option<u32> {
+        event.before
+    }
+
+    fn admit(&mut self, _stamp: Stamp, event: &Kept) -> Result<(), AllocError> {
+        let target = event.edit.target() as usize;
         while self.cells.len() <= target {
             self.cells.push(None)?;
         }
         Ok(())
     }
 
-    fn apply<L: Ledger>(&mut self, _stamp: Stamp, op: &Edit, steps: &mut Steps<L>) -> Option<u32> {
-        let target = op.target() as usize;
-        let old = self.cells[target];
-        let new = match op {
-            Edit::Set { cell: _, value } => Some(*value),
+    fn apply<L: Ledger>(&mut self, _stamp: Stamp, event: &mut Kept, steps: &mut Steps<L>) {
+        let target = event.edit.target() as usize;
+        event.before = self.cells[target];
+        let new = match event.edit {
+            Edit::Set { cell: _, value } => Some(value),
             Edit::Remove { cell: _ } => None,
-            Edit::Copy { from, to: _ } => self.get(*from),
+            Edit::Copy { from, to: _ } => self.get(from),
         };
         self.cells[target] = new;
         steps.tick();
-        old
     }
 
-    fn undo<L: Ledger>(
-        &mut self,
-        _stamp: Stamp,
-        op: &Edit,
-        before: Option<u32>,
-        steps: &mut Steps<L>,
-    ) {
+    fn undo<L: Ledger>(&mut self, _stamp: Stamp, event: &mut Kept, steps: &mut Steps<L>) {
+        let target = event.edit.target() as usize;
+        self.cells[target] = event.before;
         steps.tick();
-        let target = op.target() as usize;
-        self.cells[target] = before;
     }
 
-    fn independent(_s: Stamp, e: &Edit, _t: Stamp, f: &Edit) -> bool {
+    fn independent(_s: Stamp, e: &Kept, _t: Stamp, f: &Kept) -> bool {
+        let (e, f) = (e.edit, f.edit);
         e.target() != f.target() && !e.reads(f.target()) && !f.reads(e.target())
     }
 
-    fn covers(_t: Stamp, f: &Edit, _s: Stamp, e: &Edit) -> bool {
-        match e {
-            Edit::Set { cell, value: _ } => f.overwrites(*cell),
-            Edit::Remove { cell } => f.overwrites(*cell),
+    fn covers(_t: Stamp, f: &Kept, _s: Stamp, e: &Kept) -> bool {
+        match e.edit {
+            Edit::Set { cell, value: _ } => f.edit.overwrites(cell),
+            Edit::Remove { cell } => f.edit.overwrites(cell),
             Edit::Copy { from: _, to: _ } => false,
         }
     }
 
-    fn splice(
-        _s: Stamp,
-        e: &Edit,
-        _t: Stamp,
-        _f: &Edit,
-        before: Option<u32>,
-    ) -> (Option<u32>, Option<u32>) {
-        let second = match e {
-            Edit::Set { cell: _, value } => Some(*value),
+    fn splice(_s: Stamp, e: &mut Kept, _t: Stamp, f: &mut Kept) {
+        e.before = f.before;
+        f.before = match e.edit {
+            Edit::Set { cell: _, value } => Some(value),
             Edit::Remove { cell: _ } => None,
-            Edit::Copy { from: _, to: _ } => before,
+            Edit::Copy { from: _, to: _ } => f.before,
         };
-        (before, second)
     }
 
-    fn key_count(_stamp: Stamp, op: &Edit) -> usize {
-        match op {
+    fn key_count(_stamp: Stamp, event: &Kept) -> usize {
+        match event.edit {
             Edit::Set { cell: _, value: _ } => 1,
             Edit::Remove { cell: _ } => 1,
             Edit::Copy { from: _, to: _ } => 2,
         }
     }
 
-    fn key(_stamp: Stamp, op: &Edit, place: usize) -> u64 {
-        match op {
-            Edit::Set { cell, value: _ } => *cell as u64,
-            Edit::Remove { cell } => *cell as u64,
-            Edit::Copy { from, to } => { if place == 0 { *to as u64 } else { *from as u64 } }
+    fn key(_stamp: Stamp, event: &Kept, place: usize) -> u64 {
+        match event.edit {
+            Edit::Set { cell, value: _ } => cell as u64,
+            Edit::Remove { cell } => cell as u64,
+            Edit::Copy { from, to } => { if place == 0 { to as u64 } else { from as u64 } }
         }
     }
 }
