@@ -153,7 +153,8 @@ pub(crate) fn next_under<D: Document>(
     floor: Stamp,
 ) -> Option<Stamp>
     ensures behind { IfSome result (λ t. IsTrue (is_before floor t)) }
-    ensures first { AllOf (IsNext index.now floor result) (D.keys (stamped stamp (D.op_of event.now))) }
+    ensures first { AllOf (IsNext index.now floor result)
+        (D.keys (stamped stamp (D.op_of event.now))) }
 {
     let mut found = None;
     for at in 0..D::key_count(stamp, event) {
@@ -168,7 +169,8 @@ pub(crate) fn put_event<D: Document>(
     stamp: Stamp,
     event: &D::Kept,
 ) -> Result<(), AllocError>
-    ensures put { OnOk result (AllOf (λ k. Has index.new k stamp) (D.keys (stamped stamp (D.op_of event.now)))) }
+    ensures put { OnOk result (AllOf (λ k. Has index.new k stamp)
+        (D.keys (stamped stamp (D.op_of event.now)))) }
     ensures kept { (k : ℕ) (s : StampValue) → Has index.old k s → Has index.new k s }
 {
     for at in 0..D::key_count(stamp, event) {

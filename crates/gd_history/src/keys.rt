@@ -29,8 +29,10 @@ pub(crate) fn add_keys<D: Document>(
     event: &D::Kept,
     list: &mut Vec<u64>,
 ) -> Result<(), AllocError>
-    ensures held { OnOk result (HasKeys list.new.items (D.keys (stamped stamp (D.op_of event.now)))) }
-    ensures kept { OnOk result ((k : ℕ) → IsTrue (has_key list.old.items k) → IsTrue (has_key list.new.items k)) }
+    ensures held { OnOk result (HasKeys list.new.items
+        (D.keys (stamped stamp (D.op_of event.now)))) }
+    ensures kept { OnOk result ((k : ℕ)
+        → IsTrue (has_key list.old.items k) → IsTrue (has_key list.new.items k)) }
 {
     for at in 0..D::key_count(stamp, event) {
         add_key(list, D::key(stamp, event, at))?;
@@ -41,7 +43,8 @@ pub(crate) fn add_keys<D: Document>(
 /// Puts the key at the end of the list, unless it is there.
 fn add_key(list: &mut Vec<u64>, key: u64) -> Result<(), AllocError>
     ensures held { OnOk result (IsTrue (has_key list.new.items key)) }
-    ensures kept { OnOk result ((k : ℕ) → IsTrue (has_key list.old.items k) → IsTrue (has_key list.new.items k)) }
+    ensures kept { OnOk result ((k : ℕ)
+        → IsTrue (has_key list.old.items k) → IsTrue (has_key list.new.items k)) }
 {
     if !has_key(list, key) {
         list.push(key)?;

@@ -66,8 +66,12 @@ pub(crate) fn is_free_at<D: Document>(
     at: usize,
 ) -> bool
     requires at { at < length entries.now.items }
-    requires places { (k : ℕ) → k < length places.now → slice_index places.now k < length entries.now.items }
-    ensures { result ≡ is_free D.rules.independent (stamped stamp (D.op_of event.now) ∷ events_at (stamped stamp (D.op_of event.now)) (events_of entries.now.items) places.now) (event_at (stamped stamp (D.op_of event.now)) (events_of entries.now.items) at) }
+    requires places { (k : ℕ)
+        → k < length places.now → slice_index places.now k < length entries.now.items }
+    ensures { result
+        ≡ is_free D.rules.independent (stamped stamp (D.op_of event.now)
+        ∷ events_at (stamped stamp (D.op_of event.now)) (events_of entries.now.items) places.now)
+        (event_at (stamped stamp (D.op_of event.now)) (events_of entries.now.items) at) }
 {
     let entry = entries.get(at);
     if !D::independent(stamp, event, entry.stamp(), entry.kept()) {
@@ -93,8 +97,11 @@ fn hit<D: Document>(
     members: &[usize],
 ) -> Option<usize>
     requires within { place ≤ length entries.now.items }
-    requires members { (k : ℕ) → k < length members.now → slice_index members.now k < length entries.now.items }
-    ensures { IsHit D.rules (stamped stamp (D.op_of event.now) ∷ events_at (stamped stamp (D.op_of event.now)) (events_of entries.now.items) members.now) (events_of entries.now.items) at_stamp place result }
+    requires members { (k : ℕ)
+        → k < length members.now → slice_index members.now k < length entries.now.items }
+    ensures { IsHit D.rules (stamped stamp (D.op_of event.now)
+        ∷ events_at (stamped stamp (D.op_of event.now)) (events_of entries.now.items) members.now)
+        (events_of entries.now.items) at_stamp place result }
 {
     if place == 0 {
         return None;
@@ -130,7 +137,8 @@ pub(crate) fn find_dependent<D: Document>(
     requires place { IsPlaceOf stamp (events_of entries.now.items) from }
     requires rising { IsRising (events_of entries.now.items) }
     requires indexed { IsIndexed D.keys index.now (events_of entries.now.items) }
-    ensures { IsFirstPlace D.rules (stamped stamp (D.op_of event.now)) (events_of entries.now.items) from result }
+    ensures { IsFirstPlace D.rules (stamped stamp (D.op_of event.now))
+        (events_of entries.now.items) from result }
 {
     if from == entries.len() {
         return None;
@@ -164,8 +172,12 @@ pub(crate) fn find_closure<D: Document>(
     requires first { first < length entries.now.items }
     requires rising { IsRising (events_of entries.now.items) }
     requires indexed { IsIndexed D.keys index.now (events_of entries.now.items) }
-    ensures places { IfOk result (λ places. places.items ≡ first ∷ places_from D.rules (stamped stamp (D.op_of event.now)) (event_at (stamped stamp (D.op_of event.now)) (events_of entries.now.items) first ∷ []) (first + 1) (drop (first + 1) (events_of entries.now.items))) }
-    ensures within { IfOk result (λ places. (k : ℕ) → k < length places.items → slice_index places.items k < length entries.now.items) }
+    ensures places { IfOk result (λ places. places.items
+        ≡ first ∷ places_from D.rules (stamped stamp (D.op_of event.now))
+        (event_at (stamped stamp (D.op_of event.now)) (events_of entries.now.items) first ∷ [])
+        (first + 1) (drop (first + 1) (events_of entries.now.items))) }
+    ensures within { IfOk result (λ places. (k : ℕ)
+        → k < length places.items → slice_index places.items k < length entries.now.items) }
 {
     let mut places = Vec::new(alloc);
     places.push(first)?;
@@ -197,8 +209,10 @@ fn take_member<D: Document>(
 ) -> Result<(), AllocError>
     requires { IfSome found (λ at. at < length entries.now.items) }
     ensures places { OnOk result (places.new.items ≡ places.old.items ++ listed_option found) }
-    ensures keys { OnOk result ((e : Stamped D.Op) → HasKeys keys.new.items (all_keys D.keys (events_at e (events_of entries.now.items) (listed_option found)))) }
-    ensures kept { OnOk result ((k : ℕ) → IsTrue (has_key keys.old.items k) → IsTrue (has_key keys.new.items k)) }
+    ensures keys { OnOk result ((e : Stamped D.Op) → HasKeys keys.new.items
+        (all_keys D.keys (events_at e (events_of entries.now.items) (listed_option found)))) }
+    ensures kept { OnOk result ((k : ℕ)
+        → IsTrue (has_key keys.old.items k) → IsTrue (has_key keys.new.items k)) }
 {
     if let Some(at) = found {
         let entry = entries.get(at);
