@@ -1,6 +1,6 @@
 //! Registers under numbers, which events set, remove and copy.
 
-ghost use Rattle.std.specs.Prelude.{◌≡◌, ℕ, ◌+◌, ◌<◌, ◌≤◌, List, [], length, Option};
+ghost use Rattle.std.specs.Prelude.{◌≡◌, ℕ, ◌<◌, [], length, Option};
 ghost use Rattle.gd_registers.specs.Registers.{target_of, reads, keys_of, overwrites, content, rules};
 ghost use Rattle.gd_registers.specs.Laws.{registers_laws, registers_keyed};
 
