@@ -29,6 +29,15 @@ impl<O: Operation> Model for ListedEvent<O> {
 }
 
 impl<O: Operation> ListedEvent<O> {
+    /// The event of a packed operation that an event with that stamp may have.
+    pub fn sound(stamp: Stamp, number: u16, op: O::Packed) -> Self
+        requires above { 1 ≤ number }
+        requires op { O.IsOp stamp (O.unpacked op) }
+        ensures { result ≡ record { stamp = stamp; number = number; op = O.unpacked op } }
+    {
+        ListedEvent { stamp, number, op }
+    }
+
     pub fn stamp(&self) -> Stamp
         ensures { result ≡ self.now.stamp }
     {
@@ -92,23 +101,15 @@ impl<O: Operation> EventList<O> {
         let number = event.number();
         let (stamp, op) = event.into_parts();
         let op = O::pack(*self.items.allocator(), op)?;
-        self.push_packed(stamp, number, op)
+        self.push_listed(ListedEvent::sound(stamp, number, op))
     }
 
-    /// Puts the event of a packed operation last, in the same way.
-    pub fn push_packed(
-        &mut self,
-        stamp: Stamp,
-        number: u16,
-        op: O::Packed,
-    ) -> Result<(), AllocError>
-        requires above { 1 ≤ number }
-        requires op { O.IsOp stamp (O.unpacked op) }
-        ensures ok { OnOk result (self.new ≡ self.old
-            ++ record { stamp = stamp; number = number; op = O.unpacked op } ∷ []) }
+    /// Puts the event last, as it is packed. `AllocError` where memory ran out, and then the list stays as it was.
+    pub fn push_listed(&mut self, event: ListedEvent<O>) -> Result<(), AllocError>
+        ensures ok { OnOk result (self.new ≡ self.old ++ event ∷ []) }
         ensures err { OnErr result (self.new ≡ self.old) }
     {
-        self.items.push(ListedEvent { stamp, number, op })?;
+        self.items.push(event)?;
         Ok(())
     }
 
