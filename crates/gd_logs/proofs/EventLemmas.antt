@@ -62,7 +62,7 @@ module _ {O : Type 0} (kind : LogKind O) where
 
   -- a fault of a step is the log's, at its place in the log
   pub log-stopped : (fault : LogFault) (head : Header) (seen : List (EventValue O)) (all bytes rest : List ℕ) (at at' : ℕ) → log kind all ≡ log_from head seen bytes → at + length bytes ≡ length all
-      → NextIs (Err fault) (step_at kind head seen bytes) at bytes at' rest → LogIs kind (Err (Log fault)) all
+      → NextIs (Err (Log fault)) (step_at kind head seen bytes) at bytes at' rest → LogIs kind (Err (Log fault)) all
   log-stopped Read head seen all bytes rest at at' same sum next = tt
   log-stopped (Bad there why) head seen all bytes rest at at' same sum next = let fault = next.1 in record {
     left = fault.left;

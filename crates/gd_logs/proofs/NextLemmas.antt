@@ -4,9 +4,9 @@ use Rattle.std.specs.Prelude.{Option, Some, None, Result, Ok}
 use Rattle.gd_events.specs.Events.{EventValue}
 use Rattle.gd_grammar.specs.Kinds.{LogKind}
 use Rattle.gd_outside.specs.Seen.{SeenSource}
+use Rattle.gd_logs.specs.declared.log.ReadError.{ReadError}
 use Rattle.gd_logs.specs.declared.stopped.Stopped.{Stopped}
 use Rattle.gd_logs.specs.declared.stopped.Stopped.TheVariants.{Gate, EndOfBytes, Fault}
-use Rattle.gd_logs.specs.declared.stopped.LogFault.{LogFault}
 use Rattle.gd_logs.specs.Reader.{Reader, ending_at, answer_of, stop_of, IsNext}
 
 ended-idle : {O : Type 0} (kind : LogKind O) (r : Reader) (s : Stopped) (source : SeenSource) → r.stopped ≡ Some s → IsNext kind r (Ok None) r source source
@@ -37,5 +37,5 @@ idle-next kind r (Fault fault) source h = record {
 }
 
 -- what stops it at an end, with these bytes ahead that end alike
-pub stopped-where : {O : Type 0} (r : Result (Option (EventValue O)) LogFault) (stopped : Option Stopped) (bytes ahead all : List ℕ) → stopped ≡ stop_of r bytes → bytes ≡ ahead → r ≡ Ok None → ending_at ahead ≡ ending_at all → stopped ≡ Some (ending_at all)
+pub stopped-where : {O : Type 0} (r : Result (Option (EventValue O)) ReadError) (stopped : Option Stopped) (bytes ahead all : List ℕ) → stopped ≡ stop_of r bytes → bytes ≡ ahead → r ≡ Ok None → ending_at ahead ≡ ending_at all → stopped ≡ Some (ending_at all)
 stopped-where r stopped bytes ahead all is same none alike = is ∙ rw (none, same, alike) refl

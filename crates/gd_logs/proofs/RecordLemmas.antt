@@ -15,6 +15,7 @@ use Rattle.gd_grammar.specs.Reading.{place}
 use Rattle.gd_grammar.specs.LogBytes.{LogMisread, log_why, in_log, turn_fault, left_of, gate, record_at, step_at}
 use Rattle.gd_grammar.specs.Steady.{IsEnd}
 use Rattle.gd_grammar.proofs.SteadyFields.{Steady-event, Steady-header, event-long}
+use Rattle.gd_logs.specs.declared.log.ReadError.TheVariants.{Memory, Log}
 use Rattle.gd_logs.specs.declared.stopped.LogFault.TheVariants.{Bad}
 use Rattle.gd_logs.specs.Turns.{turn_place}
 use Rattle.gd_logs.specs.Steps.{Step, IsFault, NextIs}
@@ -38,8 +39,12 @@ pub ended-next : {O : Type 0} (step : Step O) (at : ℕ) (bytes : List ℕ) → 
 ended-next step at bytes h = let stays : at - at ≡ 0 = omega arith in rw stays (h, refl, refl)
 
 -- and at a fault, which stands `within` bytes farther on
-fault-next : {O : Type 0} (step : Step O) (at there within : ℕ) (bytes : List ℕ) (why : LogWhy) → there ≡ at + within → IsFault step bytes within why → NextIs (Err (Bad there why)) step at bytes at (drop (at - at) bytes)
+fault-next : {O : Type 0} (step : Step O) (at there within : ℕ) (bytes : List ℕ) (why : LogWhy) → there ≡ at + within → IsFault step bytes within why → NextIs (Err (Log (Bad there why))) step at bytes at (drop (at - at) bytes)
 fault-next step at there within bytes why h fault = let stays : at - at ≡ 0 = omega arith in rw stays (within, fault, h, refl, refl)
+
+-- and where memory ran out
+pub out-of-memory-next : {O : Type 0} (step : Step O) (at : ℕ) (bytes : List ℕ) → NextIs (Err Memory) step at bytes at (drop (at - at) bytes)
+out-of-memory-next step at bytes = let stays : at - at ≡ 0 = omega arith in rw stays (refl, refl)
 
 module _ {O : Type 0} {IsOp : Stamp → O → Type 0} {kind : LogKind O} (laws : KindLaws IsOp kind) where
   -- ---- the record of an event
@@ -133,12 +138,12 @@ module _ {O : Type 0} {IsOp : Stamp → O → Type 0} {kind : LogKind O} (laws :
       rw (count, left.1) (step-taken head seen b bytes x open_gate (record-taken head seen bytes x e next), omega (arith, moved, left.0))
 
   pub refused-next : (head : Header) (seen : List (EventValue O)) (b : ℕ) (bytes : List ℕ) (x : EventValue O × List ℕ) (why : LogWhy) (at : ℕ) → b ≡ gate → event_at kind head.version bytes ≡ Ok x → turn_fault head.n seen x.0 ≡ Some why
-      → NextIs (Err (Bad (at + 1 + turn_place why) why)) (step_at kind head seen (b ∷ bytes)) at (b ∷ bytes) at (drop (at - at) (b ∷ bytes))
+      → NextIs (Err (Log (Bad (at + 1 + turn_place why) why))) (step_at kind head seen (b ∷ bytes)) at (b ∷ bytes) at (drop (at - at) (b ∷ bytes))
   refused-next head seen b bytes x why at open_gate e broken =
       fault-next _ at _ (turn_place why + 1) (b ∷ bytes) why (omega arith) (step-there head seen b bytes (turn_place why) why open_gate (refused-there head seen bytes x why e broken))
 
   pub faulty-next : (head : Header) (seen : List (EventValue O)) (b : ℕ) (bytes : List ℕ) (f : FieldFault) (at : ℕ) → b ≡ gate → event_at kind head.version bytes ≡ Err f
-      → NextIs (Err (Bad (at + 1 + place bytes f.left) (log_why f.why))) (step_at kind head seen (b ∷ bytes)) at (b ∷ bytes) at (drop (at - at) (b ∷ bytes))
+      → NextIs (Err (Log (Bad (at + 1 + place bytes f.left) (log_why f.why)))) (step_at kind head seen (b ∷ bytes)) at (b ∷ bytes) at (drop (at - at) (b ∷ bytes))
   faulty-next head seen b bytes f at open_gate e =
       fault-next _ at _ (place bytes f.left + 1) (b ∷ bytes) (log_why f.why) (omega arith) (step-there head seen b bytes (place bytes f.left) (log_why f.why) open_gate (faulty-there head seen bytes f e))
 

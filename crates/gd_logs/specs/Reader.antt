@@ -8,6 +8,8 @@ use Rattle.gd_outside.specs.Seen.{SeenSource}
 use Rattle.gd_logs.specs.Stream.{stream}
 use Rattle.gd_logs.specs.Turns.{Turns, Follows, Took, OneMore}
 use Rattle.gd_logs.specs.Steps.{IsFault, NextIs}
+use Rattle.gd_logs.specs.declared.log.ReadError.{ReadError}
+use Rattle.gd_logs.specs.declared.log.ReadError.TheVariants.{Memory, Log}
 use Rattle.gd_logs.specs.declared.stopped.Stopped.{Stopped}
 use Rattle.gd_logs.specs.declared.stopped.Stopped.TheVariants.{Gate, EndOfBytes, Fault}
 use Rattle.gd_logs.specs.declared.stopped.LogFault.{LogFault}
@@ -29,16 +31,17 @@ ending_at [] = EndOfBytes
 ending_at (b ∷ bytes) = Gate
 
 -- what is returned once reading stopped
-abbrev pub answer_of : {O : Type 0} → Stopped → Result (Option (EventValue O)) LogFault
+abbrev pub answer_of : {O : Type 0} → Stopped → Result (Option (EventValue O)) ReadError
 answer_of Gate = Ok None
 answer_of EndOfBytes = Ok None
-answer_of (Fault fault) = Err fault
+answer_of (Fault fault) = Err (Log fault)
 
--- why reading stops at this result, if it does, with these bytes still to come
-abbrev pub stop_of : {O : Type 0} → Result (Option (EventValue O)) LogFault → List ℕ → Option Stopped
+-- why reading stops at this result, if it does, with these bytes still to come; for want of memory it doesn't
+abbrev pub stop_of : {O : Type 0} → Result (Option (EventValue O)) ReadError → List ℕ → Option Stopped
 stop_of (Ok (Some e)) bytes = None
 stop_of (Ok None) bytes = Some (ending_at bytes)
-stop_of (Err fault) bytes = Some (Fault fault)
+stop_of (Err Memory) bytes = None
+stop_of (Err (Log fault)) bytes = Some (Fault fault)
 
 -- a reader that stands behind the header of these bytes, and what the source has left; or the fault
 abbrev pub StartIs : {O : Type 0} → LogKind O → Result (Reader × Header) LogFault → List ℕ → List ℕ → Type 0
@@ -48,7 +51,7 @@ StartIs kind (Err (Bad at why)) all left = IsFault (in_log (header_at kind all))
 
 -- What asking for the next event returns, and leaves of the reader and the source. Where reading had stopped before, the
 -- clause `again` of `next` says all.
-pub record IsNext {O : Type 0} (kind : LogKind O) (old : Reader) (result : Result (Option (EventValue O)) LogFault) (new : Reader) (before after : SeenSource) : Type 0 where
+pub record IsNext {O : Type 0} (kind : LogKind O) (old : Reader) (result : Result (Option (EventValue O)) ReadError) (new : Reader) (before after : SeenSource) : Type 0 where
   pub exact : old.stopped ≡ None → (seen : List (EventValue O)) → Follows old.turns seen → IsSome after.left
       → NextIs result (step_at kind old.header seen (stream old.ahead before.left))
       old.place (stream old.ahead before.left) new.place (stream new.ahead after.left)

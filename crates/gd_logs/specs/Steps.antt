@@ -6,6 +6,8 @@ use Rattle.gd_grammar.specs.Reading.{place}
 use Rattle.gd_grammar.specs.HeaderBytes.{Header, header_at}
 use Rattle.gd_grammar.specs.Kinds.{LogKind}
 use Rattle.gd_grammar.specs.LogBytes.{LogMisread, in_log}
+use Rattle.gd_logs.specs.declared.log.ReadError.{ReadError}
+use Rattle.gd_logs.specs.declared.log.ReadError.TheVariants.{Memory, Log}
 use Rattle.gd_logs.specs.declared.stopped.LogFault.{LogFault}
 use Rattle.gd_logs.specs.declared.stopped.LogFault.TheVariants.{Read, Bad}
 
@@ -27,8 +29,9 @@ HeaderIs kind (Err Read) bytes = ⊥
 HeaderIs kind (Err (Bad at why)) bytes = IsFault (in_log (header_at kind bytes)) bytes at why
 
 -- a step of a log at a place, with all bytes from there on: an event, the end, or the fault, and where the log stands then
-abbrev pub NextIs : {O : Type 0} → Result (Option (EventValue O)) LogFault → Step O → ℕ → List ℕ → ℕ → List ℕ → Type 0
+abbrev pub NextIs : {O : Type 0} → Result (Option (EventValue O)) ReadError → Step O → ℕ → List ℕ → ℕ → List ℕ → Type 0
 NextIs (Ok None) step at all at' rest = (step ≡ Ok None) × (rest ≡ all) × (at' ≡ at)
 NextIs (Ok (Some e)) step at all at' rest = (step ≡ Ok (Some (e, rest))) × (at + length all ≡ at' + length rest)
-NextIs (Err Read) step at all at' rest = (rest ≡ all) × (at' ≡ at)
-NextIs (Err (Bad there why)) step at all at' rest = (within : ℕ) × IsFault step all within why × (there ≡ at + within) × (rest ≡ all) × (at' ≡ at)
+NextIs (Err Memory) step at all at' rest = (rest ≡ all) × (at' ≡ at)
+NextIs (Err (Log Read)) step at all at' rest = (rest ≡ all) × (at' ≡ at)
+NextIs (Err (Log (Bad there why))) step at all at' rest = (within : ℕ) × IsFault step all within why × (there ≡ at + within) × (rest ≡ all) × (at' ≡ at)

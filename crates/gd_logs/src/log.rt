@@ -11,7 +11,7 @@ ghost use Rattle.gd_logs.specs.Logs.{LogIs};
 use crate::reader::KindReader;
 use crate::stopped::LogFault;
 use gd_events::EventList;
-use gd_outside::Source;
+use gd_outside::{Failed, Source};
 use gd_wire::{Drawings, LogHeader, LogKind};
 use std::alloc::{AllocError, Global};
 use thiserror::Error;
@@ -33,6 +33,18 @@ impl From<LogFault> for ReadError {
 
     fn from(fault: LogFault) -> Self {
         ReadError::Log(fault)
+    }
+}
+
+impl From<Failed> for ReadError {
+    ghost use Rattle.std.specs.Prelude.{◌≡◌};
+    ghost use Rattle.gd_logs.specs.declared.log.ReadError.TheVariants.{Log};
+    ghost use Rattle.gd_logs.specs.declared.stopped.LogFault.TheVariants.{Read};
+
+    ghost from_gives = { λ _ e. e ≡ Log Read };
+
+    fn from(_: Failed) -> Self {
+        ReadError::Log(LogFault::Read)
     }
 }
 
@@ -78,8 +90,8 @@ pub fn read_log_of<K: LogKind, S: Source>(
 {
     let (mut reader, header) = KindReader::<K>::start(source)?;
     let mut events = EventList::new(alloc);
-    'records: while let Some(event) = reader.next(source)? {
-        events.push(event)?;
+    'records: while let Some(event) = reader.next(alloc, source)? {
+        events.push_listed(event)?;
     }
     Ok((header, events))
 }

@@ -8,13 +8,15 @@ ghost use Rattle.gd_logs.specs.Steps.{HeaderIs};
 ghost use Rattle.gd_logs.specs.Reader.{answer_of, IsNext, StartIs};
 
 use crate::ahead::ReadAhead;
+use crate::log::ReadError;
 use crate::record::{field_fault, read_record};
 use crate::stopped::{LogFault, Stopped, stop_of};
 use crate::turns::Turns;
-use gd_events::Event;
+use gd_events::ListedEvent;
 use gd_grammar::HEADER_BYTES;
 use gd_outside::Source;
 use gd_wire::{Bytes, Drawings, LogHeader, LogKind};
+use std::alloc::Global;
 use std::marker::{Model, PhantomData};
 
 /// Reads a log of a drawing.
@@ -82,33 +84,45 @@ impl<K: LogKind> KindReader<K> {
         Ok((reader, header))
     }
 
-    /// Reads the next event. None is the end of the log, of which `stopped` tells more.
+    /// Reads the next event into the memory that it needs; [`ListedEvent::event`] copies it out. None is the end of the log, of
+    /// which `stopped` tells more.
     ///
-    /// `Read` where a read failed, and `Bad` at the first fault of the record. After None and after each fault the reader
-    /// stands where it stood, and returns the same again from then on, without a read.
-    pub fn next<S: Source>(&mut self, source: &mut S) -> Result<Option<Event<K::Op>>, LogFault>
+    /// `Log` with `Read` where a read failed and with `Bad` at the first fault of the record. After None and after each of
+    /// these the reader stands where it stood, and returns the same again from then on, without a read. `Memory` where memory
+    /// ran out: the reader stands where it stood and hasn't stopped, so it may be asked again.
+    pub fn next<S: Source>(
+        &mut self,
+        alloc: Global,
+        source: &mut S,
+    ) -> Result<Option<ListedEvent<K::Op>>, ReadError>
         ensures next { IsNext K.kind self.old result self.new (S.seen source.old)
             (S.seen source.new) }
         ensures again { IfSome self.old.stopped (λ stopped. (result ≡ answer_of stopped)
             × (self.new ≡ self.old) × (S.seen source.new ≡ S.seen source.old)) }
         ensures called { SourceCalled (S.seen source.old) (S.seen source.new)
-            ((self.old.stopped ≡ None) × (result ≡ Err LogFault.Read)) }
+            ((self.old.stopped ≡ None)
+            × (result ≡ Err (ReadError.Log LogFault.Read))) }
     {
         match self.stopped {
             Some(stopped) => stopped.answer(),
-            None => self.read_on(source),
+            None => self.read_on(alloc, source),
         }
     }
 
     /// Reads the next event, where reading hasn't stopped.
-    fn read_on<S: Source>(&mut self, source: &mut S) -> Result<Option<Event<K::Op>>, LogFault>
+    fn read_on<S: Source>(
+        &mut self,
+        alloc: Global,
+        source: &mut S,
+    ) -> Result<Option<ListedEvent<K::Op>>, ReadError>
         requires { self.old.stopped ≡ None }
         ensures next { IsNext K.kind self.old result self.new (S.seen source.old)
             (S.seen source.new) }
         ensures called { SourceCalled (S.seen source.old) (S.seen source.new)
-            (result ≡ Err LogFault.Read) }
+            (result ≡ Err (ReadError.Log LogFault.Read)) }
     {
         let read = read_record::<K, S>(
+            alloc,
             &self.header,
             &mut self.place,
             &mut self.turns,

@@ -12,13 +12,15 @@ ghost use Rattle.gd_logs.specs.Steps.{NextIs};
 ghost use Rattle.gd_logs.specs.Reader.{ending_at};
 
 use crate::ahead::ReadAhead;
+use crate::log::ReadError;
 use crate::pieces::{GATE, RECORD};
 use crate::stopped::LogFault;
 use crate::turns::Turns;
 use gd_base::{FieldFault, FieldWhy, LogWhy};
-use gd_events::Event;
+use gd_events::ListedEvent;
 use gd_outside::Source;
-use gd_wire::{Bytes, LogHeader, LogKind};
+use gd_wire::{Bytes, LogHeader, LogKind, PackError};
+use std::alloc::Global;
 
 fn log_why(why: FieldWhy) -> LogWhy
     ensures { result ≡ log_why why }
@@ -63,13 +65,14 @@ fn turn_fault(first: u64, why: LogWhy) -> LogFault
 }
 
 /// Reads the record that these bytes, at `place` of the log, begin with, and moves `place` behind it.
-/// None is the end of the log.
+/// None is the end of the log. Where memory ran out, nothing changes.
 fn parse_record<K: LogKind>(
+    alloc: Global,
     header: &LogHeader,
     place: &mut u64,
     turns: &mut Turns,
     bytes: &[u8],
-) -> Result<Option<Event<K::Op>>, LogFault>
+) -> Result<Option<ListedEvent<K::Op>>, ReadError>
     requires room { place.old ≤ 2 ^ 61 }
     ensures exact { (seen : List (EventValue K.Op)) → Follows turns.old seen
         → NextIs result (step_at K.kind header.now seen bytes.now) place.old bytes.now
@@ -81,7 +84,7 @@ fn parse_record<K: LogKind>(
     ensures within { place.new - place.old ≤ length bytes.now }
     ensures none { result ≡ Ok None → (turns.new ≡ turns.old) × (place.new ≡ place.old) }
     ensures err { OnErr result ((turns.new ≡ turns.old) × (place.new ≡ place.old)) }
-    ensures no_read { result ≡ Err LogFault.Read → ⊥ }
+    ensures no_read { result ≡ Err (ReadError.Log LogFault.Read) → ⊥ }
 {
     let Some((gate, body)) = bytes.split_first() else {
         return Ok(None);
@@ -90,26 +93,31 @@ fn parse_record<K: LogKind>(
         return Ok(None);
     }
     let mut rest = Bytes::new(body);
-    match rest.event::<K>(header.version()) {
+    match rest.listed::<K>(alloc, header.version()) {
         Ok(event) => match turns.take(header.n(), &event) {
             Ok(()) => {
                 *place += (bytes.len() - rest.len()) as u64;
                 Ok(Some(event))
             }
-            Err(why) => Err(turn_fault(*place + 1, why)),
+            Err(why) => Err(ReadError::Log(turn_fault(*place + 1, why))),
         },
-        Err(fault) => Err(field_fault(*place + 1, body, fault)),
+        Err(PackError::Memory) => Err(ReadError::Memory),
+        Err(PackError::Field(fault)) => {
+            Err(ReadError::Log(field_fault(*place + 1, body, fault)))
+        }
     }
 }
 
 /// Reads the next record of a log that was read up to `place`, and moves `place` behind it. None is the end of the log.
+/// Where memory ran out, the log is still read up to `place`.
 pub fn read_record<K: LogKind, S: Source>(
+    alloc: Global,
     header: &LogHeader,
     place: &mut u64,
     turns: &mut Turns,
     ahead: &mut ReadAhead,
     source: &mut S,
-) -> Result<Option<Event<K::Op>>, LogFault>
+) -> Result<Option<ListedEvent<K::Op>>, ReadError>
     requires room { place.old ≤ 2 ^ 61 }
     ensures exact { (seen : List (EventValue K.Op)) → Follows turns.old seen
         → IsSome (S.seen source.new).left
@@ -126,11 +134,11 @@ pub fn read_record<K: LogKind, S: Source>(
     ensures ending { result ≡ Ok None → IsSome (S.seen source.new).left
         → ending_at ahead.new ≡ ending_at (stream ahead.old (S.seen source.old).left) }
     ensures called { SourceCalled (S.seen source.old) (S.seen source.new)
-        (result ≡ Err LogFault.Read) }
+        (result ≡ Err (ReadError.Log LogFault.Read)) }
 {
     ahead.fill(source, RECORD)?;
     let start = *place;
-    let read = parse_record::<K>(header, place, turns, ahead.as_slice());
+    let read = parse_record::<K>(alloc, header, place, turns, ahead.as_slice());
     ahead.skip((*place - start) as usize);
     read
 }

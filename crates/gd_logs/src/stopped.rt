@@ -3,8 +3,9 @@
 ghost use Rattle.std.specs.Prelude.{◌≡◌};
 ghost use Rattle.gd_logs.specs.Reader.{answer_of, ending_at, stop_of};
 
+use crate::log::ReadError;
 use gd_base::LogWhy;
-use gd_events::{Event, Operation};
+use gd_events::{ListedEvent, Operation};
 use gd_outside::Failed;
 use thiserror::Error;
 
@@ -43,20 +44,20 @@ pub enum Stopped {
 
 impl Stopped {
     /// What is returned from then on.
-    pub(crate) fn answer<O: Operation>(self) -> Result<Option<Event<O>>, LogFault>
+    pub(crate) fn answer<O: Operation>(self) -> Result<Option<ListedEvent<O>>, ReadError>
         ensures { result ≡ answer_of self }
     {
         match self {
             Stopped::Gate => Ok(None),
             Stopped::EndOfBytes => Ok(None),
-            Stopped::Fault(fault) => Err(fault),
+            Stopped::Fault(fault) => Err(ReadError::Log(fault)),
         }
     }
 }
 
-/// The end that this result is, if it is one, with these bytes still to come.
+/// The end that this result is, if it is one, with these bytes still to come. Want of memory is none.
 pub(crate) fn stop_of<O: Operation>(
-    read: &Result<Option<Event<O>>, LogFault>,
+    read: &Result<Option<ListedEvent<O>>, ReadError>,
     bytes: &[u8],
 ) -> Option<Stopped>
     ensures { result ≡ stop_of read.now bytes.now }
@@ -64,7 +65,8 @@ pub(crate) fn stop_of<O: Operation>(
     match read {
         Ok(Some(_)) => None,
         Ok(None) => Some(ending_at(bytes)),
-        Err(fault) => Some(Stopped::Fault(*fault)),
+        Err(ReadError::Memory) => None,
+        Err(ReadError::Log(fault)) => Some(Stopped::Fault(*fault)),
     }
 }
 

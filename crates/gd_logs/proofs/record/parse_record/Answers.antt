@@ -7,7 +7,7 @@ pub overflow_sub-place : goal.overflow_sub-place
 overflow_sub-place g c =
     let e = rw (c.new-rest.ensures, c.version.ensures) at c.in-Ok.ensures in
     let all : c.args.bytes.now ≡ c.in-Some.gate.now ∷ c.in-Some.body.now = c.in-Some.ensures.cases.0 in
-    rw (all, c.len.ensures) (event-shorter g.met.K.LogKind.laws c.args.header.now.version c.in-Some.gate.now c.in-Some.body.now (c.in-Ok.event, c.event.new.self) e)
+    rw (all, c.len.ensures) (event-shorter g.met.K.LogKind.laws c.args.header.now.version c.in-Some.gate.now c.in-Some.body.now (c.in-Ok.event, c.listed.new.self) e)
 
 pub field_fault-requires-clause-inside : goal.field_fault-requires-clause-inside
 field_fault-requires-clause-inside g c =
@@ -26,13 +26,13 @@ pub returns-in-Ok-take-clause-exact : goal.returns-in-Ok-take-clause-exact
 returns-in-Ok-take-clause-exact g c = λ seen follows.
     let e = rw (c.new-rest.ensures, c.version.ensures) at c.in-Ok.ensures in
     let all : c.args.bytes.now ≡ c.in-Some.gate.now ∷ c.in-Some.body.now = c.in-Some.ensures.cases.0 in
-    rw (all, c.len.ensures) (taken-next g.met.K.LogKind.laws c.args.header.now seen c.in-Some.gate.now c.in-Some.body.now (c.in-Ok.event, c.event.new.self) c.args.place.now _ c.if-gate.false e (rw c.n.ensures.value at (c.in-Ok-take.ensures.exact seen follows)) refl)
+    rw (all, c.len.ensures) (taken-next g.met.K.LogKind.laws c.args.header.now seen c.in-Some.gate.now c.in-Some.body.now (c.in-Ok.event, c.listed.new.self) c.args.place.now _ c.if-gate.false e (rw c.n.ensures.value at (c.in-Ok-take.ensures.exact seen follows)) refl)
 
 pub returns-in-Err-take-clause-exact : goal.returns-in-Err-take-clause-exact
 returns-in-Err-take-clause-exact g c = λ seen follows.
     let e = rw (c.new-rest.ensures, c.version.ensures) at c.in-Ok.ensures in
     let all : c.args.bytes.now ≡ c.in-Some.gate.now ∷ c.in-Some.body.now = c.in-Some.ensures.cases.0 in
-    rw (all, c.turn_fault.ensures) (refused-next g.met.K.LogKind.laws c.args.header.now seen c.in-Some.gate.now c.in-Some.body.now (c.in-Ok.event, c.event.new.self) c.in-Err-take.why c.args.place.now c.if-gate.false e (rw c.n.ensures.value at (c.in-Err-take.ensures.exact seen follows)))
+    rw (all, c.turn_fault.ensures) (refused-next g.met.K.LogKind.laws c.args.header.now seen c.in-Some.gate.now c.in-Some.body.now (c.in-Ok.event, c.listed.new.self) c.in-Err-take.why c.args.place.now c.if-gate.false e (rw c.n.ensures.value at (c.in-Err-take.ensures.exact seen follows)))
 
 pub returns-in-Err-clause-exact : goal.returns-in-Err-clause-exact
 returns-in-Err-clause-exact g c = λ seen follows.
