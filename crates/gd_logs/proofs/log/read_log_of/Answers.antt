@@ -37,7 +37,7 @@ pub records-preserved : goal.records-preserved
 records-preserved g c =
     let taken = rw c.in-Some.is at c.in_ok-event.ensures in
     let took = taken.next.follows c.records.events c.records.invariant.follows in
-    rw (c.in_ok-push.ensures.ok, taken.next.header) record {
+    rw (c.in_ok-push_listed.ensures.ok, taken.next.header) record {
       called = source_called_as (λ failed. absurd failed) (source_called_then c.records.invariant.called c.in_ok-event.ensures.called);
       follows = took.follows;
       reached = reached-push c.records.events c.records.events c.in-Some.event took.above c.records.invariant.reached;
@@ -63,9 +63,9 @@ returns-in_err-event-clause-called g c =
     let p = err_from_is_err_and c.from_residual-in_err-event.result c.from_residual-in_err-event.ensures.1 in
     source_called_as (λ failed. (c.records.invariant.on, let f = rw (p.1, p.2) at failed in cc)) (source_called_then c.records.invariant.called c.in_err-event.ensures.called)
 
-pub returns-in_err-push-clause-called : goal.returns-in_err-push-clause-called
-returns-in_err-push-clause-called g c =
-    let p = err_from_is_err_and c.from_residual-in_err-push.result c.from_residual-in_err-push.ensures.1 in
+pub returns-in_err-push_listed-clause-called : goal.returns-in_err-push_listed-clause-called
+returns-in_err-push_listed-clause-called g c =
+    let p = err_from_is_err_and c.from_residual-in_err-push_listed.result c.from_residual-in_err-push_listed.ensures.1 in
     source_called_as (λ failed. absurd (let f = rw (p.1, p.2) at failed in cc)) (source_called_then c.records.invariant.called c.in_ok-event.ensures.called)
 
 pub returns-clause-called : goal.returns-clause-called

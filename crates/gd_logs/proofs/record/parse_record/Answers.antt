@@ -11,8 +11,8 @@ overflow_sub-place g c =
 
 pub field_fault-requires-clause-inside : goal.field_fault-requires-clause-inside
 field_fault-requires-clause-inside g c =
-    let e = rw (c.new-rest.ensures, c.version.ensures) at c.in-Err.ensures in
-    ((Steady-event g.met.K.LogKind.laws c.args.header.now.version).err c.in-Some.body.now c.in-Err.fault e).inside
+    let e = rw (c.in-Err-Field.field-0-is, c.new-rest.ensures, c.version.ensures) at c.in-Err-Field.ensures in
+    rw c.in-Err-Field.fault-is ((Steady-event g.met.K.LogKind.laws c.args.header.now.version).err c.in-Some.body.now c.in-Err-Field.fault e).inside
 
 pub returns-in_default-clause-exact : goal.returns-in_default-clause-exact
 returns-in_default-clause-exact g c = λ seen follows. ended-next _ c.args.place.now c.args.bytes.now (step-nothing g.met.K.LogKind.laws c.args.header.now seen c.args.bytes.now c.in_default.ensures.cases)
@@ -28,14 +28,14 @@ returns-in-Ok-take-clause-exact g c = λ seen follows.
     let all : c.args.bytes.now ≡ c.in-Some.gate.now ∷ c.in-Some.body.now = c.in-Some.ensures.cases.0 in
     rw (all, c.len.ensures) (taken-next g.met.K.LogKind.laws c.args.header.now seen c.in-Some.gate.now c.in-Some.body.now (c.in-Ok.event, c.listed.new.self) c.args.place.now _ c.if-gate.false e (rw c.n.ensures.value at (c.in-Ok-take.ensures.exact seen follows)) refl)
 
-pub returns-in-Err-take-clause-exact : goal.returns-in-Err-take-clause-exact
-returns-in-Err-take-clause-exact g c = λ seen follows.
-    let e = rw (c.new-rest.ensures, c.version.ensures) at c.in-Ok.ensures in
-    let all : c.args.bytes.now ≡ c.in-Some.gate.now ∷ c.in-Some.body.now = c.in-Some.ensures.cases.0 in
-    rw (all, c.turn_fault.ensures) (refused-next g.met.K.LogKind.laws c.args.header.now seen c.in-Some.gate.now c.in-Some.body.now (c.in-Ok.event, c.listed.new.self) c.in-Err-take.why c.args.place.now c.if-gate.false e (rw c.n.ensures.value at (c.in-Err-take.ensures.exact seen follows)))
-
 pub returns-in-Err-clause-exact : goal.returns-in-Err-clause-exact
 returns-in-Err-clause-exact g c = λ seen follows.
-    let e = rw (c.new-rest.ensures, c.version.ensures) at c.in-Err.ensures in
+    let e = rw (c.new-rest.ensures, c.version.ensures) at c.in-Ok.ensures in
     let all : c.args.bytes.now ≡ c.in-Some.gate.now ∷ c.in-Some.body.now = c.in-Some.ensures.cases.0 in
-    rw (all, c.field_fault.ensures) (faulty-next g.met.K.LogKind.laws c.args.header.now seen c.in-Some.gate.now c.in-Some.body.now c.in-Err.fault c.args.place.now c.if-gate.false e)
+    rw (all, c.turn_fault.ensures) (refused-next g.met.K.LogKind.laws c.args.header.now seen c.in-Some.gate.now c.in-Some.body.now (c.in-Ok.event, c.listed.new.self) c.in-Err.why c.args.place.now c.if-gate.false e (rw c.n.ensures.value at (c.in-Err.ensures.exact seen follows)))
+
+pub returns-in-Err-Field-clause-exact : goal.returns-in-Err-Field-clause-exact
+returns-in-Err-Field-clause-exact g c = λ seen follows.
+    let e = rw (c.in-Err-Field.field-0-is, c.new-rest.ensures, c.version.ensures) at c.in-Err-Field.ensures in
+    let all : c.args.bytes.now ≡ c.in-Some.gate.now ∷ c.in-Some.body.now = c.in-Some.ensures.cases.0 in
+    rw (all, c.field_fault.ensures, c.in-Err-Field.fault-is) (faulty-next g.met.K.LogKind.laws c.args.header.now seen c.in-Some.gate.now c.in-Some.body.now c.in-Err-Field.fault c.args.place.now c.if-gate.false e)
