@@ -5,18 +5,19 @@ ghost use Rattle.std.specs.List.{list_all};
 ghost use Rattle.gd_model.specs.Objects.{is_same_part};
 ghost use Rattle.gd_model.specs.Relations.{link_touch, meets, misses, touches, independent, covers};
 ghost use Rattle.gd_canvas.specs.Aims.{touch_of, members_of, aim_covers};
+ghost use Rattle.gd_canvas.specs.Kept.{op_of};
 
 use crate::contents::part_number;
-use crate::forms::{Aim, aim_of, object_of, part_of};
+use crate::forms::{Aim, aim_of, members_of, object_of, part_of};
+use crate::kept::Kept;
 use gd_base::Stamp;
-use gd_events::Op;
 use gd_model::Part;
 
 /// Whether no touch of `e`, at the stamp `s`, meets one of `f`, at `t`. It looks at the objects first: most events are on
 /// different ones.
 #[tactic(auto, using(crate::proofs::RelationLemmas::independent_parts))]
-pub fn independent(s: Stamp, e: &Op, t: Stamp, f: &Op) -> bool
-    ensures { result ≡ independent s e.now t f.now }
+pub fn independent(s: Stamp, e: &Kept, t: Stamp, f: &Kept) -> bool
+    ensures { result ≡ independent s (op_of e.now) t (op_of f.now) }
 {
     if first_meets(s, e, t, f) {
         return false;
@@ -29,8 +30,8 @@ pub fn independent(s: Stamp, e: &Op, t: Stamp, f: &Op) -> bool
 
 /// Whether `f`, at the stamp `t`, leaves nothing of `e`, at `s`, where it comes behind it.
 #[tactic(auto, using(crate::proofs::RelationLemmas::covers_aims), unfolding(gd_model::specs::Relations::covers))]
-pub fn covers(t: Stamp, f: &Op, s: Stamp, e: &Op) -> bool
-    ensures { result ≡ covers t f.now s e.now }
+pub fn covers(t: Stamp, f: &Kept, s: Stamp, e: &Kept) -> bool
+    ensures { result ≡ covers t (op_of f.now) s (op_of e.now) }
 {
     aim_covers(&aim_of(t, f), &aim_of(s, e))
 }
@@ -53,56 +54,48 @@ fn aim_covers(later: &Aim, earlier: &Aim) -> bool
 }
 
 /// Whether the first touches meet.
-fn first_meets(s: Stamp, e: &Op, t: Stamp, f: &Op) -> bool
-    ensures { result ≡ meets (touch_of s e.now) (touch_of t f.now) }
+fn first_meets(s: Stamp, e: &Kept, t: Stamp, f: &Kept) -> bool
+    ensures { result ≡ meets (touch_of s (op_of e.now)) (touch_of t (op_of f.now)) }
 {
     object_of(s, e).is_same(object_of(t, f)) && parts_meet(part_of(s, e), part_of(t, f))
 }
 
 /// Whether the touch meets none of `f`'s.
 #[tactic(auto, using(crate::proofs::RelationLemmas::misses_parts))]
-fn misses(id: Stamp, part: Part, t: Stamp, f: &Op) -> bool
-    ensures { result ≡ misses (touches t f.now) (id, part) }
+fn misses(id: Stamp, part: Part, t: Stamp, f: &Kept) -> bool
+    ensures { result ≡ misses (touches t (op_of f.now)) (id, part) }
 {
     !meets(id, part, object_of(t, f), part_of(t, f)) && misses_links(id, part, f)
 }
 
 /// Whether the first touch of `e` meets no link of the members of `f`.
-fn first_misses_links(s: Stamp, e: &Op, f: &Op) -> bool
+fn first_misses_links(s: Stamp, e: &Kept, f: &Kept) -> bool
     ensures { result
-        ≡ list_all (λ m. not (meets (touch_of s e.now) (link_touch m))) (members_of f.now) }
+        ≡ list_all (λ m. not (meets (touch_of s (op_of e.now)) (link_touch m))) (members_of (op_of f.now)) }
 {
     match f {
-        Op::Group { .. } => misses_links(object_of(s, e), part_of(s, e), f),
+        Kept::Group(_) => misses_links(object_of(s, e), part_of(s, e), f),
         _ => true,
     }
 }
 
 /// Whether the touch meets no link of a group's members.
-fn misses_links(id: Stamp, part: Part, f: &Op) -> bool
-    ensures { result ≡ list_all (λ m. not (meets (id, part) (link_touch m))) (members_of f.now) }
+fn misses_links(id: Stamp, part: Part, f: &Kept) -> bool
+    ensures { result ≡ list_all (λ m. not (meets (id, part) (link_touch m))) (members_of (op_of f.now)) }
 {
-    match f {
-        Op::Group { members } => members
-            .as_slice()
-            .iter()
-            .all(|member| !meets(id, part, member.id, Part::Link)),
-        _ => true,
-    }
+    members_of(f)
+        .iter()
+        .all(|member| !meets(id, part, member.id, Part::Link))
 }
 
 /// Whether no link of a group's members is met by a touch of `f`.
-fn links_miss(e: &Op, t: Stamp, f: &Op) -> bool
+fn links_miss(e: &Kept, t: Stamp, f: &Kept) -> bool
     ensures { result
-        ≡ list_all (λ m. misses (touches t f.now) (link_touch m)) (members_of e.now) }
+        ≡ list_all (λ m. misses (touches t (op_of f.now)) (link_touch m)) (members_of (op_of e.now)) }
 {
-    match e {
-        Op::Group { members } => members
-            .as_slice()
-            .iter()
-            .all(|member| misses(member.id, Part::Link, t, f)),
-        _ => true,
-    }
+    members_of(e)
+        .iter()
+        .all(|member| misses(member.id, Part::Link, t, f))
 }
 
 /// Whether both touches are of one object, and of parts that meet.
