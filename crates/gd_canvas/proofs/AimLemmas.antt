@@ -1,52 +1,85 @@
--- How an event is undone, and put in front of one that covers it, by aims.
-use Rattle.std.proofs.Common.{◌≡◌, List, refl}
-use Rattle.std.specs.Prelude.{if◌then◌else◌}
-use Rattle.std.specs.FinMap as map_of
+-- What operations of a few bytes set, and what events find that are put in front of those that cover them.
+use Rattle.std.proofs.Common.{◌≡◌, Bool, true, false, ◌&&◌, not, cond, List, ℕ, Option, None, Some, refl, ap, ◌∙◌}
+use Rattle.std.specs.Prelude.{is_some, option_map, unwrap_or, if◌then◌else◌}
 use Rattle.gd_base.specs.Stamps.{Stamp}
-use Rattle.gd_base.specs.declared.member.Member.{Member}
-use Rattle.gd_events.specs.declared.op.Op.{Op}
-use Rattle.gd_events.specs.declared.op.Op.TheVariants.{Group}
+use Rattle.gd_base.specs.declared.style.Style.TheVariants.{Stroke, Fill, Width}
+use Rattle.gd_events.specs.declared.packed.SmallOp.{SmallOp}
+use Rattle.gd_events.specs.declared.packed.SmallOp.TheVariants.{Move, Resize, Restyle, Ungroup, Raise, Lower}
+use Rattle.gd_events.specs.Packed.{small_op}
 use Rattle.gd_model.specs.declared.before.Before.{Before}
-use Rattle.gd_model.specs.declared.before.Before.TheVariants.{Nothing, Made, Gone, Grouped}
-use Rattle.gd_model.specs.declared.form.Form.{Form}
-use Rattle.gd_model.specs.declared.form.Form.TheVariants as form_of
+use Rattle.gd_model.specs.declared.before.Before.TheVariants.{Nothing, Gone}
+use Rattle.gd_model.specs.declared.content.Content.{Content}
+use Rattle.gd_model.specs.declared.content.Content.TheVariants.{ToText}
+use Rattle.gd_model.specs.declared.form.Form.TheVariants.{Sets}
+use Rattle.gd_model.specs.declared.object.Object.{Object}
 use Rattle.gd_model.specs.Forms.{form}
-use Rattle.gd_model.specs.Board.{Board}
-use Rattle.gd_model.specs.Undoing.{content_of, set_back, set_links, undone_by}
-use Rattle.gd_model.specs.Objects.{ranked}
-use Rattle.gd_model.specs.Splices.{splice_set, splice_deleted, splice_twice, splice_made, splice_by}
-use Rattle.gd_canvas.specs.Aims.{aim_of, members_of}
-use Rattle.gd_canvas.specs.declared.forms.Aim.{Aim}
-use Rattle.gd_canvas.specs.declared.forms.Aim.TheVariants.{Sets, Creates, Deletes, Groups}
+use Rattle.gd_model.specs.Objects.{fits, old, put, set}
+use Rattle.gd_model.specs.Undoing.{before_of, gone, old_in}
+use Rattle.gd_model.specs.Splices.{splice_deleted, splice_twice, splice_made}
+use Rattle.gd_canvas.specs.Found.{unless_label, only_label}
+use Rattle.gd_canvas.specs.Kept.{small_target, small_content, of_made}
 
--- the board with an event of that aim undone, which links these members
-abbrev pub undone_aim : Aim → List Member → Before → Board → Board
-undone_aim (Sets id p) members v b = set_back id p (content_of v) b
-undone_aim (Creates id) members Made b = map_of.remove b id
-undone_aim (Deletes id) members (Gone o) b = if map_of.contains_key b id then b else map_of.insert b id o
-undone_aim (Groups id) members (Grouped links) b = if map_of.contains_key b id then set_links members links (map_of.remove b id) else b
-undone_aim a members v b = b
+-- an operation of a few bytes sets its content in its target
+pub small_form : (stamp : Stamp) (op : SmallOp) → form stamp (small_op op) ≡ Sets (small_target op) (small_content stamp op)
+small_form stamp (Move id x y) = refl
+small_form stamp (Resize id w h) = refl
+small_form stamp (Restyle id style) = refl
+small_form stamp (Ungroup id) = refl
+small_form stamp (Raise id) = refl
+small_form stamp (Lower id) = refl
 
--- undoing goes by aims
-pub undone_aims : (stamp : Stamp) (op : Op) (v : Before) (b : Board) → undone_by stamp (form stamp op) v b ≡ undone_aim (aim_of stamp (form stamp op)) (members_of op) v b
-undone_aims stamp (Group members) (Grouped links) b = refl
-undone_aims stamp op v b = refl
+-- that is no label
+pub small_old : (stamp : Stamp) (op : SmallOp) (o : Object) → unless_label (before_of (old (small_content stamp op) o)) ≡ before_of (old (small_content stamp op) o)
+small_old stamp (Move id x y) o = refl
+small_old stamp (Resize id w h) o = refl
+small_old stamp (Restyle id (Stroke colour)) o = refl
+small_old stamp (Restyle id (Fill colour)) o = refl
+small_old stamp (Restyle id (Width width)) o = refl
+small_old stamp (Ungroup id) o = refl
+small_old stamp (Raise id) o = refl
+small_old stamp (Lower id) o = refl
 
--- the before-values of an event of that form at the stamp s and of one of that aim, which covers it and had v without it
-abbrev pub splice_aim : Stamp → Form → Aim → Before → Before × Before
-splice_aim s (form_of.Sets id c) (Sets i p) v = splice_set c v
-splice_aim s (form_of.Sets id c) (Deletes i) v = splice_deleted c v
-splice_aim s (form_of.Deletes id) (Deletes i) v = splice_twice v
-splice_aim s (form_of.Creates new) (Deletes i) v = splice_made (ranked new s) v
-splice_aim s e a v = (Nothing, Nothing)
+pub small_set : (stamp : Stamp) (op : SmallOp) → unless_label (before_of (small_content stamp op)) ≡ before_of (small_content stamp op)
+small_set stamp (Move id x y) = refl
+small_set stamp (Resize id w h) = refl
+small_set stamp (Restyle id (Stroke colour)) = refl
+small_set stamp (Restyle id (Fill colour)) = refl
+small_set stamp (Restyle id (Width width)) = refl
+small_set stamp (Ungroup id) = refl
+small_set stamp (Raise id) = refl
+small_set stamp (Lower id) = refl
 
--- the splice goes by the aim of the event that covers the other one
-pub splice_aims : (s : Stamp) (e : Op) (t : Stamp) (f : Op) (v : Before) → splice_by s (form s e) (form t f) v ≡ splice_aim s (form s e) (aim_of t (form t f)) v
-splice_aims s e t f v = by (form s e) (form t f)
+where_fits : (f : Before → Before) → f Nothing ≡ Nothing → (b : Bool) (v : Before) → f v ≡ v → f (cond b v Nothing) ≡ cond b v Nothing
+where_fits f none true v e = e
+where_fits f none false v e = none
+
+-- so it finds no label
+pub small_found : (stamp : Stamp) (op : SmallOp) (x : Option Object) → unless_label (old_in (small_content stamp op) x) ≡ old_in (small_content stamp op) x
+small_found stamp op None = refl
+small_found stamp op (Some o) = where_fits unless_label refl (fits (small_content stamp op) o.kind) (before_of (old (small_content stamp op) o)) (small_old stamp op o)
+
+-- and a new label finds nothing but a label
+pub label_found : (label : List ℕ) (x : Option Object) → only_label (old_in (ToText label) x) ≡ old_in (ToText label) x
+label_found label None = refl
+label_found label (Some o) = where_fits only_label refl (fits (ToText label) o.kind) (before_of (old (ToText label) o)) refl
+
+pub ruleset finds = (small_found, label_found)
+
+-- ---- in front of a delete
+
+-- an event that sets a content finds what it would in the object that is deleted, and leaves it there
+pub set_deleted : (c : Content) (x : Option Object) → ◌≡◌ {A = Before × Before} (splice_deleted c (gone x)) (old_in c x, gone (option_map (set c) x))
+set_deleted c None = refl
+set_deleted c (Some o) = by (fits c o.kind)
   where
-    by : (e f : Form) → splice_by s e f v ≡ splice_aim s e (aim_of t f) v
-    by (form_of.Sets id c) (form_of.Sets i d) = refl
-    by (form_of.Sets id c) (form_of.Deletes i) = refl
-    by (form_of.Deletes id) (form_of.Deletes i) = refl
-    by (form_of.Creates new) (form_of.Deletes i) = refl
-    by e f = refl
+    by : (b : Bool) → ◌≡◌ {A = Before × Before} (cond b (before_of (old c o), Gone (put c o)) (Nothing, Gone o)) (cond b (before_of (old c o)) Nothing, Gone (cond b (put c o) o))
+    by true = refl
+    by false = refl
+
+pub delete_deleted : (x : Option Object) → ◌≡◌ {A = Before × Before} (splice_twice (gone x)) (gone x, Nothing)
+delete_deleted None = refl
+delete_deleted (Some o) = refl
+
+pub make_deleted : (new : Object) (x : Option Object) → ◌≡◌ {A = Before × Before} (splice_made new (gone x)) (of_made (not (is_some x)), gone (Some (unwrap_or x new)))
+make_deleted new None = refl
+make_deleted new (Some o) = refl

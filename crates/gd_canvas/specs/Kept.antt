@@ -1,6 +1,6 @@
 -- The operation that is kept, and its before-value. Of an event that made no object, found nothing or deleted nothing the
 -- before-value is Nothing.
-use Rattle.std.specs.Prelude.{ℕ, Bool, true, false, List, Option, None, Some}
+use Rattle.std.specs.Prelude.{ℕ, Bool, true, false, if◌then◌else◌, List, Option, None, Some}
 use Rattle.gd_base.specs.Stamps.{Stamp}
 use Rattle.gd_events.specs.declared.op.Op.{Op}
 use Rattle.gd_events.specs.declared.op.Op.TheVariants as op
@@ -61,11 +61,7 @@ of_made true = before.Made
 
 -- that of a new group, by its links and whether it was made
 abbrev pub of_grouping : GroupingValue → Before
-of_grouping g = grouped g.is_made
-  where
-    abbrev grouped : Bool → Before
-    grouped false = before.Nothing
-    grouped true = before.Grouped g.links
+of_grouping g = if g.is_made then before.Grouped g.links else before.Nothing
 
 -- the operation that is kept
 abbrev pub op_of : Kept → Op

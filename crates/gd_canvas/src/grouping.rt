@@ -10,7 +10,7 @@ use crate::canvas::Canvas;
 use crate::slots;
 use gd_base::{Member, Members};
 use gd_events::MemberList;
-use gd_model::{Before, OldLink, OldLinks};
+use gd_model::{Before, Link, OldLink, OldLinks};
 use std::alloc::{AllocError, Global};
 use std::marker::Model;
 
@@ -115,6 +115,9 @@ fn push_links(links: &mut Vec<OldLink>, members: &[Member], canvas: &Canvas)
     ensures few { length links.new.items ≤ MOST_MEMBERS }
     ensures capacity { vec_capacity links.new ≡ vec_capacity links.old }
 {
+    // Brings the types within an `OldLink` into this proof; no effect at run time.
+    let none: Option<Link> = None;
+    let _none = none.is_none();
     for member in members {
         links.push_reserved(slots::link_of(canvas.get(member.id)));
     }
