@@ -1,8 +1,9 @@
 -- What operations of a few bytes set, and what events find that are put in front of those that cover them.
-use Rattle.std.proofs.Common.{◌≡◌, Bool, true, false, ◌&&◌, not, cond, List, ℕ, Option, None, Some, refl, ap, ◌∙◌}
-use Rattle.std.specs.Prelude.{is_some, option_map, unwrap_or, if◌then◌else◌}
-use Rattle.gd_base.specs.Stamps.{Stamp}
+use Rattle.std.proofs.Common.{◌≡◌, Bool, true, false, ◌&&◌, cond, List, ℕ, Option, None, Some, refl, sym, ap, ◌∙◌, subst}
+use Rattle.std.specs.Prelude.{option_map, IsTrue}
+use Rattle.gd_base.specs.Stamps.{Stamp, is_same}
 use Rattle.gd_base.specs.declared.style.Style.TheVariants.{Stroke, Fill, Width}
+use Rattle.gd_events.specs.declared.op.Op.TheVariants as op
 use Rattle.gd_events.specs.declared.packed.SmallOp.{SmallOp}
 use Rattle.gd_events.specs.declared.packed.SmallOp.TheVariants.{Move, Resize, Restyle, Ungroup, Raise, Lower}
 use Rattle.gd_events.specs.Packed.{small_op}
@@ -10,14 +11,19 @@ use Rattle.gd_model.specs.declared.before.Before.{Before}
 use Rattle.gd_model.specs.declared.before.Before.TheVariants.{Nothing, Gone}
 use Rattle.gd_model.specs.declared.content.Content.{Content}
 use Rattle.gd_model.specs.declared.content.Content.TheVariants.{ToText}
-use Rattle.gd_model.specs.declared.form.Form.TheVariants.{Sets}
+use Rattle.gd_model.specs.declared.content.Part.TheVariants.{Label}
+use Rattle.gd_model.specs.declared.form.Form.TheVariants.{Sets, Deletes}
 use Rattle.gd_model.specs.declared.object.Object.{Object}
 use Rattle.gd_model.specs.Forms.{form}
-use Rattle.gd_model.specs.Objects.{fits, old, put, set}
+use Rattle.gd_model.specs.Objects.{fits, is_same_part, old, part_of, put, set}
+use Rattle.gd_model.specs.Relations.{covers, covers_by}
 use Rattle.gd_model.specs.Undoing.{before_of, gone, old_in}
-use Rattle.gd_model.specs.Splices.{splice_deleted, splice_twice, splice_made}
+use Rattle.gd_model.specs.Splices.{splice_by, splice_deleted}
+use Rattle.gd_canvas.specs.declared.kept.Kept.{Kept}
+use Rattle.gd_canvas.specs.declared.kept.Kept.TheVariants.{Small, Create, Retext, Delete, Group}
+use Rattle.gd_canvas.specs.declared.small.SmallBefore.{SmallBefore}
 use Rattle.gd_canvas.specs.Found.{unless_label, only_label}
-use Rattle.gd_canvas.specs.Kept.{small_target, small_content, of_made}
+use Rattle.gd_canvas.specs.Kept.{small_target, small_content, is_small, is_retext, op_of}
 
 -- an operation of a few bytes sets its content in its target
 pub small_form : (stamp : Stamp) (op : SmallOp) → form stamp (small_op op) ≡ Sets (small_target op) (small_content stamp op)
@@ -65,21 +71,20 @@ label_found label (Some o) = where_fits only_label refl (fits (ToText label) o.k
 
 pub ruleset finds = (small_found, label_found)
 
--- ---- in front of a delete
+-- ---- in front of an event that covers it
 
--- an event that sets a content finds what it would in the object that is deleted, and leaves it there
-pub set_deleted : (c : Content) (x : Option Object) → ◌≡◌ {A = Before × Before} (splice_deleted c (gone x)) (old_in c x, gone (option_map (set c) x))
-set_deleted c None = refl
-set_deleted c (Some o) = by (fits c o.kind)
+-- an operation of a few bytes finds what it would in the object that is deleted, and leaves its content there
+pub small_deleted : (s : Stamp) (op : SmallOp) (id : Stamp) (x : Option Object)
+    → ◌≡◌ {A = Before × Before} (old_in (small_content s op) x, gone (option_map (set (small_content s op)) x)) (splice_by s (form s (small_op op)) (Deletes id) (gone x))
+small_deleted s op id x = deleted x ∙ ap (λ f. splice_by s f (Deletes id) (gone x)) (sym (small_form s op))
   where
-    by : (b : Bool) → ◌≡◌ {A = Before × Before} (cond b (before_of (old c o), Gone (put c o)) (Nothing, Gone o)) (cond b (before_of (old c o)) Nothing, Gone (cond b (put c o) o))
-    by true = refl
-    by false = refl
+    c : Content
+    c = small_content s op
 
-pub delete_deleted : (x : Option Object) → ◌≡◌ {A = Before × Before} (splice_twice (gone x)) (gone x, Nothing)
-delete_deleted None = refl
-delete_deleted (Some o) = refl
+    by : (o : Object) (b : Bool) → ◌≡◌ {A = Before × Before} (cond b (before_of (old c o)) Nothing, Gone (cond b (put c o) o)) (cond b (before_of (old c o), Gone (put c o)) (Nothing, Gone o))
+    by o true = refl
+    by o false = refl
 
-pub make_deleted : (new : Object) (x : Option Object) → ◌≡◌ {A = Before × Before} (splice_made new (gone x)) (of_made (not (is_some x)), gone (Some (unwrap_or x new)))
-make_deleted new None = refl
-make_deleted new (Some o) = refl
+    deleted : (x : Option Object) → ◌≡◌ {A = Before × Before} (old_in c x, gone (option_map (set c) x)) (splice_deleted c (gone x))
+    deleted None = refl
+    deleted (Some o) = by o (fits c o.kind)
