@@ -15,8 +15,14 @@ use gd_chunks::Chunks;
 use gd_repair::Document;
 use std::alloc::{AllocError, Global};
 
-/// How many entries are not later than the stamp. It looks at the last one first, since most events come in order.
-pub(crate) fn place_of<D: Document>(entries: &Chunks<Entry<D>>, stamp: Stamp) -> usize
+/// How many entries are not later than the stamp. It looks at the last one first, since most events come in order, and then
+/// ever further away from `near`, since most late events come near the one before. Once the place lies between two that it
+/// looked at, it halves what is between them.
+pub(crate) fn place_of<D: Document>(
+    entries: &Chunks<Entry<D>>,
+    stamp: Stamp,
+    near: usize,
+) -> usize
     requires { IsRising (events_of entries.now.items) }
     ensures { IsPlaceOf stamp (events_of entries.now.items) result }
 {
@@ -25,12 +31,38 @@ pub(crate) fn place_of<D: Document>(entries: &Chunks<Entry<D>>, stamp: Stamp) ->
     if high > 0 && !stamp.is_before(entries.get(high - 1).stamp()) {
         return high;
     }
+    let mut guess = near;
+    let mut step: usize = 1;
     while low < high {
-        let middle = low + (high - low) / 2;
+        let middle = pick(low, high, guess);
         let later = stamp.is_before(entries.get(middle).stamp());
         (low, high) = narrowed(low, high, middle, later);
+        guess = further(middle, step, later);
+        step = step.saturating_mul(2);
     }
     low
+}
+
+/// The guess, where it is one of the places that are left, and else the one in their middle.
+fn pick(low: usize, high: usize, guess: usize) -> usize
+    requires { low < high }
+    ensures from { low ≤ result }
+    ensures below { result < high }
+{
+    if low <= guess && guess < high {
+        guess
+    } else {
+        low + (high - low) / 2
+    }
+}
+
+/// A place that many steps in front of where a later entry stands, or behind one that is not later.
+fn further(middle: usize, step: usize, later: bool) -> usize {
+    if later {
+        middle.saturating_sub(step)
+    } else {
+        middle.saturating_add(step)
+    }
 }
 
 /// The half of the places that is left.
@@ -46,11 +78,15 @@ fn narrowed(low: usize, high: usize, middle: usize, later: bool) -> (usize, usiz
 }
 
 /// Whether no entry has the stamp. Of the entries that are not later only the last one can have it.
-pub(crate) fn is_fresh<D: Document>(entries: &Chunks<Entry<D>>, stamp: Stamp) -> bool
+pub(crate) fn is_fresh<D: Document>(
+    entries: &Chunks<Entry<D>>,
+    stamp: Stamp,
+    near: usize,
+) -> bool
     requires { IsRising (events_of entries.now.items) }
     ensures { IsTrue result ↔ HasNone stamp (events_of entries.now.items) }
 {
-    let place = place_of(entries, stamp);
+    let place = place_of(entries, stamp, near);
     if place == 0 {
         return true;
     }
@@ -148,7 +184,7 @@ pub(crate) fn find_dependent<D: Document>(
     let mut at = from;
     let mut reached = rank(floor);
     'stamps: while let Some(next) = next_under::<D>(index, stamp, event, floor) {
-        let place = place_of(entries, next);
+        let place = place_of(entries, next, at);
         if let Some(found) = hit(entries, place, next, stamp, event, &[]) {
             return Some(found);
         }
@@ -190,7 +226,7 @@ pub(crate) fn find_closure<D: Document>(
     let mut at = first + 1;
     let mut reached = rank(floor);
     'stamps: while let Some(next) = next_of(index, &keys, floor) {
-        let place = place_of(entries, next);
+        let place = place_of(entries, next, at);
         let found = hit(entries, place, next, stamp, event, &places);
         take_member(entries, found, &mut places, &mut keys)?;
         floor = next;
