@@ -1,5 +1,5 @@
 -- The keys of an operation: that of its first touch, and those of its members.
-use Rattle.std.proofs.Common.{◌≡◌, ℕ, ◌+◌, ◌-◌, ◌<◌, List, ◌∷◌, map, length, get_or, suc, zero, sym, ap, ◌∙◌, subst, arith}
+use Rattle.std.proofs.Common.{◌≡◌, ℕ, ◌+◌, ◌-◌, ◌<◌, ◌∷◌, map, length, get_or, suc, zero, sym, ap, ◌∙◌, arith}
 use Rattle.std.proofs.lemmas.List.{get_or-map, length-map}
 use Rattle.gd_base.specs.Stamps.{Stamp}
 use Rattle.gd_base.specs.declared.member.Member.{Member}

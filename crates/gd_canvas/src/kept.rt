@@ -11,6 +11,7 @@ use gd_base::{Label, Stamp};
 use gd_events::{NewShape, Op, PackedOp, SmallOp};
 use gd_model::{Before, Object};
 use std::alloc::{AllocError, Global};
+use std::mem::size_of;
 
 /// An operation on a drawing with its before-value, in the memory that both need. That of a before-value is taken when the
 /// operation is kept, so that applying it takes none.
@@ -38,6 +39,9 @@ pub enum Kept {
     },
     Group(Box<Grouping>),
 }
+
+// A history has one for each event.
+const _: () = prove!(size_of::<Kept>() <= 40);
 
 impl Default for Kept {
     /// Some operation of a few bytes, which takes no memory.

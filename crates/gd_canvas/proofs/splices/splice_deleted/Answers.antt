@@ -1,6 +1,5 @@
-use Rattle.std.proofs.Common.{◌≡◌, sym, ap, ◌∙◌}
+use Rattle.std.proofs.Common.{sym, ap, ◌∙◌}
 use Rattle.std.specs.Prelude.{option_map}
-use Rattle.gd_model.specs.declared.before.Before.{Before}
 use Rattle.gd_model.specs.declared.form.Form.TheVariants.{Deletes}
 use Rattle.gd_model.specs.Forms.{form}
 use Rattle.gd_model.specs.Objects as objects
@@ -8,7 +7,7 @@ use Rattle.gd_model.specs.Splices.{splice_by}
 use Rattle.gd_model.specs.Undoing.{gone, old_in}
 use Rattle.gd_canvas.specs.Found.{unless_label}
 use Rattle.gd_canvas.specs.Kept.{op_of}
-use Rattle.gd_canvas.proofs.AimLemmas.{small_found, small_deleted}
+use Rattle.gd_canvas.proofs.KeptLemmas.{small_found, small_deleted}
 use Rattle.gd_canvas.proofs.splices.splice_deleted.Goals as goal
 
 pub returns-in-Small-clause-before : goal.returns-in-Small-clause-before

@@ -1,10 +1,10 @@
-use Rattle.std.proofs.Common.{◌≡◌, ap, ◌∙◌}
+use Rattle.std.proofs.Common.{ap, ◌∙◌}
 use Rattle.gd_model.specs.declared.form.Form.TheVariants.{Deletes}
 use Rattle.gd_model.specs.Objects.{new_shape}
 use Rattle.gd_model.specs.Undoing.{gone, set_back, undone_by}
 use Rattle.gd_canvas.specs.declared.kept.Kept.TheVariants.{Small, Create, Delete}
 use Rattle.gd_canvas.specs.Slots.{board_of}
-use Rattle.gd_canvas.proofs.UndoLemmas.{undone_kept, undone_small}
+use Rattle.gd_canvas.proofs.KeptLemmas.{undone_kept, undone_small}
 use Rattle.gd_canvas.proofs.canvas.Canvas.undo_event.Goals as goal
 
 pub returns-in-Small-clause-board : goal.returns-in-Small-clause-board
