@@ -1,5 +1,5 @@
 -- What a well site holds are the records of a log.
-use Rattle.std.proofs.Common.{◌≡◌, ℕ, suc, ◌+◌, true, List, [], ◌∷◌, ◌++◌, length, None, Ok, refl, sym, ap, ◌∙◌, subst, append_assoc, arith, eq-eqb, le-leb}
+use Rattle.std.proofs.Common.{◌≡◌, ℕ, suc, ◌+◌, Bool, true, List, [], ◌∷◌, ◌++◌, length, None, Ok, refl, sym, ap, ◌∙◌, subst, append_assoc, arith, eq-eqb, le-leb}
 use Rattle.std.proofs.lemmas.Bool.{lt-leb}
 use Rattle.std.proofs.lemmas.List.Sums.{length-filter}
 use Rattle.std.specs.List.{AllByRecursion as Every}
@@ -13,6 +13,7 @@ use Rattle.gd_logs.specs.Written.{AreNext}
 use Rattle.gd_grammar.specs.LogBytes.{count_of, last_clock, turn_fault}
 use Rattle.gd_grammar.specs.Drawings.{drawings, log, logged}
 use Rattle.gd_base.specs.Sites.{is_site}
+use Rattle.gd_options.specs.declared.format.Format.{Format}
 use Rattle.gd_reference.specs.SlowSite.{SlowSite, is_by, journal_header, made_by, resumed}
 use Rattle.gd_reference.specs.SlowRun.{replayed, replayed_as, replay_effects}
 use Rattle.gd_protocol.proofs.Chains.{IsChain-back, last_clock-made_by, made_by-append, made_by-first}
@@ -57,5 +58,6 @@ pub well_begun : (slow : SlowSite) (first rest : List Event) → slow.held ≡ f
 unfolding resumed
 well_begun slow first rest is h = well_journal (resumed slow.me slow.sites slow.session first) (well_front slow first rest is h)
 
-pub well_replayed : (slow : SlowSite) → IsWell slow → replayed (logged (journal_header slow) slow.held) ≡ replay_effects slow.held
-well_replayed slow h = ap (replayed_as (logged (journal_header slow) slow.held)) (well_journal slow h)
+pub well_replayed : (slow : SlowSite) (format : Format) (counts : Bool) → IsWell slow
+    → replayed format counts (logged (journal_header slow) slow.held) ≡ replay_effects format counts slow.held
+well_replayed slow format counts h = ap (replayed_as format counts (logged (journal_header slow) slow.held)) (well_journal slow h)

@@ -7,4 +7,5 @@ pub mod Judging
 pub mod World
 pub mod SiteEffects
 pub mod NodeRun
+pub mod Tally
 pub mod SlowRun

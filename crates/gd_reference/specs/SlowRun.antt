@@ -1,32 +1,51 @@
 -- The reference run: what a command does to the outside, and how it ends, by plain definitions that keep no drawing.
-use Rattle.std.specs.Prelude.{ℕ, List, [], ◌∷◌, ◌++◌, map, Result, Ok, Err, bytes_eq, codes, if◌then◌else◌, Option, Some, None}
+use Rattle.std.specs.Prelude.{ℕ, Bool, true, false, List, [], ◌∷◌, ◌++◌, map, Result, Ok, Err, Option, Some, None}
 use Rattle.gd_events.specs.Events.{Event}
+use Rattle.gd_options.specs.declared.command.Command.{Command}
+use Rattle.gd_options.specs.declared.command.Command.TheVariants.{Replay, Upgrade, Node, Rehearse, Churn}
+use Rattle.gd_options.specs.declared.format.Format.{Format}
+use Rattle.gd_options.specs.declared.format.Format.TheVariants.{Text, Json, Events}
 use Rattle.gd_outside.specs.declared.status.Status.{Status}
 use Rattle.gd_outside.specs.declared.status.Status.TheVariants as status
 use Rattle.gd_grammar.specs.HeaderBytes.{Header, upgraded}
 use Rattle.gd_grammar.specs.LogBytes.{LogMisread, log_pieces}
 use Rattle.gd_grammar.specs.Drawings.{drawings, log}
-use Rattle.gd_model.specs.Drawing.{picture}
-use Rattle.gd_grammar.specs.Reading.{place}
-use Rattle.gd_lines.specs.declared.reply.Reply.TheVariants as reply
-use Rattle.gd_reference.specs.declared.task.Task.{Task}
-use Rattle.gd_reference.specs.declared.task.Task.TheVariants.{Replay, Upgrade}
-use Rattle.gd_reference.specs.DrawingText.{drawing_replies}
-use Rattle.gd_reference.specs.Said.{says, all_said}
 use Rattle.gd_model.specs.Arrivals.{costs}
+use Rattle.gd_model.specs.Drawing.{picture}
+use Rattle.gd_model.specs.Shown.{items}
+use Rattle.gd_grammar.specs.Reading.{place}
+use Rattle.gd_json.specs.PictureJson.{picture_json}
+use Rattle.gd_json.specs.EventsJson.{events_json}
+use Rattle.gd_lines.specs.Replies.{reply_text}
+use Rattle.gd_lines.specs.declared.reply.Reply.TheVariants as reply
+use Rattle.gd_reference.specs.DrawingText.{text}
+use Rattle.gd_reference.specs.Said.{says}
+use Rattle.gd_reference.specs.Tally.{Tally, tally, tally_reply}
 use Rattle.gd_effects.specs.Effects.{Effect, Print, Work}
 
--- the events of a log arrive in its order, and then their drawing is printed
-abbrev pub replay_effects : List Event → List Effect
-replay_effects events = map Work (costs events) ++ all_said (drawing_replies (picture events))
+-- the drawing of the events, as text or as one line of JSON, or the events themselves, as one line of JSON
+abbrev pub lines_as : Format → List Event → List (List ℕ)
+lines_as Text events = text (picture events)
+lines_as Json events = picture_json (items (picture events)) ∷ []
+lines_as Events events = events_json events ∷ []
+
+-- the line of the counts, where they are asked for
+abbrev pub counts_lines : Bool → Tally → List (List ℕ)
+counts_lines false t = []
+counts_lines true t = reply_text (tally_reply t) ∷ []
+
+-- the events of a log arrive in its order; then they are shown, and then it is said how they went, where that is asked for
+abbrev pub replay_effects : Format → Bool → List Event → List Effect
+replay_effects format counts events =
+    map Work (costs events) ++ map Print (lines_as format events) ++ map Print (counts_lines counts (tally events))
 
 -- what `replay` does with bytes that were read so, a log or none
-abbrev pub replayed_as : List ℕ → Result (Header × List Event) LogMisread → List Effect
-replayed_as bytes (Ok found) = replay_effects found.1
-replayed_as bytes (Err fault) = says (reply.BadLog (place bytes fault.left) fault.why) ∷ []
+abbrev pub replayed_as : Format → Bool → List ℕ → Result (Header × List Event) LogMisread → List Effect
+replayed_as format counts bytes (Ok found) = replay_effects format counts found.1
+replayed_as format counts bytes (Err fault) = says (reply.BadLog (place bytes fault.left) fault.why) ∷ []
 
-abbrev pub replayed : List ℕ → List Effect
-replayed bytes = replayed_as bytes (log bytes)
+abbrev pub replayed : Format → Bool → List ℕ → List Effect
+replayed format counts bytes = replayed_as format counts bytes (log bytes)
 
 abbrev pub ended_as : Result (Header × List Event) LogMisread → Status
 ended_as (Ok found) = status.Done
@@ -44,27 +63,21 @@ upgraded_as bytes (Err fault) = says (reply.BadLog (place bytes fault.left) faul
 abbrev pub upgraded_log : List ℕ → List Effect
 upgraded_log bytes = upgraded_as bytes (log bytes)
 
--- the command that the words name, if they name one
-abbrev pub task_of : List (List ℕ) → Option Task
-task_of (word ∷ []) =
-    if bytes_eq word (codes "replay") then Some Replay
-    else if bytes_eq word (codes "upgrade") then Some Upgrade
-    else None
-task_of other = None
+-- What the program is asked to do, where it does it: the commands that are named here aren't built.
+abbrev pub built : Option Command → Option Command
+built (Some (Node session site journal addresses)) = None
+built (Some (Rehearse sites)) = None
+built (Some (Churn seed steps)) = None
+built other = other
 
-abbrev pub effects_of : Option Task → List ℕ → List Effect
-effects_of (Some Replay) input = replayed input
+-- what is done for a command that is built, over this input; where there is none, it is said how the program is called
+abbrev pub effects_of : Option Command → List ℕ → List Effect
+effects_of (Some (Replay format counts)) input = replayed format counts input
 effects_of (Some Upgrade) input = upgraded_log input
-effects_of None input = says reply.Usage ∷ []
-
-abbrev pub end_of : Option Task → List ℕ → Status
-end_of (Some task) input = ended_by input
-end_of None input = status.Usage
-
--- what is done with these words, over this input
-unfoldable pub slow_effects : List (List ℕ) → List ℕ → List Effect
-slow_effects words input = effects_of (task_of words) input
+effects_of other input = says reply.Usage ∷ []
 
 -- and how that ends
-unfoldable pub slow_end : List (List ℕ) → List ℕ → Status
-slow_end words input = end_of (task_of words) input
+abbrev pub end_of : Option Command → List ℕ → Status
+end_of (Some (Replay format counts)) input = ended_by input
+end_of (Some Upgrade) input = ended_by input
+end_of other input = status.Usage
