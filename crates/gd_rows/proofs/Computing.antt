@@ -13,9 +13,11 @@ use Rattle.gd_grammar.specs.FrameBytes.{event_count_at, focus_at, frame, frame_a
 use Rattle.gd_grammar.specs.Kinds as kinds
 use Rattle.gd_grammar.specs.LogBytes.{events_at, log, record_at, step_at, turn_fault}
 use Rattle.gd_grammar.specs.HeaderBytes.{header_at, magic_at, sites_at, version_at}
+use Rattle.gd_json.specs.EventsJson.{event_json, member_json}
+use Rattle.gd_json.specs.PictureJson.{item_json}
 use Rattle.gd_lines.specs.LineWords.{behind, count_from, without_cr, word}
 use Rattle.gd_lines.specs.Lines as lines
-use Rattle.gd_lines.specs.Replies.{applied_line, backdated_line, bad_frame_line, done_line, dropped_line, link_fault_line, noted_line, polled_line, ready_line, refused_line, reworked_line, status_line, status_text, who_line}
+use Rattle.gd_lines.specs.Replies.{applied_line, arrivals_line, backdated_line, bad_frame_line, done_line, dropped_line, link_fault_line, noted_line, polled_line, ready_line, refused_line, reworked_line, status_line, status_text, who_line}
 use Rattle.gd_lines.specs.ScriptLines.{at_at, deliver_at, mail_at, read_script, script_verb, send_at, site_at, site_command_at}
 use Rattle.gd_lines.specs.Text.{bad_log_line, colour_text, colours_text, end_line, head_text, hex_digit, high_digits, id_text, item_line, look_text, nibble, size_text, width_text}
 use Rattle.gd_lines.specs.WordKinds.{colour, digit, fill, focus, id, kind, label, name, natural_in, number, number_in, numeral}
@@ -26,8 +28,8 @@ use Rattle.gd_reference.specs.NodeRun.{answers, of_received, received, who_behin
 use Rattle.gd_reference.specs.Offers.{all_arrived, frame_for, offered, offers, refusal, take_frame}
 use Rattle.gd_reference.specs.PerSite.{least_of_others, put}
 use Rattle.gd_reference.specs.SiteEffects.{events_replies, of_events, tries_behind}
-use Rattle.gd_reference.specs.SlowRun.{slow_effects, slow_end}
 use Rattle.gd_reference.specs.SlowSite.{greatest_clock, made_by, resumed}
+use Rattle.gd_reference.specs.Tally.{tally_from}
 use Rattle.gd_reference.specs.World.{after_from, after_line, happens, with_site}
 
 -- events, logs and frames
@@ -37,12 +39,12 @@ bytes_compute = tt
 
 -- lines that are typed, and lines that are printed
 unfoldable pub lines_compute : ⊤
-unfolding chars is_utf8 encode_utf8 digits behind count_from without_cr word lines.colour_at lines.create_at lines.delete_at lines.fill_at lines.focus_at lines.group_at lines.id_at lines.ids_at lines.kind_at lines.label_at lines.lower_at lines.move_at lines.name_at lines.natural_at lines.place_at lines.raise_at lines.read lines.refill_at lines.resize_at lines.rewidth_at lines.size_at lines.stroke_at lines.text_at lines.ungroup_at lines.verb lines.width_at at_at deliver_at mail_at read_script script_verb send_at site_at site_command_at applied_line backdated_line bad_frame_line done_line dropped_line link_fault_line noted_line polled_line ready_line refused_line reworked_line status_line status_text who_line bad_log_line colour_text colours_text end_line head_text hex_digit high_digits id_text item_line look_text nibble size_text width_text colour digit fill focus id kind label name natural_in number number_in numeral
+unfolding chars is_utf8 encode_utf8 digits behind count_from without_cr word lines.colour_at lines.create_at lines.delete_at lines.fill_at lines.focus_at lines.group_at lines.id_at lines.ids_at lines.kind_at lines.label_at lines.lower_at lines.move_at lines.name_at lines.natural_at lines.place_at lines.raise_at lines.read lines.refill_at lines.resize_at lines.rewidth_at lines.size_at lines.stroke_at lines.text_at lines.ungroup_at lines.verb lines.width_at event_json item_json member_json at_at deliver_at mail_at read_script script_verb send_at site_at site_command_at applied_line arrivals_line backdated_line bad_frame_line done_line dropped_line link_fault_line noted_line polled_line ready_line refused_line reworked_line status_line status_text who_line bad_log_line colour_text colours_text end_line head_text hex_digit high_digits id_text item_line look_text nibble size_text width_text colour digit fill focus id kind label name natural_in number number_in numeral
 lines_compute = tt
 
 -- drawings, sites, worlds and runs
 unfoldable pub sites_compute : ⊤
-unfolding stamp_cmp inserted_by covers independent splice are_apart by_id edit judged targets answers of_received received who_behind all_arrived frame_for offered offers refusal take_frame least_of_others put events_replies of_events tries_behind slow_effects slow_end greatest_clock made_by resumed after_from after_line happens with_site
+unfolding stamp_cmp inserted_by covers independent splice are_apart by_id edit judged targets answers of_received received who_behind all_arrived frame_for offered offers refusal take_frame least_of_others put events_replies of_events tries_behind greatest_clock made_by resumed tally_from after_from after_line happens with_site
 sites_compute = tt
 
 unfoldable pub computing : ⊤

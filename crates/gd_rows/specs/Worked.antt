@@ -1,5 +1,5 @@
 -- Worked rows: logs of a few events, byte by byte, and what is printed of them.
-use Rattle.std.specs.Prelude.{ℕ, ℤ, pos, negsuc, List, [], ◌∷◌, ◌++◌, map, take, set, codes, Some, None}
+use Rattle.std.specs.Prelude.{ℕ, ℤ, pos, negsuc, Bool, false, Option, List, [], ◌∷◌, ◌++◌, map, take, set, codes, Some, None}
 use Rattle.gd_base.specs.Stamps.{Stamp}
 use Rattle.gd_base.specs.declared.member.Member.{Member}
 use Rattle.gd_base.specs.declared.shape.Shape.TheVariants.{Rect, Ellipse}
@@ -16,6 +16,11 @@ use Rattle.gd_grammar.specs.FrameBytes.{Frame, Misread}
 use Rattle.gd_grammar.specs.HeaderBytes.{Header}
 use Rattle.gd_grammar.specs.LogBytes.{LogMisread}
 use Rattle.gd_effects.specs.Effects.{Effect, Print, Work}
+use Rattle.gd_options.specs.declared.command.Command.{Command}
+use Rattle.gd_options.specs.declared.command.Command.TheVariants.{Replay, Rehearse}
+use Rattle.gd_options.specs.declared.format.Format.{Format}
+use Rattle.gd_options.specs.declared.format.Format.TheVariants.{Text}
+use Rattle.gd_reference.specs.Tally.{Tally}
 
 abbrev pub at_stamp : ℕ → ℕ → Stamp
 at_stamp clock site = record { clock = clock; site = site }
@@ -239,11 +244,21 @@ end_alone = codes "end 0\n" ∷ []
 abbrev pub cut_text : List (List ℕ)
 cut_text = codes "bad log at 32: Short\n" ∷ []
 
-abbrev pub replay_words : List (List ℕ)
-replay_words = codes "replay" ∷ []
+abbrev pub replays : Format → Bool → Option Command
+replays format counts = Some (Replay format counts)
 
-abbrev pub other_words : List (List ℕ)
-other_words = codes "paint" ∷ []
+-- a replay as text, without counts
+abbrev pub replay : Option Command
+replay = replays Text false
+
+abbrev pub rehearsal : Option Command
+rehearsal = Some (Rehearse 2)
+
+abbrev pub counted : ℕ → ℕ → ℕ → ℕ → Tally
+counted a d r u = record { applied = a; dropped = d; reworked = r; undone = u }
+
+abbrev pub tie_counts : List ℕ
+tie_counts = codes "arrivals applied 2 dropped 0 reworked 0 undone 0\n"
 
 abbrev pub prints_of : List (List ℕ) → List Effect
 prints_of lines = map Print lines

@@ -2,7 +2,7 @@
 #![tactic(auto, unfolding(crate::proofs::Computing::computing))]
 
 ghost use Rattle.std.specs.List.{AllByRecursion};
-ghost use Rattle.std.specs.Prelude.{◌≡◌, ◌++◌, ◌∷◌, [], Ok, Err, pos, take};
+ghost use Rattle.std.specs.Prelude.{◌≡◌, ◌++◌, ◌∷◌, [], None, Ok, Err, false, true, length, pos, take};
 ghost use Rattle.gd_outside.specs.declared.status.Status.TheVariants as status;
 ghost use Rattle.gd_model.specs.declared.before.Before.TheVariants.{Place};
 ghost use Rattle.gd_repair.specs.Repair.Outcome.{applied, dropped, reworked};
@@ -12,35 +12,47 @@ ghost use Rattle.gd_model.specs.Drawing.{picture};
 ghost use Rattle.gd_model.specs.Splices.{splice};
 ghost use Rattle.gd_model.specs.Arrivals.{drawn, all_drawn, outcome_of, costs};
 ghost use Rattle.gd_reference.specs.DrawingText.{text};
-ghost use Rattle.gd_reference.specs.SlowRun.{slow_effects, slow_end};
+ghost use Rattle.gd_reference.specs.SlowRun.{built, effects_of, end_of};
+ghost use Rattle.gd_reference.specs.Tally.{tally};
+ghost use Rattle.gd_json.specs.Worked.{tie_picture_json, tie_events_json};
+ghost use Rattle.gd_options.specs.declared.format.Format.TheVariants.{Json, Events};
 ghost use Rattle.gd_lines.specs.Replies.{usage_line};
-ghost use Rattle.gd_rows.specs.Worked.{header, header_two, header_bytes, empty_log, tie_log, tie_events, tie_text, rank_events, ellipse_lowered, rank_text, effect_before_cause, end_alone, replay_words, other_words, prints_of, works_of, cut_text, moved_log, moved_events, moved_text, styled_log, styled_events, styled_text, grouped_log, grouped_events, regrouped_events, regrouped_text, nested_events, nested_text, frame_row, frame_value, at_stamp, moves_held, late_move, late_delete, tied_held, late_group, undone_by_the_group, log_faults, lowered_log, lowered_events, frame_faults, last_move};
+ghost use Rattle.gd_rows.specs.Worked.{header, header_two, header_bytes, empty_log, tie_log, tie_events, tie_text, rank_events, ellipse_lowered, rank_text, effect_before_cause, end_alone, replay, replays, rehearsal, counted, tie_counts, prints_of, works_of, cut_text, moved_log, moved_events, moved_text, styled_log, styled_events, styled_text, grouped_log, grouped_events, regrouped_events, regrouped_text, nested_events, nested_text, frame_row, frame_value, at_stamp, moves_held, late_move, late_delete, tied_held, late_group, undone_by_the_group, log_faults, lowered_log, lowered_events, frame_faults, last_move};
 
 /// A log without events prints no object, with its closed gate and without.
 pub fn an_empty_log_prints_its_end()
-    ensures gate { slow_effects replay_words empty_log ≡ prints_of end_alone }
-    ensures no_gate { slow_effects replay_words header_bytes ≡ prints_of end_alone }
+    ensures gate { effects_of replay empty_log ≡ prints_of end_alone }
+    ensures no_gate { effects_of replay header_bytes ≡ prints_of end_alone }
 {}
 
 /// Events of one clock are ordered by their sites.
 pub fn a_tie_of_clocks_goes_by_sites()
     ensures read { log tie_log ≡ Ok (header, tie_events) }
-    ensures printed { slow_effects replay_words tie_log
+    ensures printed { effects_of replay tie_log
         ≡ works_of (1 ∷ 1 ∷ []) ++ prints_of tie_text }
-    ensures end { slow_end replay_words tie_log ≡ status.Done }
+    ensures end { end_of replay tie_log ≡ status.Done }
+{}
+
+/// The same as one line of JSON, of the drawing and of the events, and then with the line of the counts.
+pub fn a_tie_as_json()
+    ensures picture { effects_of (replays Json false) tie_log
+        ≡ works_of (1 ∷ 1 ∷ []) ++ prints_of (tie_picture_json ∷ []) }
+    ensures events { effects_of (replays Events true) tie_log
+        ≡ works_of (1 ∷ 1 ∷ []) ++ prints_of (tie_events_json ∷ tie_counts ∷ []) }
+    ensures end { end_of (replays Events true) tie_log ≡ status.Done }
 {}
 
 /// A move puts an object at another place, and a label is printed behind all else.
 pub fn a_move_and_a_label_are_shown()
     ensures read { log moved_log ≡ Ok (header, moved_events) }
-    ensures printed { slow_effects replay_words moved_log
+    ensures printed { effects_of replay moved_log
         ≡ works_of (1 ∷ 1 ∷ []) ++ prints_of moved_text }
 {}
 
 /// A size, both colours, the width and a label are those that were set last, and what is set of no object changes nothing.
 pub fn a_look_is_set()
     ensures read { log styled_log ≡ Ok (header, styled_events) }
-    ensures printed { slow_effects replay_words styled_log
+    ensures printed { effects_of replay styled_log
         ≡ works_of (1 ∷ 1 ∷ 1 ∷ 1 ∷ 1 ∷ 1 ∷ 1 ∷ []) ++ prints_of styled_text }
 {}
 
@@ -85,6 +97,15 @@ pub fn a_late_event_is_dropped_or_has_others_redone()
     ensures steps { costs (moves_held ++ late_move ∷ late_delete ∷ []) ≡ 1 ∷ 1 ∷ 1 ∷ 0 ∷ 3 ∷ [] }
 {}
 
+/// How many were applied, dropped and reworked, and how many others were undone.
+pub fn arrivals_are_counted()
+    ensures none { tally [] ≡ counted 0 0 0 0 }
+    ensures late { tally (moves_held ++ late_move ∷ late_delete ∷ []) ≡ counted 3 1 1 1 }
+    ensures group { tally (tied_held ++ late_group ∷ []) ≡ counted (length tied_held) 0 1 2 }
+    ensures ranks { tally rank_events ≡ counted 4 0 0 0 }
+    ensures before_its_cause { tally effect_before_cause ≡ counted 1 1 0 0 }
+{}
+
 /// Where a move is dropped, its before-value is that of the move that drops it, which now finds the place that the dropped one sets.
 pub fn a_dropped_event_is_spliced_in()
     ensures { splice (at_stamp 2 2) late_move.op (at_stamp 3 1) last_move.op
@@ -110,16 +131,17 @@ pub fn a_fault_has_its_place()
 
 /// Bytes that are no log are refused with the place and the reason of the first fault.
 pub fn what_is_no_log_is_refused()
-    ensures printed { slow_effects replay_words (take 32 tie_log) ≡ prints_of cut_text }
-    ensures end { slow_end replay_words (take 32 tie_log) ≡ status.BadLog }
+    ensures printed { effects_of replay (take 32 tie_log) ≡ prints_of cut_text }
+    ensures end { end_of replay (take 32 tie_log) ≡ status.BadLog }
 {}
 
-/// Words that name no command are refused, whatever the input is.
-pub fn other_words_are_refused()
-    ensures printed { slow_effects other_words tie_log ≡ prints_of (usage_line ∷ []) }
-    ensures end { slow_end other_words tie_log ≡ status.Usage }
-    ensures none { slow_end [] tie_log ≡ status.Usage }
-    ensures twice { slow_end (replay_words ++ replay_words) tie_log ≡ status.Usage }
+/// Where there is no command, it is said how the program is called, whatever the input is. So it is where the command isn't
+/// built.
+pub fn what_is_no_command_is_refused()
+    ensures printed { effects_of None tie_log ≡ prints_of (usage_line ∷ []) }
+    ensures end { end_of None tie_log ≡ status.Usage }
+    ensures unbuilt { built rehearsal ≡ None }
+    ensures built { built replay ≡ replay }
 {}
 
 /// A frame is read from its bytes, and written as them.
