@@ -4,14 +4,15 @@ use Rattle.std.proofs.lemmas.List.{append-nil, length-map}
 use Rattle.gd_base.specs.declared.ranges.TheConstants.{SESSION_EVENTS}
 use Rattle.gd_events.specs.Events.{Event}
 use Rattle.gd_repair.specs.Repair.{Stamped, outcome, outcome_by, closure_from, closure, is_free}
-use Rattle.gd_repair.specs.Repair.Outcome.{dropped, reworked}
+use Rattle.gd_repair.specs.Repair.{Outcome}
+use Rattle.gd_repair.specs.Repair.Outcome.{applied, dropped, reworked}
 use Rattle.gd_history.specs.Entries.{stamp_of}
 use Rattle.gd_history.specs.Histories.{arrival_of}
 use Rattle.gd_history.specs.declared.arrival.Arrival.{Arrival}
 use Rattle.gd_history.specs.declared.arrival.Arrival.TheVariants.{Applied, Dropped, Reworked}
 use Rattle.gd_model.specs.Arrivals.{outcome_of}
-use Rattle.gd_log.specs.declared.tally.Tally.{Tally}
-use Rattle.gd_log.specs.Arriving.{no_tally, undone_in, tallied, tally_from, tally}
+use Rattle.gd_reference.specs.Tally.{Tally, no_tally, tallied, tally_from, tally}
+use Rattle.gd_log.specs.Arriving.{counted, undone_in}
 
 -- ---- no more is undone than stands behind
 
@@ -39,12 +40,12 @@ module _ {O : Type 0} (independent covers : Stamped O → Stamped O → Bool) (e
 
 -- ---- one event more
 
-tally-push : (t : Tally) (held es : List Event) (e : Event) → tally_from t held (es ++ e ∷ []) ≡ tallied (tally_from t held es) (arrival_of (outcome_of (held ++ es) e))
+tally-push : (t : Tally) (held es : List Event) (e : Event) → tally_from t held (es ++ e ∷ []) ≡ tallied (tally_from t held es) (outcome_of (held ++ es) e)
 unfolding tally_from
-tally-push t held [] e = ap (λ h. tallied t (arrival_of (outcome_of h e))) (sym (append-nil held))
+tally-push t held [] e = ap (λ h. tallied t (outcome_of h e)) (sym (append-nil held))
 tally-push t held (f ∷ fs) e =
-    tally-push (tallied t (arrival_of (outcome_of held f))) (held ++ f ∷ []) fs e
-    ∙ ap (λ h. tallied (tally_from (tallied t (arrival_of (outcome_of held f))) (held ++ f ∷ []) fs) (arrival_of (outcome_of h e))) (append_assoc held (f ∷ []) fs)
+    tally-push (tallied t (outcome_of held f)) (held ++ f ∷ []) fs e
+    ∙ ap (λ h. tallied (tally_from (tallied t (outcome_of held f)) (held ++ f ∷ []) fs) (outcome_of h e)) (append_assoc held (f ∷ []) fs)
 
 -- what came of these events, all of them counted, with no more undone than can be
 pub record Tallied (done : List Event) (t : Tally) : Type 0 where
@@ -56,20 +57,26 @@ pub tallied_none : Tallied [] no_tally
 unfolding tally_from
 tallied_none = record { is = refl; counted = omega arith; undone = omega arith }
 
-counts-one : (t : Tally) (a : Arrival) → (tallied t a).applied + (tallied t a).dropped + (tallied t a).reworked ≡ t.applied + t.dropped + t.reworked + 1
+-- an arrival is counted as the outcome that it tells
+counted-outcome : {O : Type 0} (t : Tally) (o : Outcome (Stamped O)) → counted t (arrival_of o) ≡ tallied t o
+counted-outcome t applied = refl
+counted-outcome t (dropped c) = refl
+counted-outcome t (reworked cs) = ap (λ (n : ℕ). record t { reworked = t.reworked + 1; undone = t.undone + n }) (length-map cs stamp_of)
+
+counts-one : (t : Tally) (a : Arrival) → (counted t a).applied + (counted t a).dropped + (counted t a).reworked ≡ t.applied + t.dropped + t.reworked + 1
 counts-one t Applied = omega arith
 counts-one t (Dropped by) = omega arith
 counts-one t (Reworked undone) = omega arith
 
-undoes-one : (t : Tally) (a : Arrival) → (tallied t a).undone ≡ t.undone + undone_in a
+undoes-one : (t : Tally) (a : Arrival) → (counted t a).undone ≡ t.undone + undone_in a
 undoes-one t Applied = omega arith
 undoes-one t (Dropped by) = omega arith
 undoes-one t (Reworked undone) = refl
 
 pub tallied_more : (done : List Event) (t new : Tally) (e : Event) (a : Arrival) → Tallied done t → a ≡ arrival_of (outcome_of done e) → undone_in a ≤ SESSION_EVENTS
-    → new ≡ tallied t a → length (done ++ e ∷ []) ≡ length done + 1 → Tallied (done ++ e ∷ []) new
+    → new ≡ counted t a → length (done ++ e ∷ []) ≡ length done + 1 → Tallied (done ++ e ∷ []) new
 tallied_more done t new e a h is most one long = record {
-  is = one ∙ (λ i. tallied (h.is i) (is i)) ∙ sym (tally-push no_tally [] done e);
+  is = one ∙ (λ i. counted (h.is i) (is i)) ∙ counted-outcome (tally done) (outcome_of done e) ∙ sym (tally-push no_tally [] done e);
   counted = omega (arith, ap (λ (x : Tally). x.applied + x.dropped + x.reworked) one, counts-one t a, h.counted, long);
   undone = omega (arith, ap (λ (x : Tally). x.undone) one, undoes-one t a, h.undone, most, long);
 }
