@@ -6,10 +6,10 @@ ghost use Rattle.std.specs.Process.{exit_status};
 ghost use Rattle.gd_outside.specs.Causes.{Rose};
 ghost use Rattle.gd_outside.specs.Statuses.{status_number};
 ghost use Rattle.gd_outside.specs.Told.{told};
-ghost use Rattle.gd_reference.specs.SlowRun.{task_of, slow_end};
 ghost use Rattle.groupdesign.specs.Exits.{words_status};
-ghost use Rattle.groupdesign.specs.Runs.{IsRunTold};
+ghost use Rattle.groupdesign.specs.Runs.{IsRunTold, asked_of, slow_end};
 
+mod laws;
 mod running;
 mod standard;
 #[cfg(test)]
@@ -61,9 +61,10 @@ fn ended<S: Source, K: Sink, L: Ledger>(
         → ¬ Rose (K.seen output.old).faults (K.seen output.new).faults
         → (exit_status result ≡ status_number (slow_end words.now (told (S.seen input.old).left)))
         ⊎ (exit_status result ≡ status_number Status.NoMemory) }
-    ensures usage { task_of words.now ≡ None
-        → (exit_status result ≡ status_number Status.Usage) ⊎
-        (exit_status result ≡ status_number Status.WriteFault) }
+    ensures usage { asked_of words.now ≡ None
+        → (exit_status result ≡ status_number Status.Usage)
+        ⊎ ((exit_status result ≡ status_number Status.WriteFault)
+        ⊎ (exit_status result ≡ status_number Status.NoMemory)) }
 {
     exit(run(alloc, words, input, output, steps))
 }

@@ -1,30 +1,32 @@
-//! `run`: carries out the command that the words name, over any source and sink.
+//! `run`: carries out the command that the words ask for, over any source and sink.
 
-ghost use Rattle.std.specs.Prelude.{◌≡◌, ◌≤◌, ◌+◌, [], ◌∷◌, ◌⊎◌, None, Err};
+ghost use Rattle.std.specs.Prelude.{◌≡◌, ◌≤◌, ◌+◌, [], ◌∷◌, ◌⊎◌, Some, None, Err, IsSome};
 ghost use Rattle.gd_outside.specs.Causes.{Rose};
 ghost use Rattle.gd_outside.specs.Seen.{SeenJournal, SeenLink};
 ghost use Rattle.gd_outside.specs.Told.{told};
 ghost use Rattle.gd_effects.specs.Effects.{Print, cost};
-ghost use Rattle.gd_reference.specs.SlowRun.{task_of, slow_effects, slow_end};
+ghost use Rattle.gd_commands.specs.Plain.{IsPlain, Plain, plain_command, plain_words};
+ghost use Rattle.gd_reference.specs.SlowRun.{built, effects_of, end_of};
 ghost use Rattle.gd_lines.specs.Replies.{usage_line};
 ghost use Rattle.gd_effects.specs.Outside.{outside};
 ghost use Rattle.gd_effects.specs.Prints.{Prints};
 ghost use Rattle.gd_effects.specs.Endings.{EndsAs, IsUncut, no_effects};
-ghost use Rattle.groupdesign.specs.Runs.{IsRunEnd, IsRunTold};
+ghost use Rattle.groupdesign.specs.Runs.{IsRunEnd, IsRunTold, IsToldFor, asked_of, slow_effects, slow_end};
 
 use gd_base::Steps;
+use gd_commands::{Command, CommandFault, read_command};
 use gd_effects::{print, status_of};
 use gd_log::{replay, upgrade};
 use gd_outside::{End, Sink, Source, Status, WordList};
-use gd_reference::Task;
 use gd_words::{AsText, Reply};
 use std::alloc::Global;
 use std::sync::ledger::Ledger;
 
-/// Carries out the command that the words name: `replay` or `upgrade`.
+/// Carries out the command that the words ask for: `replay` or `upgrade`, the ones that are built.
 ///
-/// `Usage` after the usage line, where the words aren't one of these words alone; else what the command returns. In `replay`
-/// the steps rise by what the late and other arrivals of a log cost.
+/// `Usage` after the usage line, where the words ask for none of these; `NoMemory` with nothing printed, where memory ran out
+/// before they were read; else what the command returns. In `replay` the steps rise by what the late and other arrivals of a
+/// log cost.
 pub fn run<S: Source, K: Sink, L: Ledger>(
     alloc: Global,
     words: &WordList,
@@ -55,39 +57,56 @@ pub fn run<S: Source, K: Sink, L: Ledger>(
         → steps.new ≡ steps.old + cost (slow_effects words.now (told (S.seen input.old).left)) }
     ensures most_steps { IsRunTold words.now (S.seen input.new)
         → steps.new ≤ steps.old + cost (slow_effects words.now (told (S.seen input.old).left)) }
-    // Words that name no command are refused, and only these; then the input isn't touched, and no step is taken.
-    ensures usage { task_of words.now ≡ None
+    // Words that ask for no command that is built are refused, and only these, unless memory runs out; then the input isn't
+    // touched, and no step is taken.
+    ensures usage { asked_of words.now ≡ None
+        → (result ≡ Status.Usage) ⊎ ((result ≡ Status.WriteFault) ⊎ (result ≡ Status.NoMemory)) }
+    ensures usage_only { result ≡ Status.Usage → asked_of words.now ≡ None }
+    ensures untouched { asked_of words.now ≡ None → S.seen input.new ≡ S.seen input.old }
+    ensures idle { asked_of words.now ≡ None → steps.new ≡ steps.old }
+    // Words in the plain form of a command that is built are taken.
+    ensures plain { (plain : Plain) → IsPlain plain → words.now ≡ plain_words plain
+        → IsSome (built (Some (plain_command plain))) → ¬ (result ≡ Status.Usage) }
+{
+    match read_command(alloc, words) {
+        Ok(command) => carry_out(alloc, &command, input, output, steps),
+        Err(CommandFault::Usage) => status_of(refuse_words(output), Status::Usage),
+        Err(CommandFault::NoMemory) => Status::NoMemory,
+    }
+}
+
+/// Carries out the command, if it is built.
+fn carry_out<S: Source, K: Sink, L: Ledger>(
+    alloc: Global,
+    command: &Command,
+    input: &mut S,
+    output: &mut K,
+    steps: &mut Steps<L>,
+) -> Status
+    ensures ends { (journal : SeenJournal) (link : SeenLink)
+        → EndsAs (IsToldFor (built (Some command.now)) (S.seen input.new))
+        (effects_of (built (Some command.now)) (told (S.seen input.old).left)) no_effects
+        (end_of (built (Some command.now)) (told (S.seen input.old).left)) result
+        (outside (S.seen input.old) (K.seen output.old) journal link steps.old)
+        (outside (S.seen input.new) (K.seen output.new) journal link steps.new) }
+    ensures kinds { IsRunEnd result }
+    ensures silent { (result ≡ Status.ReadFault) ⊎ (result ≡ Status.NoMemory)
+        → K.seen output.new ≡ K.seen output.old }
+    ensures unread { result ≡ Status.ReadFault → steps.new ≡ steps.old }
+    ensures usage { built (Some command.now) ≡ None
         → (result ≡ Status.Usage) ⊎ (result ≡ Status.WriteFault) }
-    ensures usage_only { result ≡ Status.Usage → task_of words.now ≡ None }
-    ensures untouched { task_of words.now ≡ None → S.seen input.new ≡ S.seen input.old }
-    ensures idle { task_of words.now ≡ None → steps.new ≡ steps.old }
+    ensures usage_only { result ≡ Status.Usage → built (Some command.now) ≡ None }
+    ensures untouched { built (Some command.now) ≡ None → S.seen input.new ≡ S.seen input.old }
+    ensures idle { built (Some command.now) ≡ None → steps.new ≡ steps.old }
 {
-    match task_of(words) {
-        Some(Task::Replay) => replay(alloc, input, output, steps),
-        Some(Task::Upgrade) => upgrade(alloc, input, output),
-        None => status_of(refuse_words(output), Status::Usage),
-    }
-}
-
-/// The command that the words name, if they name one.
-fn task_of(words: &WordList) -> Option<Task>
-    ensures { result ≡ task_of words.now }
-{
-    match words.as_slice() {
-        [word] => task_named(word.as_str()),
-        _ => None,
-    }
-}
-
-fn task_named(word: &str) -> Option<Task>
-    ensures { result ≡ task_of (word.now ∷ []) }
-{
-    if word == "replay" {
-        Some(Task::Replay)
-    } else if word == "upgrade" {
-        Some(Task::Upgrade)
-    } else {
-        None
+    match command {
+        Command::Replay { format, counts } => {
+            replay(alloc, input, output, *format, *counts, steps)
+        }
+        Command::Upgrade => upgrade(alloc, input, output),
+        Command::Node { .. } | Command::Rehearse { .. } | Command::Churn { .. } => {
+            status_of(refuse_words(output), Status::Usage)
+        }
     }
 }
 
