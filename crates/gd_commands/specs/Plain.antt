@@ -1,5 +1,5 @@
--- Words in the plain form, which are always taken: the options in the order of the table, each as `--x V`, and then the
--- addresses.
+-- Words in the plain form, which are always taken: the options and flags in the order of the table, an option as `--x V` and
+-- a flag as `--x`, and then the addresses.
 use Rattle.std.specs.Prelude.{◌≡◌, ◌≢◌, ◌≤◌, ◌-◌, ◌^◌, ℕ, Bool, true, false, List, [], ◌∷◌, ◌++◌, Option, Some, None, codes, length}
 use Rattle.std.specs.Str.Parse.{digits_value}
 use Rattle.clap.specs.Words.{Text}

@@ -23,7 +23,11 @@ impl Model for Tally {
     ghost Value = { Tally };
 
     ghost view = { λ t. record {
-        applied = t.applied; dropped = t.dropped; reworked = t.reworked; undone = t.undone } };
+      applied = t.applied;
+      dropped = t.dropped;
+      reworked = t.reworked;
+      undone = t.undone;
+    } };
 }
 
 impl Tally {

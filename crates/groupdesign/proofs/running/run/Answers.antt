@@ -1,7 +1,7 @@
 use Rattle.std.proofs.Common.{◌≡◌, sym, ap, ◌∙◌, arith}
 use Rattle.std.specs.Prelude.{None, Err}
 use Rattle.gd_outside.specs.Told.{told}
-use Rattle.gd_outside.specs.declared.status.Status.TheVariants.{NoMemory, Usage}
+use Rattle.gd_outside.specs.declared.status.Status.TheVariants.{Usage}
 use Rattle.gd_commands.specs.Commands.{command_of}
 use Rattle.gd_effects.specs.Endings.{no_effects}
 use Rattle.gd_effects.proofs.RunEnds.{ends_printed, ends_when, completes, ends_steps, ends_most, idle_journal, idle_link}
