@@ -10,6 +10,7 @@ mod cuts;
 mod deep;
 mod documents;
 mod faults;
+mod formats;
 mod groups;
 mod ids;
 mod labels;
@@ -18,6 +19,7 @@ mod pairs;
 mod rows;
 mod standard;
 mod texts;
+mod usage;
 mod versions;
 
 use crate::running::run;

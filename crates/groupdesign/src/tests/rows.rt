@@ -2,10 +2,10 @@ use super::{TIE, TIE_TEXT, bad_log, ran_over};
 use gd_outside::Status;
 use std::test::Fail;
 
-const EMPTY: [u8; 12] = [b'G', b'D', b'O', b'L', 1, 0, 0, 0, 7, 1, 2, 0];
+pub const EMPTY: [u8; 12] = [b'G', b'D', b'O', b'L', 1, 0, 0, 0, 7, 1, 2, 0];
 
 // A rect, an ellipse, a raise of the rect at clock 5, and behind it one of the ellipse at clock 4.
-const RANKS: [u8; 106] = [
+pub const RANKS: [u8; 106] = [
     b'G', b'D', b'O', b'L', 1, 0, 0, 0, 7, 1, 2, 0xC3, 0, 0, 0, 0, 0, 1, 1, 0, 1, 1, 1, 0, 0, 0, 0,
     0, 0, 0, 0, 0, 0, 0, 10, 0, 0, 0, 10, 0, 0xC3, 0, 0, 0, 0, 0, 2, 1, 0, 2, 1, 2, 0, 0, 0, 0, 0,
     0, 0, 0, 0, 0, 0, 20, 0, 0, 0, 20, 0, 0xC3, 0, 0, 0, 0, 0, 5, 1, 0, 3, 9, 0, 0, 0, 0, 0, 1, 1,
@@ -13,7 +13,7 @@ const RANKS: [u8; 106] = [
 ];
 
 // A delete at clock 3, and behind it the create of its object at clock 1.
-const EFFECT_FIRST: [u8; 59] = [
+pub const EFFECT_FIRST: [u8; 59] = [
     b'G', b'D', b'O', b'L', 1, 0, 0, 0, 7, 1, 2, 0xC3, 0, 0, 0, 0, 0, 3, 2, 0, 1, 2, 0, 0, 0, 0, 0,
     1, 1, 0xC3, 0, 0, 0, 0, 0, 1, 1, 0, 1, 1, 1, 0, 0, 0, 0, 0, 0, 0, 0, 0, 0, 0, 10, 0, 0, 0, 10,
     0, 0,
@@ -30,7 +30,7 @@ const LOOK: [u8; 183] = [
     0, 7, 1, 0, 7, 5, 0, 0, 0, 0, 0, 1, 2, 2, 0xFF, 0xFF, 0xFF, 0xFF, 0,
 ];
 
-const RANKS_TEXT: &str =
+pub const RANKS_TEXT: &str =
     "ellipse 2.1 in - at 0 0 size 20 20 stroke 000000 fill none width 1\nrect 1.1 in - at 0 0 size 10 10 stroke 000000 fill none width 1\nend 2\n";
 
 const LOOK_TEXT: &str =
@@ -171,26 +171,5 @@ fn what_follows_the_closed_gate_is_left(rt: HostRuntime) -> Result<(), Fail> {
     let (status, output) = ran_over(rt.alloc(), &["replay"], &bytes)?;
     assert_eq!(rt; status, Status::Done);
     assert_eq!(rt; output.bytes(), b"end 0\n".as_slice());
-    Ok(())
-}
-
-#[test]
-fn words_that_name_no_command_are_refused(rt: HostRuntime) -> Result<(), Fail> {
-    let words: [&[&str]; 6] = [
-        &[],
-        &["paint"],
-        &["replay", "replay"],
-        &["Replay"],
-        &["upgrade", "replay"],
-        &["upgrades"],
-    ];
-    for texts in words {
-        let (status, output) = ran_over(rt.alloc(), texts, &TIE)?;
-        assert_eq!(rt; status.number(), 2);
-        assert_eq!(rt;
-            output.bytes(),
-            b"usage: groupdesign COMMAND OPTIONS\n".as_slice()
-        );
-    }
     Ok(())
 }
