@@ -184,6 +184,20 @@ LOWERED = log(7, 1, 2, [
 ], version=2)
 
 
+# Site 2 comes late. Its fill is covered by a later one, and its group takes 2.1 before 4.1 does.
+LATE_GROUP = log(7, 1, 2, [
+    (1, 1, create(RECT, 0, 0, 10, 10, 'The "A"')),
+    (2, 1, create(RECT, 20, 0, 10, 10)),
+    (3, 1, raise_up(1, 1)),
+    (4, 1, group((1, 1), (2, 1))),
+    (5, 1, move(4, 1, 5, 5)),
+    (6, 1, restyle(1, 1, FILL, 0xFFCC00)),
+    (1, 2, create(ELLIPSE, 40, 0, 10, 10, "C:\\Café")),
+    (2, 2, restyle(1, 1, FILL, 0x336699)),
+    (3, 2, group((1, 2), (2, 1))),
+])
+
+
 def stored_run():
     """A log that takes more than one read of 64 KiB, and ends with the last byte of its last event and no closed gate.
 
@@ -211,6 +225,7 @@ EXAMPLES = {
     "house": HOUSE,
     "regrouped": REGROUPED,
     "lowered": LOWERED,
+    "late-group": LATE_GROUP,
     "empty": log(7, 1, 1, []),
     # The end of the file ends a log as a closed gate does.
     "empty-without-gate": header(7, 1, 1),
