@@ -6,7 +6,7 @@ use std::alloc::{AllocError, Global};
 use std::test::Fail;
 
 /// What is read of the words of a line, one space between two of them.
-const LINES: [(&str, &str); 42] = [
+const LINES: [(&str, &str); 48] = [
     ("", "usage"),
     ("paint", "usage"),
     ("Replay", "usage"),
@@ -21,6 +21,8 @@ const LINES: [(&str, &str); 42] = [
     ("replay --format text --format json", "usage"),
     ("replay --format xml", "usage"),
     ("replay --format", "usage"),
+    ("replay --format=", "usage"),
+    ("replay --counts=true", "usage"),
     ("replay --help", "usage"),
     ("replay log", "usage"),
     ("upgrade", "upgrade"),
@@ -47,6 +49,11 @@ const LINES: [(&str, &str); 42] = [
     ("node --session 7 --site 0 --journal j A", "usage"),
     ("node --session 7 --site 2 --journal j A", "usage"),
     ("node --session 7 --site 1 --journal j", "usage"),
+    ("node --session= --site 1 --journal j A", "usage"),
+    (
+        "node --session 007 --site=01 --journal j -- -A",
+        "node 7 1 j -A",
+    ),
     (
         "node --session 7 --site 16 --journal j A B C D E F G H I J K L M N O P",
         "node 7 16 j A B C D E F G H I J K L M N O P",
@@ -60,6 +67,8 @@ const LINES: [(&str, &str); 42] = [
     ("rehearse --sites 17", "usage"),
     ("rehearse --sites 0", "usage"),
     ("rehearse --sites ", "usage"),
+    ("rehearse --sites=003", "rehearse 3"),
+    ("rehearse --sites +3", "usage"),
     ("rehearse", "usage"),
     ("churn --seed 0 --steps 0", "churn 0 0"),
     (
