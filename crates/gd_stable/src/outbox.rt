@@ -1,0 +1,145 @@
+ghost use Rattle.std.specs.Prelude.{◌≡◌, ◌+◌, ◌≤◌, [], ◌∷◌, ◌++◌, IfOk, OnOk, OnErr};
+ghost use Rattle.gd_stable.specs.Outboxes.{numbered_above, first_above, with_above};
+ghost use Rattle.gd_stable.specs.Numbering.{go_on, count_to};
+
+use gd_events::{Event, ListedEvent, Op, Operation};
+use gd_grammar::FRAME_EVENTS;
+use gd_wire::FrameEvents;
+use std::alloc::{AllocError, Global};
+use std::collections::VecDeque;
+use std::marker::Model;
+
+/// Own events that some other site may not have yet, in the order in which they were pushed, each in the memory that its
+/// operation needs. Contracts see the events, and beside them for how many more the list has room.
+#[derive(Drop)]
+pub struct Outbox {
+    events: VecDeque<ListedEvent>,
+    /// Whether their numbers go on by one, as a site's own do. Then the place of an event is found from its number.
+    numbered_on: bool,
+}
+
+impl Model for Outbox {
+    ghost use Rattle.std.specs.Prelude.{◌≡◌, ◌-◌, true};
+    ghost use Rattle.std.specs.VecDeque.{deque_len, deque_capacity};
+    ghost use Rattle.gd_stable.specs.Outboxes.{OutboxValue};
+    ghost use Rattle.gd_stable.specs.Numbering.{AreNumberedOn};
+
+    ghost Value = { OutboxValue };
+
+    ghost view = { λ o. record {
+        events = o.events.items;
+        spare = deque_capacity o.events - deque_len o.events
+    } };
+
+    ghost invariant = { λ o. o.numbered_on ≡ true → AreNumberedOn o.events.items };
+}
+
+impl Outbox {
+    /// No events. It takes no memory.
+    pub fn new(alloc: Global) -> Self
+        ensures { result.events ≡ [] }
+    {
+        Outbox {
+            events: VecDeque::new(alloc),
+            numbered_on: true,
+        }
+    }
+
+    /// Makes room in the list for one more event, for a `push_listed`. `AllocError` where memory ran out. The events stay
+    /// in any case.
+    pub fn reserve(&mut self) -> Result<(), AllocError>
+        ensures events { self.new.events ≡ self.old.events }
+        ensures room { OnOk result (1 ≤ self.new.spare) }
+    {
+        self.events.reserve(1)
+    }
+
+    /// Packs the event and puts it last. `AllocError` where memory ran out, and then the events are as before.
+    pub fn push(&mut self, event: Event) -> Result<(), AllocError>
+        ensures ok { OnOk result (self.new.events ≡ self.old.events ++ event ∷ []) }
+        ensures err { OnErr result (self.new.events ≡ self.old.events) }
+    {
+        let event = listed(*self.events.allocator(), event)?;
+        self.reserve()?;
+        self.push_listed(event);
+        Ok(())
+    }
+
+    /// Puts the event last, where there is room in the list. It takes no memory.
+    pub fn push_listed(&mut self, event: ListedEvent)
+        requires { 1 ≤ self.old.spare }
+        ensures events { self.new.events ≡ self.old.events ++ event ∷ [] }
+        ensures spare { self.new.spare + 1 ≡ self.old.spare }
+    {
+        self.numbered_on = go_on(self.numbered_on, &self.events, event.number());
+        self.events.push_back_reserved(event);
+    }
+
+    /// Copies of the first events that are numbered above `k`, as many as a frame has at most. It takes no memory.
+    pub fn after(&self, k: u16) -> FrameEvents
+        ensures { result ≡ first_above k self.now.events }
+    {
+        let mut found = FrameEvents::new();
+        for place in count_to(self.numbered_on, &self.events, k)..self.events.len() {
+            if found.as_slice().len() == FRAME_EVENTS {
+                return found;
+            }
+            add_above(&mut found, k, &self.events[place]);
+        }
+        found
+    }
+
+    /// Removes the events that are numbered at most `k`; the others stay, in order. It takes no memory.
+    pub fn drop_to(&mut self, k: u16)
+        ensures { self.new.events ≡ numbered_above k self.old.events }
+    {
+        if self.numbered_on {
+            let count = count_to(true, &self.events, k);
+            drop(self.events.drain(..count));
+        } else {
+            self.events.retain(|event| event.number() > k);
+        }
+    }
+}
+
+/// The event in the memory that its operation needs. `AllocError` where memory ran out.
+fn listed(alloc: Global, event: Event) -> Result<ListedEvent, AllocError>
+    ensures { IfOk result (λ listed. listed ≡ event) }
+{
+    let number = event.number();
+    let (stamp, op) = event.into_parts();
+    let op = Op::pack(alloc, op)?;
+    Ok(ListedEvent::sound(stamp, number, op))
+}
+
+/// Whether the numbers still go on by one with an event of this number put last; `so_far` says whether they do without it.
+fn go_on(so_far: bool, events: &VecDeque<ListedEvent>, number: u16) -> bool
+    ensures { result ≡ go_on so_far events.now.items number }
+{
+    match events.back() {
+        None => true,
+        Some(last) => so_far && u32::from(number) == u32::from(last.number()) + 1,
+    }
+}
+
+/// How many of the first events are numbered at most `k`, where their numbers go on by one; otherwise none is counted.
+fn count_to(numbered_on: bool, events: &VecDeque<ListedEvent>, k: u16) -> usize
+    ensures { result ≡ count_to numbered_on events.now.items k }
+{
+    match events.front() {
+        Some(first) if numbered_on => {
+            let count = (usize::from(k) + 1).saturating_sub(usize::from(first.number()));
+            count.min(events.len())
+        }
+        _ => 0,
+    }
+}
+
+/// Puts a copy of the event last, where it is numbered above `k` and there is room.
+fn add_above(found: &mut FrameEvents, k: u16, event: &ListedEvent)
+    ensures { found.new ≡ with_above k found.old event.now }
+{
+    if event.number() > k {
+        found.push(event.event());
+    }
+}
