@@ -2,7 +2,8 @@
 use Rattle.std.proofs.Common.{◌≡◌, ℕ, zero, suc, ◌+◌, ◌<◌, ◌≤◌, get_or, Bool, true, false, cond, nat_lt, List, [], ◌∷◌, ◌++◌, length, take, drop, refl, sym, ap, ◌∙◌, arith, take-append-drop, append-nil}
 use Rattle.std.proofs.lemmas.Bool.Decides.{nat_tests}
 use Rattle.std.proofs.lemmas.List.Elements.{filter-append}
-use Rattle.std.proofs.lemmas.List.{take_more}
+use Rattle.std.proofs.Math.Seq.{take-nil}
+use Rattle.std.proofs.lemmas.List.{take_more, take-append-le, length-take}
 use Rattle.gd_events.specs.Events.{Event}
 use Rattle.gd_grammar.specs.FrameBytes.{most_frame_events}
 use Rattle.gd_stable.specs.Outboxes.{numbered_above, first_above, with_above}
@@ -14,10 +15,6 @@ lt-suc : (a n : ℕ) → nat_lt (suc a) (suc n) ≡ nat_lt a n
 lt-suc a n = grind (arith, nat_tests)
 
 module _ {X : Type 0} where
-  take-nil : (n : ℕ) → take {A = X} n [] ≡ []
-  take-nil zero = refl
-  take-nil (suc n) = refl
-
   take-push : (n : ℕ) (xs : List X) (x : X) → take n (xs ++ x ∷ []) ≡ cond (nat_lt (length (take n xs)) n) (take n xs ++ x ∷ []) (take n xs)
   take-push zero xs x = refl
   take-push (suc n) [] x = rw (positive n) (ap (λ (l : List X). x ∷ l) (take-nil n))
@@ -28,9 +25,7 @@ module _ {X : Type 0} where
       go false = refl
 
   take-full : (n : ℕ) (xs ys : List X) → n ≤ length (take n xs) → take n (xs ++ ys) ≡ take n xs
-  take-full zero xs ys h = refl
-  take-full (suc n) [] ys h = absurd (omega arith)
-  take-full (suc n) (x ∷ xs) ys h = ap (λ l. x ∷ l) (take-full n xs ys (omega arith))
+  take-full n xs ys full = take-append-le n xs ys (omega (arith, full, length-take n xs))
 
 abbrev is_above : ℕ → Event → Bool
 is_above k e = nat_lt k e.number

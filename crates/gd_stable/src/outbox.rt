@@ -1,4 +1,4 @@
-ghost use Rattle.std.specs.Prelude.{◌≡◌, ◌+◌, ◌≤◌, [], ◌∷◌, ◌++◌, IfOk, OnOk, OnErr};
+ghost use Rattle.std.specs.Prelude.{◌≡◌, ◌+◌, ◌≤◌, [], ◌∷◌, ◌++◌, length, drop, IfOk, OnOk, OnErr};
 ghost use Rattle.gd_stable.specs.Outboxes.{numbered_above, first_above, with_above};
 ghost use Rattle.gd_stable.specs.Numbering.{go_on, count_to};
 
@@ -27,8 +27,8 @@ impl Model for Outbox {
     ghost Value = { OutboxValue };
 
     ghost view = { λ o. record {
-        events = o.events.items;
-        spare = deque_capacity o.events - deque_len o.events
+      events = o.events.items;
+      spare = deque_capacity o.events - deque_len o.events;
     } };
 
     ghost invariant = { λ o. o.numbered_on ≡ true → AreNumberedOn o.events.items };
@@ -95,7 +95,7 @@ impl Outbox {
     {
         if self.numbered_on {
             let count = count_to(true, &self.events, k);
-            drop(self.events.drain(..count));
+            drop_first(&mut self.events, count);
         } else {
             self.events.retain(|event| event.number() > k);
         }
@@ -133,6 +133,14 @@ fn count_to(numbered_on: bool, events: &VecDeque<ListedEvent>, k: u16) -> usize
         }
         _ => 0,
     }
+}
+
+/// Removes the first `count` events, and touches no other.
+fn drop_first(events: &mut VecDeque<ListedEvent>, count: usize)
+    requires { count ≤ length events.old.items }
+    ensures { events.new.items ≡ drop count events.old.items }
+{
+    drop(events.drain(..count));
 }
 
 /// Puts a copy of the event last, where it is numbered above `k` and there is room.
