@@ -14,7 +14,8 @@ use std::marker::Model;
 #[derive(Drop)]
 pub struct Outbox {
     events: VecDeque<ListedEvent>,
-    /// Whether their numbers go on by one, as a site's own do. Then the place of an event is found from its number.
+    /// Whether their numbers go on by one, as a site's own do. Then `after` and `drop_to` find the place of an event from
+    /// its number, and else they look through all of them.
     numbered_on: bool,
 }
 
@@ -45,8 +46,8 @@ impl Outbox {
         }
     }
 
-    /// Makes room in the list for one more event, for a `push_listed`. `AllocError` where memory ran out. The events stay
-    /// in any case.
+    /// Makes room in the list for one more event, so that `push_listed` can put it there. `AllocError` where memory ran
+    /// out. The events stay in any case.
     pub fn reserve(&mut self) -> Result<(), AllocError>
         ensures events { self.new.events ≡ self.old.events }
         ensures room { OnOk result (1 ≤ self.new.spare) }
@@ -65,7 +66,7 @@ impl Outbox {
         Ok(())
     }
 
-    /// Puts the event last, where there is room in the list. It takes no memory.
+    /// Puts the event last, where the list has room, as it has after a `reserve`. It takes no memory.
     pub fn push_listed(&mut self, event: ListedEvent)
         requires { 1 ≤ self.old.spare }
         ensures events { self.new.events ≡ self.old.events ++ event ∷ [] }

@@ -7,8 +7,8 @@ use gd_base::{Offer, OverAck, SITES};
 use std::marker::Model;
 
 /// What a site keeps of the other sites of its session, which contracts see as lists of `SITES` numbers in the order of
-/// the sites: how many events of each are held, the sure clock of each, and how many own events each has acknowledged. What is
-/// not held of a site's events lies above its sure clock. No call takes memory.
+/// the sites: how many events of each are held, the sure clock of each, and how many own events each has acknowledged.
+/// Those events of a site that aren't held yet have clocks above its sure clock. No call takes memory.
 #[derive(Drop)]
 pub struct Peers {
     me: u8,
@@ -23,13 +23,25 @@ impl Model for Peers {
 
     ghost Value = { PeersValue };
 
-    ghost view = { λ p. record { me = p.me; sites = p.sites; counts = p.counts; sures = p.sures; acks = p.acks } };
+    ghost view = { λ p. record {
+      me = p.me;
+      sites = p.sites;
+      counts = p.counts;
+      sures = p.sures;
+      acks = p.acks;
+    } };
 
-    ghost invariant = { λ p. IsPeers (record { me = p.me; sites = p.sites; counts = p.counts; sures = p.sures; acks = p.acks }) };
+    ghost invariant = { λ p. IsPeers (record {
+      me = p.me;
+      sites = p.sites;
+      counts = p.counts;
+      sures = p.sures;
+      acks = p.acks;
+    }) };
 }
 
 impl Peers {
-    /// Nothing is held, no sure clock is above 0, and nothing is acknowledged.
+    /// What site `me` of `n` begins with: nothing is held, no sure clock is above 0, and nothing is acknowledged.
     pub fn new(me: u8, n: u8) -> Self
         requires from { 1 ≤ me }
         requires to { me ≤ n }
@@ -62,12 +74,13 @@ impl Peers {
     /// How an event of that site, with this number and clock, stands to those that are held.
     pub fn offer(&self, site: u8, number: u16, clock: u64) -> Offer
         requires { IsOther self.now site }
-        ensures { result ≡ offered (of_site self.now.counts site) (of_site self.now.sures site) number clock }
+        ensures { result ≡ offered
+            (of_site self.now.counts site) (of_site self.now.sures site) number clock }
     {
         judge(self.held(site), self.sure(site), number, clock)
     }
 
-    /// The next event of that site is held, with this clock: so its offer is `Next`.
+    /// Counts the next event of that site, whose offer was `Next`, as held. Its clock becomes the sure clock.
     pub fn took(&mut self, site: u8, clock: u64)
         requires other { IsOther self.old site }
         requires rises { of_site self.old.sures site < clock }
@@ -79,7 +92,8 @@ impl Peers {
         self.sures[index] = clock;
     }
 
-    /// Where all `count` events that the site has made are held, its sure clock rises to its clock where it was lower.
+    /// The site has made `count` events, and its clock is `clock`. Where just so many are held, its sure clock rises to
+    /// that clock where it was lower; else nothing changes.
     pub fn beat(&mut self, site: u8, count: u16, clock: u64)
         requires { IsOther self.old site }
         ensures { self.new ≡ with_beat self.old site count clock }
@@ -90,8 +104,8 @@ impl Peers {
         }
     }
 
-    /// The site has acknowledged `k` of `own` events. `OverAck` exactly where that is more than there are, and then nothing
-    /// changes.
+    /// The site acknowledges `k` of the `own` events that there are: what it has acknowledged rises to `k` where it was
+    /// lower. `OverAck` exactly where `k` is above `own`, and then nothing changes.
     pub fn ack(&mut self, site: u8, k: u16, own: u16) -> Result<(), OverAck>
         requires { IsOther self.old site }
         ensures answer { result ≡ checked_ack k own }
@@ -105,16 +119,16 @@ impl Peers {
         Ok(())
     }
 
-    /// The least of the own clock and of the sure clocks of the other sites.
+    /// The least of the own clock and of the sure clocks of the other sites: no event that isn't held yet lies at or below
+    /// it.
     #[tactic(auto, using(crate::proofs::Least::least_step, crate::proofs::Least::least_none))]
     pub fn line(&self, own_clock: u64) -> u64
         ensures { result ≡ line_of self.now own_clock }
     {
         let mut least = own_clock;
         for site in 1..self.sites + 1 {
-            let sure = self.sures[usize::from(site) - 1];
-            if site != self.me && sure < least {
-                least = sure;
+            if site != self.me {
+                least = least.min(self.sures[usize::from(site) - 1]);
             }
         }
         least
@@ -127,9 +141,8 @@ impl Peers {
     {
         let mut least = own;
         for site in 1..self.sites + 1 {
-            let acked = self.acks[usize::from(site) - 1];
-            if site != self.me && acked < least {
-                least = acked;
+            if site != self.me {
+                least = least.min(self.acks[usize::from(site) - 1]);
             }
         }
         least
