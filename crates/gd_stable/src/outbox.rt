@@ -1,6 +1,6 @@
 ghost use Rattle.std.specs.Prelude.{◌≡◌, ◌+◌, ◌≤◌, [], ◌∷◌, ◌++◌, length, drop, IfOk, OnOk, OnErr};
 ghost use Rattle.gd_stable.specs.Outboxes.{numbered_above, first_above, with_above};
-ghost use Rattle.gd_stable.specs.Numbering.{go_on, count_to};
+ghost use Rattle.gd_stable.specs.Numbering.{follows, are_numbered_on, last_number, count_to};
 
 use gd_events::{Event, ListedEvent, Op, Operation};
 use gd_grammar::FRAME_EVENTS;
@@ -20,10 +20,10 @@ pub struct Outbox {
 }
 
 impl Model for Outbox {
-    ghost use Rattle.std.specs.Prelude.{◌≡◌, ◌-◌, true};
+    ghost use Rattle.std.specs.Prelude.{◌≡◌, ◌-◌};
     ghost use Rattle.std.specs.VecDeque.{deque_len, deque_capacity};
     ghost use Rattle.gd_stable.specs.Outboxes.{OutboxValue};
-    ghost use Rattle.gd_stable.specs.Numbering.{AreNumberedOn};
+    ghost use Rattle.gd_stable.specs.Numbering.{are_numbered_on};
 
     ghost Value = { OutboxValue };
 
@@ -32,7 +32,7 @@ impl Model for Outbox {
       spare = deque_capacity o.events - deque_len o.events;
     } };
 
-    ghost invariant = { λ o. o.numbered_on ≡ true → AreNumberedOn o.events.items };
+    ghost invariant = { λ o. o.numbered_on ≡ are_numbered_on o.events.items };
 }
 
 impl Outbox {
@@ -72,7 +72,7 @@ impl Outbox {
         ensures events { self.new.events ≡ self.old.events ++ event ∷ [] }
         ensures spare { self.new.spare + 1 ≡ self.old.spare }
     {
-        self.numbered_on = go_on(self.numbered_on, &self.events, event.number());
+        self.numbered_on &= follows(last_number(&self.events), event.number());
         self.events.push_back_reserved(event);
     }
 
@@ -99,6 +99,7 @@ impl Outbox {
             drop_first(&mut self.events, count);
         } else {
             self.events.retain(|event| event.number() > k);
+            self.numbered_on = are_numbered_on(&self.events);
         }
     }
 }
@@ -113,14 +114,37 @@ fn listed(alloc: Global, event: Event) -> Result<ListedEvent, AllocError>
     Ok(ListedEvent::sound(stamp, number, op))
 }
 
-/// Whether the numbers still go on by one with an event of this number put last; `so_far` says whether they do without it.
-fn go_on(so_far: bool, events: &VecDeque<ListedEvent>, number: u16) -> bool
-    ensures { result ≡ go_on so_far events.now.items number }
+/// Whether the number is one above the last one, if there is one.
+fn follows(last: Option<u16>, number: u16) -> bool
+    ensures { result ≡ follows last number }
 {
-    match events.back() {
+    match last {
         None => true,
-        Some(last) => so_far && u32::from(number) == u32::from(last.number()) + 1,
+        Some(last) => u32::from(number) == u32::from(last) + 1,
     }
+}
+
+/// The number of the last event, if there is one.
+fn last_number(events: &VecDeque<ListedEvent>) -> Option<u16>
+    ensures { result ≡ last_number events.now.items }
+{
+    Some(events.back()?.number())
+}
+
+/// Whether the numbers go on by one.
+#[tactic(auto, unfolding(crate::specs::Numbering::go_on_from))]
+fn are_numbered_on(events: &VecDeque<ListedEvent>) -> bool
+    ensures { result ≡ are_numbered_on events.now.items }
+{
+    let mut last = None;
+    for place in 0..events.len() {
+        let number = events[place].number();
+        if !follows(last, number) {
+            return false;
+        }
+        last = Some(number);
+    }
+    true
 }
 
 /// How many of the first events are numbered at most `k`, where their numbers go on by one; otherwise none is counted.

@@ -1,8 +1,7 @@
 use Rattle.std.proofs.Common.{rules, ◌≡◌, ℕ, List, length, take, sym, ap, ◌∙◌, subst}
 use Rattle.gd_events.specs.Events.{Event}
 use Rattle.gd_grammar.specs.FrameBytes.{most_frame_events}
-use Rattle.gd_stable.specs.Outboxes.{numbered_above, first_above, with_above}
-use Rattle.gd_stable.specs.Numbering.{count_to}
+use Rattle.gd_stable.specs.Outboxes.{first_above, with_above}
 use Rattle.gd_stable.proofs.Found.{found_next, found_all}
 use Rattle.gd_stable.proofs.Numbered.{none_counted}
 use Rattle.gd_stable.proofs.outbox.Outbox.after.Goals as goal

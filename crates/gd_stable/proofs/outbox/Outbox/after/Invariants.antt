@@ -1,4 +1,4 @@
-use Rattle.std.proofs.Common.{◌≡◌, ◌≤◌, take}
+use Rattle.std.proofs.Common.{◌≡◌, take}
 use Rattle.gd_stable.specs.Outboxes.{first_above}
 use Rattle.gd_stable.proofs.outbox.Outbox.after.Given as goal
 
