@@ -1,6 +1,5 @@
 //! Operations on a drawing with their before-values, in the memory that both need.
 ghost use Rattle.std.specs.Prelude.{◌≡◌, IfOk};
-ghost use Rattle.gd_events.specs.declared.op.Op.TheVariants.{Create};
 ghost use Rattle.gd_events.specs.Packed.{unpacked};
 ghost use Rattle.gd_model.specs.Undoing.{gone};
 ghost use Rattle.gd_canvas.specs.Kept.{before_of, of_label, of_made, op_of};
@@ -89,7 +88,7 @@ impl Kept {
     {
         match self {
             Kept::Small { op, .. } => op.op(),
-            Kept::Create { new, .. } => created(new),
+            Kept::Create { new, .. } => new.op(),
             Kept::Delete { id, .. } => Op::Delete { id: *id },
             Kept::Retext { id, label, .. } => {
                 let label = label.copy();
@@ -113,21 +112,6 @@ impl Kept {
             Kept::Retext { before, .. } => relabelled(before),
             Kept::Group(grouping) => grouping.before(),
         }
-    }
-}
-
-fn created(new: &NewShape) -> Op
-    ensures { result
-        ≡ Create new.now.kind new.now.x new.now.y new.now.w new.now.h new.now.label }
-{
-    let label = new.label.copy();
-    Op::Create {
-        kind: new.kind,
-        x: new.x,
-        y: new.y,
-        w: new.w,
-        h: new.h,
-        label,
     }
 }
 

@@ -58,6 +58,13 @@ impl<O: Operation> ListedEvent<O> {
         Event::sound(self.stamp, self.number, O::unpack(&self.op))
     }
 
+    /// The event, inline.
+    pub fn into_event(self) -> Event<O>
+        ensures { result ≡ self }
+    {
+        self.event()
+    }
+
     /// Its stamp, and its operation as it is packed, which is moved.
     pub fn into_parts(self) -> (Stamp, O::Packed)
         ensures stamp { result.0 ≡ self.stamp }

@@ -1,5 +1,6 @@
 //! Operations in the memory that they need.
 ghost use Rattle.std.specs.Prelude.{◌≡◌, IfOk};
+ghost use Rattle.gd_events.specs.declared.op.Op.TheVariants.{Create};
 ghost use Rattle.gd_events.specs.Packed.{small_op, unpacked};
 
 use crate::member_list::MemberList;
@@ -38,6 +39,24 @@ pub enum PackedOp {
     Delete { id: Stamp },
     Retext { id: Stamp, label: Box<Label> },
     Group { members: MemberList },
+}
+
+impl NewShape {
+    /// A copy of the operation that makes it.
+    pub fn op(&self) -> Op
+        ensures { result ≡ Create self.now.kind self.now.x self.now.y self.now.w self.now.h
+            self.now.label }
+    {
+        let label = self.label.copy();
+        Op::Create {
+            kind: self.kind,
+            x: self.x,
+            y: self.y,
+            w: self.w,
+            h: self.h,
+            label,
+        }
+    }
 }
 
 impl SmallOp {
@@ -114,7 +133,7 @@ impl PackedOp {
     {
         match self {
             PackedOp::Small(small) => small.op(),
-            PackedOp::Create(new) => created(new),
+            PackedOp::Create(new) => new.op(),
             PackedOp::Delete { id } => Op::Delete { id: *id },
             PackedOp::Retext { id, label } => {
                 let label = label.copy();
@@ -125,20 +144,5 @@ impl PackedOp {
                 Op::Group { members }
             }
         }
-    }
-}
-
-fn created(new: &NewShape) -> Op
-    ensures { result
-        ≡ Op.Create new.now.kind new.now.x new.now.y new.now.w new.now.h new.now.label }
-{
-    let label = new.label.copy();
-    Op::Create {
-        kind: new.kind,
-        x: new.x,
-        y: new.y,
-        w: new.w,
-        h: new.h,
-        label,
     }
 }

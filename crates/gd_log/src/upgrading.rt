@@ -15,7 +15,7 @@ ghost use Rattle.gd_log.specs.Ends.{IsLogEnd};
 
 use crate::refusing::refuse;
 use gd_effects::{print, status_of};
-use gd_events::{Event, EventList, ListedEvent};
+use gd_events::EventList;
 use gd_logs::{CLOSED, LogFault, ReadError, gated_of, read_log};
 use gd_outside::{End, Sink, Source, Status};
 use gd_wire::{Drawings, HeaderBytes, LogHeader, write_header};
@@ -62,16 +62,9 @@ fn write_log<K: Sink>(header: LogHeader, events: EventList, output: &mut K) -> R
     print(output, head.as_slice())?;
     let mut left = events.into_events();
     'records: while let Some(listed) = left.next() {
-        let event = unpacked(listed);
+        let event = listed.into_event();
         let record = gated_of::<Drawings>(&event);
         print(output, record.as_slice())?;
     }
     print(output, &[CLOSED])
-}
-
-/// The event, without the memory that the list kept it in.
-fn unpacked(listed: ListedEvent) -> Event
-    ensures { result ≡ listed }
-{
-    listed.event()
 }

@@ -21,13 +21,13 @@ records-init g c input journal link steps = rw c.into_events-left.ensures
 pub returns-in_err-print-2-clause-does : goal.returns-in_err-print-2-clause-does
 returns-in_err-print-2-clause-does g c input journal link steps =
     along_exit _ (prints (record_pieces drawings c.next.new.self)) c.from_residual-in_err-print-2.ensures.1 (c.records.invariant input journal link steps)
-    (λ t. pieces-record c.records.left c.next.new.self c.in-Some.listed _ _ c.in-Some.ensures c.as_slice-in-Some.ensures.value (c.gated_of-record.ensures ∙ ap (λ e. gate ∷ spelling drawings e) c.unpacked-event.ensures))
+    (λ t. pieces-record c.records.left c.next.new.self c.in-Some.listed _ _ c.in-Some.ensures c.as_slice-in-Some.ensures.value (c.gated_of-record.ensures ∙ ap (λ e. gate ∷ spelling drawings e) c.into_event-event.ensures))
     (c.in_err-print-2.ensures.does input journal link steps)
 
 pub records-preserved : goal.records-preserved
 records-preserved g c input journal link steps =
     along_then (prints (record_pieces drawings c.next.new.self)) (c.records.invariant input journal link steps)
-    (λ t. pieces-record c.records.left c.next.new.self c.in-Some.listed _ _ c.in-Some.ensures c.as_slice-in-Some.ensures.value (c.gated_of-record.ensures ∙ ap (λ e. gate ∷ spelling drawings e) c.unpacked-event.ensures))
+    (λ t. pieces-record c.records.left c.next.new.self c.in-Some.listed _ _ c.in-Some.ensures c.as_slice-in-Some.ensures.value (c.gated_of-record.ensures ∙ ap (λ e. gate ∷ spelling drawings e) c.into_event-event.ensures))
     (c.in_ok-print-2.ensures.does input journal link steps)
 
 pub returns-clause-does : goal.returns-clause-does
