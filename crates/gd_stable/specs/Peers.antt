@@ -1,5 +1,5 @@
--- What a site keeps of the other sites of its session: how many events of each it holds, the sure clock of each, and how
--- many of its own events each has acknowledged. Sites are numbered from 1; each list has a number for each of `SITES` sites.
+-- What a site keeps of the other sites of its session: how many events of each it holds, the sure clock of each, and
+-- how many of its own events each has acknowledged. Sites are numbered from 1.
 use Rattle.std.specs.Prelude.{◌≡◌, ◌≢◌, ℕ, ◌+◌, ◌-◌, ◌≤◌, max, List, length, replicate, set, get_or, Result, Ok, Err, ◌==◌, nat_le, if◌then◌else◌}
 use Rattle.gd_base.specs.declared.ranges.TheConstants.{SITES}
 use Rattle.gd_base.specs.declared.refusal.OverAck.{OverAck}
@@ -20,7 +20,7 @@ of_site numbers site = get_or numbers (site - 1) 0
 abbrev pub put_at : List ℕ → ℕ → ℕ → List ℕ
 put_at numbers site value = set numbers (site - 1) value
 
--- this site is one of those of the session, of which there are at most `SITES`; a number of each sort for each of `SITES`
+-- this site is one of those of the session, of which there are at most `SITES`, and each list has `SITES` numbers
 pub record IsPeers (p : PeersValue) : Type 0 where
   pub me_from : 1 ≤ p.me
   pub me_to : p.me ≤ p.sites

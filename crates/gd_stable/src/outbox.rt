@@ -9,13 +9,13 @@ use std::alloc::{AllocError, Global};
 use std::collections::VecDeque;
 use std::marker::Model;
 
-/// Own events that some other site may not have yet, in the order in which they were pushed, each in the memory that its
-/// operation needs. Contracts see the events, and beside them for how many more the list has room.
+/// Own events that some other site may not have yet, in the order in which they were pushed, each in the memory that
+/// its operation needs. Contracts see the events, and beside them for how many more the list has room.
 #[derive(Drop)]
 pub struct Outbox {
     events: VecDeque<ListedEvent>,
-    /// Whether their numbers go on by one, as a site's own do. Then `after` and `drop_to` find the place of an event from
-    /// its number, and else they look through all of them.
+    /// Whether their numbers go on by one, as a site's own do. Then `after` and `drop_to` find the place of an event
+    /// from its number, and else they look through all of them.
     numbered_on: bool,
 }
 

@@ -119,8 +119,8 @@ impl Peers {
         Ok(())
     }
 
-    /// The least of the own clock and of the sure clocks of the other sites: no event that isn't held yet lies at or below
-    /// it.
+    /// The least of the own clock and of the sure clocks of the other sites: no event that isn't held yet lies at or
+    /// below it.
     #[tactic(auto, using(crate::proofs::Least::least_step, crate::proofs::Least::least_none))]
     pub fn line(&self, own_clock: u64) -> u64
         ensures { result ≡ line_of self.now own_clock }
