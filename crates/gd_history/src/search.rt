@@ -18,11 +18,7 @@ use std::alloc::{AllocError, Global};
 /// How many entries are not later than the stamp. It looks at the last one first, since most events come in order, and then
 /// ever further away from `near`, since most late events come near the one before. Once the place lies between two that it
 /// looked at, it halves what is between them.
-pub(crate) fn place_of<D: Document>(
-    entries: &Chunks<Entry<D>>,
-    stamp: Stamp,
-    near: usize,
-) -> usize
+pub(crate) fn place_of<D: Document>(entries: &Chunks<Entry<D>>, stamp: Stamp, near: usize) -> usize
     requires { IsRising (events_of entries.now.items) }
     ensures { IsPlaceOf stamp (events_of entries.now.items) result }
 {
@@ -78,11 +74,7 @@ fn narrowed(low: usize, high: usize, middle: usize, later: bool) -> (usize, usiz
 }
 
 /// Whether no entry has the stamp. Of the entries that are not later only the last one can have it.
-pub(crate) fn is_fresh<D: Document>(
-    entries: &Chunks<Entry<D>>,
-    stamp: Stamp,
-    near: usize,
-) -> bool
+pub(crate) fn is_fresh<D: Document>(entries: &Chunks<Entry<D>>, stamp: Stamp, near: usize) -> bool
     requires { IsRising (events_of entries.now.items) }
     ensures { IsTrue result ↔ HasNone stamp (events_of entries.now.items) }
 {

@@ -1,8 +1,8 @@
-ghost use Rattle.std.specs.Prelude.{◌≡◌, ◌+◌, ◌≤◌, [], ◌∷◌, ◌++◌, length, drop, IfOk, OnOk, OnErr};
+ghost use Rattle.std.specs.Prelude.{◌≡◌, ◌+◌, ◌≤◌, [], ◌∷◌, ◌++◌, length, drop, OnOk, OnErr};
 ghost use Rattle.gd_stable.specs.Outboxes.{numbered_above, first_above, with_above};
 ghost use Rattle.gd_stable.specs.Numbering.{follows, are_numbered_on, last_number, count_to};
 
-use gd_events::{Event, ListedEvent, Op, Operation};
+use gd_events::{Event, ListedEvent};
 use gd_grammar::FRAME_EVENTS;
 use gd_wire::FrameEvents;
 use std::alloc::{AllocError, Global};
@@ -60,7 +60,7 @@ impl Outbox {
         ensures ok { OnOk result (self.new.events ≡ self.old.events ++ event ∷ []) }
         ensures err { OnErr result (self.new.events ≡ self.old.events) }
     {
-        let event = listed(*self.events.allocator(), event)?;
+        let event = ListedEvent::new(*self.events.allocator(), event)?;
         self.reserve()?;
         self.push_listed(event);
         Ok(())
@@ -102,16 +102,6 @@ impl Outbox {
             self.numbered_on = are_numbered_on(&self.events);
         }
     }
-}
-
-/// The event in the memory that its operation needs. `AllocError` where memory ran out.
-fn listed(alloc: Global, event: Event) -> Result<ListedEvent, AllocError>
-    ensures { IfOk result (λ listed. listed ≡ event) }
-{
-    let number = event.number();
-    let (stamp, op) = event.into_parts();
-    let op = Op::pack(alloc, op)?;
-    Ok(ListedEvent::sound(stamp, number, op))
 }
 
 /// Whether the number is one above the last one, if there is one.
