@@ -1,0 +1,72 @@
+-- The objects of a new group, one id after the other, and what is made of them.
+use Rattle.std.proofs.Common.{◌≡◌, ℕ, Bool, true, false, cond, not, ◌&&◌, List, [], ◌∷◌, ◌++◌, map, Option, Some, None, Result, Ok, Err, refl, sym, ap, ap₂, ◌∙◌, append_assoc, subst}
+use Rattle.std.specs.Prelude.{option_map}
+use Rattle.std.specs.List.{list_all}
+use Rattle.std.proofs.lemmas.List.{append-nil}
+use Rattle.std.proofs.lemmas.List.Folds.{list_all-map}
+use Rattle.gd_base.specs.Stamps.{Stamp}
+use Rattle.gd_base.specs.declared.member.Member.{Member}
+use Rattle.gd_base.specs.declared.refusal.EditRefusal.{EditRefusal}
+use Rattle.gd_base.specs.declared.refusal.EditRefusal.TheVariants.{NoObject, SameMember, NotTop, TooFar}
+use Rattle.gd_events.specs.declared.op.Op.{Op}
+use Rattle.gd_events.specs.declared.op.Op.TheVariants as op
+use Rattle.gd_events.specs.Sound.{is_shift_in_range}
+use Rattle.gd_reference.specs.Judging.{Target, targets, with_targets, with_another, are_apart, is_free, member_at, by_id, grouped}
+use Rattle.gd_judging.specs.declared.groups.Named.{Named}
+use Rattle.gd_judging.specs.Targets.{named, member, rising}
+
+-- ---- the objects are looked up
+
+-- what is found of these ids, behind what was found before them
+abbrev pub behind : List Named → Option (List (Stamp × Target)) → Option (List Named)
+behind before found = option_map (λ ts. before ++ map named ts) found
+
+pub behind-none : (found : Option (List (Stamp × Target))) → behind [] found ≡ option_map (map named) found
+behind-none None = refl
+behind-none (Some ts) = refl
+
+another-behind : (before : List Named) (id : Stamp) (t : Target) (found : Option (List (Stamp × Target)))
+    → behind before (with_another id (Some t) found) ≡ behind (before ++ named (id, t) ∷ []) found
+another-behind before id t None = refl
+another-behind before id t (Some ts) = ap (λ (l : List Named). Some l) (sym (append_assoc before (named (id, t) ∷ []) (map named ts)))
+
+module _ (look : Stamp → Option Target) where
+  pub found-next : (before : List Named) (id : Stamp) (ids : List Stamp) (t : Target) → look id ≡ Some t
+      → behind before (targets look (id ∷ ids)) ≡ behind (before ++ named (id, t) ∷ []) (targets look ids)
+  unfolding targets
+  found-next before id ids t e =
+      ap (λ (o : Option Target). behind before (with_another id o (targets look ids))) e ∙ another-behind before id t (targets look ids)
+
+  pub found-none : (before : List Named) (id : Stamp) (ids : List Stamp) → look id ≡ None → behind before (targets look (id ∷ ids)) ≡ None
+  unfolding targets
+  found-none before id ids e = ap (λ (o : Option Target). behind before (with_another id o (targets look ids))) e
+
+  pub found-all : (before : List Named) → behind before (targets look []) ≡ Some before
+  unfolding targets
+  found-all before = ap (λ (l : List Named). Some l) (append-nil before)
+
+-- ---- the group of those that were found
+
+ids_named : (ts : List (Stamp × Target)) → map (λ n. n.id) (map named ts) ≡ map (λ t. t.0) ts
+ids_named [] = refl
+ids_named (t ∷ ts) = ap (λ (l : List Stamp). t.0 ∷ l) (ids_named ts)
+
+members_named : (ts : List (Stamp × Target)) → map member (map named ts) ≡ map member_at ts
+members_named [] = refl
+members_named (t ∷ ts) = ap (λ (l : List Member). member_at t ∷ l) (members_named ts)
+
+abbrev made : Option (List Member) → Result Op EditRefusal
+made None = Err TooFar
+made (Some ms) = Ok (op.Group ms)
+
+made_rising : (ms : List Member) → (b : Bool) → made (cond b (Some (by_id ms)) None) ≡ cond (not b) (Err TooFar) (Ok (op.Group (by_id ms)))
+made_rising ms true = refl
+made_rising ms false = refl
+
+-- the group, by what is kept of the objects
+abbrev grouped_by : Bool → Bool → Option (List Member) → Result Op EditRefusal
+grouped_by apart free ms = cond (not apart) (Err SameMember) (cond (not free) (Err NotTop) (made ms))
+
+pub is_grouped : (ns : List Named) (ts : List (Stamp × Target)) → map named ts ≡ ns
+    → grouped_by (are_apart (map (λ n. n.id) ns)) (list_all (λ n. n.is_free) ns) (rising (map member ns)) ≡ grouped ts
+is_grouped ns ts e = rw (← e, ids_named ts, list_all-map (λ n. n.is_free) named ts, members_named ts, made_rising (map member_at ts) (list_all is_shift_in_range (map member_at ts))) refl

@@ -1,0 +1,49 @@
+-- Members are put in by rising id, one after the other from the last.
+use Rattle.std.proofs.Common.{◌≡◌, ℕ, zero, suc, ◌+◌, ◌-◌, ◌<◌, ◌≤◌, nat_lt, Bool, true, false, cond, not, ◌&&◌, List, [], ◌∷◌, length, map, drop, get_or, Option, Some, None, refl, sym, ap, ap₂, ◌∙◌, subst, arith}
+use Rattle.std.specs.List.{list_all, insert, position, position_or_len}
+use Rattle.std.specs.Option.{unwrap_or}
+use Rattle.std.proofs.lemmas.Bool.Decides.{nat_tests}
+use Rattle.std.proofs.lemmas.List.Sums.{prefix_len-le-length}
+use Rattle.std.proofs.lemmas.List.Folds.{list_all_at}
+use Rattle.std.proofs.Math.Seq.{drop-cons}
+use Rattle.gd_base.specs.Stamps.{Stamp, is_before}
+use Rattle.gd_base.specs.Insertions.{inserted_by}
+use Rattle.gd_base.specs.declared.member.Member.{Member}
+use Rattle.gd_events.specs.Sound.{is_shift_in_range}
+use Rattle.gd_reference.specs.Judging.{by_id}
+use Rattle.gd_judging.specs.declared.groups.Named.{Named}
+use Rattle.gd_judging.specs.Targets.{member, rising}
+
+-- ---- the place of a member
+
+found_or : (b : Bool) (i n : ℕ) → nat_lt i n ≡ b → i ≤ n → unwrap_or (cond b (Some i) None) n ≡ i
+found_or true i n t le = refl
+found_or false i n t le = grind (arith, nat_tests)
+
+-- the first place where a test passes, or else the end
+pub or_end : {X : Type 0} (p : X → Bool) (xs : List X) → unwrap_or (position p xs) (length xs) ≡ position_or_len p xs
+or_end p xs = found_or _ (position_or_len p xs) (length xs) refl (prefix_len-le-length _ xs)
+
+pub insert_first : (m : Member) (ms : List Member) → insert ms (position_or_len (λ n. is_before m.id n.id) ms) m ≡ inserted_by (λ n. n.id) ms m
+unfolding inserted_by
+insert_first m [] = refl
+insert_first m (n ∷ ns) = go (is_before m.id n.id) (insert_first m ns)
+  where
+    go : (b : Bool) → insert ns (position_or_len (λ k. is_before m.id k.id) ns) m ≡ inserted_by (λ k. k.id) ns m
+        → insert (n ∷ ns) (cond (not b) (suc (position_or_len (λ k. is_before m.id k.id) ns)) 0) m ≡ cond b (m ∷ n ∷ ns) (n ∷ inserted_by (λ k. k.id) ns m)
+    go true h = refl
+    go false h = ap (λ (l : List Member). n ∷ l) h
+
+-- ---- one member more
+
+rise_by : (m : Member) (b c : Bool) (ms sorted : List Member)
+    → cond c (Some (by_id ms)) None ≡ Some sorted → b ≡ true
+    → cond (b && c) (Some (inserted_by (λ n. n.id) (by_id ms) m)) None ≡ Some (inserted_by (λ n. n.id) sorted m)
+rise_by m true true ms sorted h e = let k : by_id ms ≡ sorted = cc in ap (λ (l : List Member). Some (inserted_by (λ n. n.id) l m)) k
+rise_by m true false ms sorted h e = cc
+rise_by m false c ms sorted h e = cc
+
+pub rise : (m : Member) (ms sorted : List Member) → rising ms ≡ Some sorted → is_shift_in_range m ≡ true
+    → rising (m ∷ ms) ≡ Some (inserted_by (λ n. n.id) sorted m)
+unfolding by_id
+rise m ms sorted h e = rise_by m (is_shift_in_range m) (list_all is_shift_in_range ms) ms sorted h e

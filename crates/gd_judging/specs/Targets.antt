@@ -1,0 +1,24 @@
+-- What the judgement of an edit reads off an object as it is shown.
+use Rattle.std.specs.Prelude.{List, Option, Some, None, if◌then◌else◌}
+use Rattle.std.specs.List.{list_all}
+use Rattle.gd_base.specs.Stamps.{Stamp}
+use Rattle.gd_base.specs.declared.member.Member.{Member}
+use Rattle.gd_events.specs.Sound.{is_shift_in_range}
+use Rattle.gd_reference.specs.Judging.{Target, is_free, by_id}
+use Rattle.gd_view.specs.declared.places.Shown.{Shown}
+use Rattle.gd_judging.specs.declared.groups.Named.{Named}
+
+-- an object as it is shown, as an edit sees it
+abbrev pub told : Shown → Target
+told s = record { kind = s.kind; above = record { parent = s.parent; dx = s.above.x; dy = s.above.y } }
+
+-- the same, where a new group names it
+abbrev pub named : Stamp × Target → Named
+named t = record { id = t.0; is_free = is_free t; dx = t.1.above.dx; dy = t.1.above.dy }
+
+abbrev pub member : Named → Member
+member n = record { id = n.id; dx = n.dx; dy = n.dy }
+
+-- the members by rising id, where the shifts of all of them are in their range
+abbrev pub rising : List Member → Option (List Member)
+rising ms = if list_all is_shift_in_range ms then Some (by_id ms) else None

@@ -1,0 +1,146 @@
+ghost use Rattle.std.specs.Prelude.{◌≡◌, ◌≤◌, ◌-ℤ◌, Ok, Err, Some, None, option_map, if◌then◌else◌, ◌&&◌};
+ghost use Rattle.std.specs.FinMap as map_of;
+ghost use Rattle.gd_base.specs.Ranges.{place_limit, is_within};
+ghost use Rattle.gd_base.specs.declared.ranges.TheConstants.{SESSION_EVENTS};
+ghost use Rattle.gd_model.specs.Board.{listed};
+ghost use Rattle.gd_canvas.specs.Slots.{board_of};
+ghost use Rattle.gd_reference.specs.Judging.{target, with_target, of_shape, of_group, moved_to, judged_over};
+ghost use Rattle.gd_judging.specs.Targets.{told};
+
+use crate::groups::group;
+use gd_base::{Edit, EditRefusal, PLACE_LIMIT, Place, Stamp};
+use gd_canvas::{Canvas, Kind};
+use gd_events::Op;
+use gd_view::{Shown, shown};
+
+/// The operation that the edit becomes over this drawing, or why it is refused. It takes no memory.
+pub fn judge(canvas: &Canvas, edit: &Edit) -> Result<Op, EditRefusal>
+    requires few { map_of.len (board_of canvas.now) ≤ SESSION_EVENTS }
+    ensures { result ≡ judged_over (target (listed (board_of canvas.now))) edit.now }
+{
+    match *edit {
+        Edit::Create {
+            kind,
+            x,
+            y,
+            w,
+            h,
+            ref label,
+        } => {
+            let label = label.copy();
+            Ok(Op::Create {
+                kind,
+                x,
+                y,
+                w,
+                h,
+                label,
+            })
+        }
+        Edit::Delete { id } => of_any(target(canvas, id), Op::Delete { id }),
+        Edit::Move { id, x, y } => moved(target(canvas, id), id, x, y),
+        Edit::Resize { id, w, h } => of_shape(target(canvas, id), Op::Resize { id, w, h }),
+        Edit::Restyle { id, style } => of_shape(target(canvas, id), Op::Restyle { id, style }),
+        Edit::Retext { id, ref label } => {
+            let label = label.copy();
+            of_shape(target(canvas, id), Op::Retext { id, label })
+        }
+        Edit::Group { ref ids } => group(canvas, ids.as_slice()),
+        Edit::Ungroup { id } => of_group(target(canvas, id), Op::Ungroup { id }),
+        Edit::Raise { id } => of_any(target(canvas, id), Op::Raise { id }),
+        Edit::Lower { id } => of_any(target(canvas, id), Op::Lower { id }),
+    }
+}
+
+/// The object of that id as it is shown, where it is.
+#[tactic(auto, using(crate::proofs::Told::told_is_target))]
+pub(crate) fn target(canvas: &Canvas, id: Stamp) -> Option<Shown>
+    requires few { map_of.len (board_of canvas.now) ≤ SESSION_EVENTS }
+    ensures { option_map told result ≡ target (listed (board_of canvas.now)) id }
+{
+    shown(canvas, id)
+}
+
+/// The change of any object, where it is shown.
+fn of_any(target: Option<Shown>, change: Op) -> Result<Op, EditRefusal>
+    ensures { result ≡ with_target (option_map told target) (λ t. Ok change) }
+{
+    match target {
+        Some(_) => Ok(change),
+        None => Err(EditRefusal::NoObject),
+    }
+}
+
+/// The change of a shape, where it is shown.
+fn of_shape(target: Option<Shown>, change: Op) -> Result<Op, EditRefusal>
+    ensures { result ≡ with_target (option_map told target) (λ t. of_shape change t.kind) }
+{
+    match target {
+        Some(shown) => match shown.kind {
+            Kind::Shape(_) => Ok(change),
+            Kind::Group => Err(EditRefusal::NotShape),
+        },
+        None => Err(EditRefusal::NoObject),
+    }
+}
+
+/// The change of a group, where it is shown.
+fn of_group(target: Option<Shown>, change: Op) -> Result<Op, EditRefusal>
+    ensures { result ≡ with_target (option_map told target) (λ t. of_group change t.kind) }
+{
+    match target {
+        Some(shown) => match shown.kind {
+            Kind::Shape(_) => Err(EditRefusal::NotGroup),
+            Kind::Group => Ok(change),
+        },
+        None => Err(EditRefusal::NoObject),
+    }
+}
+
+/// The move of an object that is to be shown there.
+fn moved(target: Option<Shown>, id: Stamp, x: i32, y: i32) -> Result<Op, EditRefusal>
+    ensures { result ≡ with_target (option_map told target)
+        (λ t. moved_to id (x -ℤ t.above.dx) (y -ℤ t.above.dy)) }
+{
+    match target {
+        Some(shown) => moved_below(shown.above, id, x, y),
+        None => Err(EditRefusal::NoObject),
+    }
+}
+
+/// The move of an object that is shown by `above` away from its own place.
+fn moved_below(above: Place, id: Stamp, x: i32, y: i32) -> Result<Op, EditRefusal>
+    ensures { result ≡ moved_to id (x -ℤ above.x) (y -ℤ above.y) }
+{
+    match in_range(difference(x, above.x), difference(y, above.y)) {
+        Some((x, y)) => Ok(Op::Move { id, x, y }),
+        None => Err(EditRefusal::TooFar),
+    }
+}
+
+fn difference(own: i32, above: i64) -> i128
+    ensures { result ≡ own -ℤ above }
+{
+    i128::from(own) - i128::from(above)
+}
+
+/// The two parts of a place or of a shift, where both are in their range.
+pub(crate) fn in_range(x: i128, y: i128) -> Option<(i32, i32)>
+    ensures { result
+        ≡ (if is_within place_limit x && is_within place_limit y then Some (x, y) else None) }
+{
+    let x = part_in_range(x)?;
+    let y = part_in_range(y)?;
+    Some((x, y))
+}
+
+fn part_in_range(value: i128) -> Option<i32>
+    ensures { result ≡ (if is_within place_limit value then Some value else None) }
+{
+    let limit = i128::from(PLACE_LIMIT);
+    if -limit <= value && value <= limit {
+        Some(value as i32)
+    } else {
+        None
+    }
+}
