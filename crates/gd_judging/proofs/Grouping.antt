@@ -11,7 +11,7 @@ use Rattle.gd_base.specs.declared.refusal.EditRefusal.TheVariants.{NoObject, Sam
 use Rattle.gd_events.specs.declared.op.Op.{Op}
 use Rattle.gd_events.specs.declared.op.Op.TheVariants as op
 use Rattle.gd_events.specs.Sound.{is_shift_in_range}
-use Rattle.gd_reference.specs.Judging.{Target, targets, with_targets, with_another, are_apart, is_free, member_at, by_id, grouped}
+use Rattle.gd_reference.specs.Judging.{Target, targets, with_targets, with_another, are_apart, is_other, is_free, member_at, by_id, grouped}
 use Rattle.gd_judging.specs.declared.groups.Named.{Named}
 use Rattle.gd_judging.specs.Targets.{named, member, rising}
 
@@ -47,6 +47,11 @@ module _ (look : Stamp → Option Target) where
 
 -- ---- the group of those that were found
 
+pub apart_next : (n : Named) (ns : List Named)
+    → are_apart (map (λ k. k.id) (n ∷ ns)) ≡ (list_all (λ k. is_other n.id k.id) ns && are_apart (map (λ k. k.id) ns))
+unfolding are_apart
+apart_next n ns = ap (λ (b : Bool). b && are_apart (map (λ k. k.id) ns)) (list_all-map (is_other n.id) (λ k. k.id) ns)
+
 ids_named : (ts : List (Stamp × Target)) → map (λ n. n.id) (map named ts) ≡ map (λ t. t.0) ts
 ids_named [] = refl
 ids_named (t ∷ ts) = ap (λ (l : List Stamp). t.0 ∷ l) (ids_named ts)
@@ -70,3 +75,15 @@ grouped_by apart free ms = cond (not apart) (Err SameMember) (cond (not free) (E
 pub is_grouped : (ns : List Named) (ts : List (Stamp × Target)) → map named ts ≡ ns
     → grouped_by (are_apart (map (λ n. n.id) ns)) (list_all (λ n. n.is_free) ns) (rising (map member ns)) ≡ grouped ts
 is_grouped ns ts e = rw (← e, ids_named ts, list_all-map (λ n. n.is_free) named ts, members_named ts, made_rising (map member_at ts) (list_all is_shift_in_range (map member_at ts))) refl
+
+module _ (ns : List Named) (ts : List (Stamp × Target)) (e : map named ts ≡ ns) where
+  pub group_same : are_apart (map (λ n. n.id) ns) ≡ false → Err SameMember ≡ grouped ts
+  group_same a = ap (λ b. grouped_by b (list_all (λ n. n.is_free) ns) (rising (map member ns))) (sym a) ∙ is_grouped ns ts e
+
+  pub group_nested : are_apart (map (λ n. n.id) ns) ≡ true → list_all (λ n. n.is_free) ns ≡ false → Err NotTop ≡ grouped ts
+  group_nested a f = ap₂ (λ b c. grouped_by b c (rising (map member ns))) (sym a) (sym f) ∙ is_grouped ns ts e
+
+  pub group_made : (ms : Option (List Member)) → are_apart (map (λ n. n.id) ns) ≡ true → list_all (λ n. n.is_free) ns ≡ true → rising (map member ns) ≡ ms
+      → made ms ≡ grouped ts
+  group_made ms a f r =
+      ap made (sym r) ∙ ap₂ (λ b c. grouped_by b c (rising (map member ns))) (sym a) (sym f) ∙ is_grouped ns ts e

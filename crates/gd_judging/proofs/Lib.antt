@@ -1,4 +1,4 @@
 pub mod Told
 pub mod Grouping
 pub mod Rising
-pub mod Rulesets
+pub mod InRange

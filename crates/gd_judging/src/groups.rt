@@ -89,7 +89,7 @@ fn grouped(named: &[Named]) -> Result<Op, EditRefusal>
 }
 
 /// Whether none is named twice.
-#[tactic(auto, unfolding(gd_reference::specs::Judging::are_apart))]
+#[tactic(auto, using(crate::proofs::Grouping::apart_next), unfolding(gd_reference::specs::Judging::are_apart))]
 fn are_apart(named: &[Named]) -> bool
     ensures { result ≡ are_apart (map (λ n. n.id) named.now) }
 {
@@ -101,9 +101,8 @@ fn are_apart(named: &[Named]) -> bool
     true
 }
 
-#[tactic(auto, using(crate::proofs::Rulesets::lists))]
 fn is_new(id: Stamp, others: &[Named]) -> bool
-    ensures { result ≡ list_all (is_other id) (map (λ n. n.id) others.now) }
+    ensures { result ≡ list_all (λ n. is_other id n.id) others.now }
 {
     others.iter().all(|other| !id.is_same(other.id))
 }
