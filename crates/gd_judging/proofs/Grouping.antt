@@ -1,8 +1,9 @@
 -- The objects of a new group, one id after the other, and what is made of them.
-use Rattle.std.proofs.Common.{◌≡◌, ℕ, Bool, true, false, cond, not, ◌&&◌, List, [], ◌∷◌, ◌++◌, map, Option, Some, None, Result, Ok, Err, refl, sym, ap, ap₂, ◌∙◌, append_assoc, subst}
+use Rattle.std.proofs.Common.{◌≡◌, ℕ, suc, ◌+◌, ◌<◌, ◌≤◌, Bool, true, false, cond, not, ◌&&◌, List, [], ◌∷◌, ◌++◌, map, Option, Some, None, Result, Ok, Err, refl, sym, ap, ap₂, ◌∙◌, append_assoc, length, drop, get_or, add-one}
+use Rattle.std.proofs.Math.Seq.{drop-cons}
 use Rattle.std.specs.Prelude.{option_map}
 use Rattle.std.specs.List.{list_all}
-use Rattle.std.proofs.lemmas.List.{append-nil}
+use Rattle.std.proofs.lemmas.List.{append-nil, drop_all}
 use Rattle.std.proofs.lemmas.List.Folds.{list_all-map}
 use Rattle.gd_base.specs.Stamps.{Stamp}
 use Rattle.gd_base.specs.declared.member.Member.{Member}
@@ -30,22 +31,32 @@ another-behind : (before : List Named) (id : Stamp) (t : Target) (found : Option
 another-behind before id t None = refl
 another-behind before id t (Some ts) = ap (λ (l : List Named). Some l) (sym (append_assoc before (named (id, t) ∷ []) (map named ts)))
 
-module _ (look : Stamp → Option Target) where
-  pub found-next : (before : List Named) (id : Stamp) (ids : List Stamp) (t : Target) → look id ≡ Some t
-      → behind before (targets look (id ∷ ids)) ≡ behind (before ++ named (id, t) ∷ []) (targets look ids)
-  unfolding targets
-  found-next before id ids t e =
-      ap (λ (o : Option Target). behind before (with_another id o (targets look ids))) e ∙ another-behind before id t (targets look ids)
+drop_at : {X : Type 0} (xs : List X) (i : ℕ) (x : X) → i < length xs → x ≡ get_or xs i x → drop i xs ≡ x ∷ drop (i + 1) xs
+drop_at xs i x inside at = rw add-one (drop-cons xs i x inside ∙ ap (λ y. y ∷ drop (suc i) xs) (sym at))
 
-  pub found-none : (before : List Named) (id : Stamp) (ids : List Stamp) → look id ≡ None → behind before (targets look (id ∷ ids)) ≡ None
+module _ (look : Stamp → Option Target) (before : List Named) (ids : List Stamp) (i : ℕ) where
+  pub found_all : length ids ≤ i → behind before (targets look (drop i ids)) ≡ Some before
   unfolding targets
-  found-none before id ids e = ap (λ (o : Option Target). behind before (with_another id o (targets look ids))) e
+  found_all end = ap (λ (l : List Stamp). behind before (targets look l)) (drop_all i ids end) ∙ ap (λ (l : List Named). Some l) (append-nil before)
 
-  pub found-all : (before : List Named) → behind before (targets look []) ≡ Some before
-  unfolding targets
-  found-all before = ap (λ (l : List Named). Some l) (append-nil before)
+  module _ (id : Stamp) (inside : i < length ids) (at : id ≡ get_or ids i id) where
+    next : (t : Option Target) → look id ≡ t → behind before (targets look (drop i ids)) ≡ behind before (with_another id t (targets look (drop (i + 1) ids)))
+    unfolding targets
+    next t is =
+        ap (λ (l : List Stamp). behind before (targets look l)) (drop_at ids i id inside at)
+        ∙ ap (λ (o : Option Target). behind before (with_another id o (targets look (drop (i + 1) ids)))) is
+
+    pub found_none : look id ≡ None → behind before (targets look (drop i ids)) ≡ None
+    found_none is = next None is
+
+    pub found_next : (t : Target) → look id ≡ Some t
+        → behind before (targets look (drop i ids)) ≡ behind (before ++ named (id, t) ∷ []) (targets look (drop (i + 1) ids))
+    found_next t is = next (Some t) is ∙ another-behind before id t (targets look (drop (i + 1) ids))
 
 -- ---- the group of those that were found
+
+abbrev apart : List Named → Bool
+apart ns = are_apart (map (λ k. k.id) ns)
 
 pub apart_next : (n : Named) (ns : List Named)
     → are_apart (map (λ k. k.id) (n ∷ ns)) ≡ (list_all (λ k. is_other n.id k.id) ns && are_apart (map (λ k. k.id) ns))

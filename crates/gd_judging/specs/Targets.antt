@@ -1,6 +1,7 @@
 -- What the judgement of an edit reads off an object as it is shown.
-use Rattle.std.specs.Prelude.{List, Option, Some, None, if◌then◌else◌}
+use Rattle.std.specs.Prelude.{ℤ, ◌&&◌, List, Option, Some, None, if◌then◌else◌}
 use Rattle.std.specs.List.{list_all}
+use Rattle.gd_base.specs.Ranges.{place_limit, is_within}
 use Rattle.gd_base.specs.Stamps.{Stamp}
 use Rattle.gd_base.specs.declared.member.Member.{Member}
 use Rattle.gd_events.specs.Sound.{is_shift_in_range}
@@ -12,7 +13,11 @@ use Rattle.gd_judging.specs.declared.groups.Named.{Named}
 abbrev pub told : Shown → Target
 told s = record { kind = s.kind; above = record { parent = s.parent; dx = s.above.x; dy = s.above.y } }
 
--- the same, where a new group names it
+-- the two parts of a place or of a shift, where both are in their range
+abbrev pub in_range : ℤ → ℤ → Option (ℤ × ℤ)
+in_range x y = if is_within place_limit x && is_within place_limit y then Some (x, y) else None
+
+-- an object that is shown, where a new group names it
 abbrev pub named : Stamp × Target → Named
 named t = record { id = t.0; is_free = is_free t; dx = t.1.above.dx; dy = t.1.above.dy }
 

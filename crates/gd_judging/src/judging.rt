@@ -1,11 +1,11 @@
-ghost use Rattle.std.specs.Prelude.{◌≡◌, ◌≤◌, ◌-ℤ◌, Ok, Err, Some, None, option_map, if◌then◌else◌, ◌&&◌};
+ghost use Rattle.std.specs.Prelude.{◌≡◌, ◌≤◌, ◌-ℤ◌, Ok, Err, Some, None, option_map, if◌then◌else◌};
 ghost use Rattle.std.specs.FinMap as map_of;
 ghost use Rattle.gd_base.specs.Ranges.{place_limit, is_within};
 ghost use Rattle.gd_base.specs.declared.ranges.TheConstants.{SESSION_EVENTS};
 ghost use Rattle.gd_model.specs.Board.{listed};
 ghost use Rattle.gd_canvas.specs.Slots.{board_of};
 ghost use Rattle.gd_reference.specs.Judging.{target, with_target, of_shape, of_group, moved_to, judged_over};
-ghost use Rattle.gd_judging.specs.Targets.{told};
+ghost use Rattle.gd_judging.specs.Targets.{told, in_range};
 
 use crate::groups::group;
 use gd_base::{Edit, EditRefusal, PLACE_LIMIT, Place, Stamp};
@@ -103,31 +103,30 @@ fn moved(target: Option<Shown>, id: Stamp, x: i32, y: i32) -> Result<Op, EditRef
         (λ t. moved_to id (x -ℤ t.above.dx) (y -ℤ t.above.dy)) }
 {
     match target {
-        Some(shown) => moved_below(shown.above, id, x, y),
+        Some(shown) => match own_place(shown.above, x, y) {
+            Some((x, y)) => Ok(Op::Move { id, x, y }),
+            None => Err(EditRefusal::TooFar),
+        },
         None => Err(EditRefusal::NoObject),
     }
 }
 
-/// The move of an object that is shown by `above` away from its own place.
-fn moved_below(above: Place, id: Stamp, x: i32, y: i32) -> Result<Op, EditRefusal>
-    ensures { result ≡ moved_to id (x -ℤ above.x) (y -ℤ above.y) }
+/// The own place of an object that is to be shown there, `above` away from it. None where it would leave its range.
+fn own_place(above: Place, x: i32, y: i32) -> Option<(i32, i32)>
+    ensures { result ≡ in_range (x -ℤ above.x) (y -ℤ above.y) }
 {
-    match in_range(difference(x, above.x), difference(y, above.y)) {
-        Some((x, y)) => Ok(Op::Move { id, x, y }),
-        None => Err(EditRefusal::TooFar),
-    }
+    in_range(difference(x, above.x), difference(y, above.y))
 }
 
-fn difference(own: i32, above: i64) -> i128
-    ensures { result ≡ own -ℤ above }
+fn difference(shown: i32, above: i64) -> i128
+    ensures { result ≡ shown -ℤ above }
 {
-    i128::from(own) - i128::from(above)
+    i128::from(shown) - i128::from(above)
 }
 
 /// The two parts of a place or of a shift, where both are in their range.
 pub(crate) fn in_range(x: i128, y: i128) -> Option<(i32, i32)>
-    ensures { result
-        ≡ (if is_within place_limit x && is_within place_limit y then Some (x, y) else None) }
+    ensures { result ≡ in_range x y }
 {
     let x = part_in_range(x)?;
     let y = part_in_range(y)?;
