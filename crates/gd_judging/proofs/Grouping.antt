@@ -1,9 +1,8 @@
 -- The objects of a new group, one id after the other, and what is made of them.
-use Rattle.std.proofs.Common.{◌≡◌, ℕ, suc, ◌+◌, ◌<◌, ◌≤◌, Bool, true, false, cond, not, ◌&&◌, List, [], ◌∷◌, ◌++◌, map, Option, Some, None, Result, Ok, Err, refl, sym, ap, ap₂, ◌∙◌, append_assoc, length, drop, get_or, add-one}
-use Rattle.std.proofs.Math.Seq.{drop-cons}
+use Rattle.std.proofs.Common.{◌≡◌, ℕ, ◌+◌, ◌<◌, ◌≤◌, Bool, true, false, cond, not, ◌&&◌, List, [], ◌∷◌, ◌++◌, map, Option, Some, None, Result, Ok, Err, refl, sym, ap, ap₂, ◌∙◌, append_assoc, length, take, drop, get_or, ◌-◌, arith}
 use Rattle.std.specs.Prelude.{option_map}
 use Rattle.std.specs.List.{list_all}
-use Rattle.std.proofs.lemmas.List.{append-nil, drop_all}
+use Rattle.std.proofs.lemmas.List.{append-nil, drop_all, drop_more, take_all, length-drop}
 use Rattle.std.proofs.lemmas.List.Folds.{list_all-map}
 use Rattle.gd_base.specs.Stamps.{Stamp}
 use Rattle.gd_base.specs.declared.member.Member.{Member}
@@ -32,7 +31,7 @@ another-behind before id t None = refl
 another-behind before id t (Some ts) = ap (λ (l : List Named). Some l) (sym (append_assoc before (named (id, t) ∷ []) (map named ts)))
 
 drop_at : {X : Type 0} (xs : List X) (i : ℕ) (x : X) → i < length xs → x ≡ get_or xs i x → drop i xs ≡ x ∷ drop (i + 1) xs
-drop_at xs i x inside at = rw add-one (drop-cons xs i x inside ∙ ap (λ y. y ∷ drop (suc i) xs) (sym at))
+drop_at xs i x inside at = drop_more xs i x inside ∙ ap (λ y. y ∷ drop (i + 1) xs) (sym at)
 
 module _ (look : Stamp → Option Target) (before : List Named) (ids : List Stamp) (i : ℕ) where
   pub found_all : length ids ≤ i → behind before (targets look (drop i ids)) ≡ Some before
@@ -56,12 +55,28 @@ module _ (look : Stamp → Option Target) (before : List Named) (ids : List Stam
 -- ---- the group of those that were found
 
 abbrev apart : List Named → Bool
-apart ns = are_apart (map (λ k. k.id) ns)
+apart ns = are_apart (map (λ n. n.id) ns)
 
-pub apart_next : (n : Named) (ns : List Named)
-    → are_apart (map (λ k. k.id) (n ∷ ns)) ≡ (list_all (λ k. is_other n.id k.id) ns && are_apart (map (λ k. k.id) ns))
+apart_next : (n : Named) (ns : List Named) → apart (n ∷ ns) ≡ (list_all (λ m. is_other n.id m.id) ns && apart ns)
 unfolding are_apart
-apart_next n ns = ap (λ (b : Bool). b && are_apart (map (λ k. k.id) ns)) (list_all-map (is_other n.id) (λ k. k.id) ns)
+apart_next n ns = ap (λ (b : Bool). b && apart ns) (list_all-map (is_other n.id) (λ m. m.id) ns)
+
+take_rest : {X : Type 0} (xs : List X) (i : ℕ) → take (length xs - i) (drop i xs) ≡ drop i xs
+take_rest xs i = take_all (length xs - i) (drop i xs) (omega (arith, length-drop i xs))
+
+module _ (ns : List Named) (k : ℕ) (n : Named) (inside : k < length ns) (b : Bool)
+         (is : list_all (λ m. is_other (get_or ns k n).id m.id) (take (length ns - (k + 1)) (drop (k + 1) ns)) ≡ b) where
+  apart_from : apart (drop k ns) ≡ (b && apart (drop (k + 1) ns))
+  apart_from =
+      ap apart (drop_more ns k n inside) ∙ apart_next (get_or ns k n) (drop (k + 1) ns)
+      ∙ ap (λ (l : List Named). list_all (λ m. is_other (get_or ns k n).id m.id) l && apart (drop (k + 1) ns)) (sym (take_rest ns (k + 1)))
+      ∙ ap (λ (t : Bool). t && apart (drop (k + 1) ns)) is
+
+  pub apart_not : b ≡ false → apart (drop k ns) ≡ false
+  apart_not e = apart_from ∙ ap (λ (t : Bool). t && apart (drop (k + 1) ns)) e
+
+  pub apart_on : b ≡ true → apart (drop (k + 1) ns) ≡ apart (drop k ns)
+  apart_on e = sym (apart_from ∙ ap (λ (t : Bool). t && apart (drop (k + 1) ns)) e)
 
 ids_named : (ts : List (Stamp × Target)) → map (λ n. n.id) (map named ts) ≡ map (λ t. t.0) ts
 ids_named [] = refl

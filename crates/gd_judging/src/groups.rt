@@ -89,7 +89,7 @@ fn grouped(named: &[Named]) -> Result<Op, EditRefusal>
 }
 
 /// Whether none is named twice.
-#[tactic(auto, using(crate::proofs::Grouping::apart_next), unfolding(gd_reference::specs::Judging::are_apart))]
+#[tactic(auto, unfolding(gd_reference::specs::Judging::are_apart))]
 fn are_apart(named: &[Named]) -> bool
     ensures { result ≡ are_apart (map (λ n. n.id) named.now) }
 {
