@@ -7,11 +7,11 @@ use Rattle.std.proofs.lemmas.List.Folds.{list_all-map}
 use Rattle.gd_base.specs.Stamps.{Stamp}
 use Rattle.gd_base.specs.declared.member.Member.{Member}
 use Rattle.gd_base.specs.declared.refusal.EditRefusal.{EditRefusal}
-use Rattle.gd_base.specs.declared.refusal.EditRefusal.TheVariants.{NoObject, SameMember, NotTop, TooFar}
+use Rattle.gd_base.specs.declared.refusal.EditRefusal.TheVariants.{SameMember, NotTop, TooFar}
 use Rattle.gd_events.specs.declared.op.Op.{Op}
 use Rattle.gd_events.specs.declared.op.Op.TheVariants as op
 use Rattle.gd_events.specs.Sound.{is_shift_in_range}
-use Rattle.gd_reference.specs.Judging.{Target, targets, with_targets, with_another, are_apart, is_other, is_free, member_at, by_id, grouped}
+use Rattle.gd_reference.specs.Judging.{Target, targets, with_another, are_apart, is_other, member_at, by_id, grouped}
 use Rattle.gd_judging.specs.declared.groups.Named.{Named}
 use Rattle.gd_judging.specs.Targets.{named, member, rising}
 
@@ -65,7 +65,7 @@ take_rest : {X : Type 0} (xs : List X) (i : ℕ) → take (length xs - i) (drop 
 take_rest xs i = take_all (length xs - i) (drop i xs) (omega (arith, length-drop i xs))
 
 module _ (ns : List Named) (k : ℕ) (n : Named) (inside : k < length ns) (b : Bool)
-         (is : list_all (λ m. is_other (get_or ns k n).id m.id) (take (length ns - (k + 1)) (drop (k + 1) ns)) ≡ b) where
+    (is : list_all (λ m. is_other (get_or ns k n).id m.id) (take (length ns - (k + 1)) (drop (k + 1) ns)) ≡ b) where
   apart_from : apart (drop k ns) ≡ (b && apart (drop (k + 1) ns))
   apart_from =
       ap apart (drop_more ns k n inside) ∙ apart_next (get_or ns k n) (drop (k + 1) ns)

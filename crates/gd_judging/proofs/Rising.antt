@@ -1,12 +1,12 @@
 -- Members are put in by rising id, one after the other from the last.
-use Rattle.std.proofs.Common.{◌≡◌, ℕ, zero, suc, ◌+◌, ◌-◌, ◌<◌, ◌≤◌, nat_lt, Bool, true, false, cond, not, ◌&&◌, List, [], ◌∷◌, length, map, drop, get_or, Option, Some, None, refl, sym, ap, ap₂, ◌∙◌, subst, arith}
+use Rattle.std.proofs.Common.{◌≡◌, ℕ, suc, ◌+◌, ◌<◌, ◌≤◌, nat_lt, Bool, true, false, cond, not, ◌&&◌, List, [], ◌∷◌, length, map, drop, get_or, Some, None, refl, sym, ap, ◌∙◌, arith}
 use Rattle.std.specs.List.{list_all, insert, position, position_or_len}
 use Rattle.std.specs.Option.{unwrap_or}
 use Rattle.std.proofs.lemmas.Bool.Decides.{nat_tests}
 use Rattle.std.proofs.lemmas.List.Sums.{prefix_len-le-length}
 use Rattle.std.proofs.lemmas.List.Folds.{list_all_at, list_all-map}
 use Rattle.std.proofs.Math.Seq.{drop-cons}
-use Rattle.gd_base.specs.Stamps.{Stamp, is_before}
+use Rattle.gd_base.specs.Stamps.{is_before}
 use Rattle.gd_base.specs.Insertions.{inserted_by}
 use Rattle.gd_base.specs.declared.member.Member.{Member}
 use Rattle.gd_events.specs.Sound.{is_shift_in_range}
@@ -84,6 +84,6 @@ rise_not ns i n inside at h = go (is_shift_in_range (member n)) refl h
     go true is h = cc
     go false is h =
         let out : list_all is_shift_in_range (map member ns) ≡ false =
-            list_all-map is_shift_in_range member ns
-            ∙ list_all_at (λ k. is_shift_in_range (member k)) ns i n inside (ap (λ (k : Named). is_shift_in_range (member k)) (sym at) ∙ is) in
+        list_all-map is_shift_in_range member ns
+        ∙ list_all_at (λ k. is_shift_in_range (member k)) ns i n inside (ap (λ (k : Named). is_shift_in_range (member k)) (sym at) ∙ is) in
         ap (λ (b : Bool). cond b (Some (by_id (map member ns))) None) out

@@ -6,7 +6,7 @@ use Rattle.gd_base.specs.Stamps.{Stamp, stamp_cmp}
 use Rattle.gd_model.specs.Drawing.{Drawing}
 use Rattle.gd_model.specs.declared.above.Above.{Above}
 use Rattle.gd_model.specs.declared.object.Body.{Body}
-use Rattle.gd_model.specs.Shown.{above, is_gone, shown_as, found_as}
+use Rattle.gd_model.specs.Shown.{above, is_gone, found_as}
 use Rattle.gd_reference.specs.Judging.{target_at, target}
 use Rattle.gd_view.specs.Seen.{seen, shown_at}
 use Rattle.gd_judging.specs.Targets.{told}

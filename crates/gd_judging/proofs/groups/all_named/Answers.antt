@@ -1,10 +1,9 @@
-use Rattle.std.proofs.Common.{◌≡◌, ◌∙◌, ◌+◌, ◌++◌, ◌∷◌, [], List, Some, None, Option, sym, ap, length, drop, arith}
+use Rattle.std.proofs.Common.{◌∙◌, ◌+◌, ◌++◌, ◌∷◌, [], List, Option, sym, ap, drop, arith}
 use Rattle.std.specs.Prelude.{option_map}
 use Rattle.gd_base.specs.Stamps.{Stamp}
 use Rattle.gd_canvas.specs.Slots.{board_of}
 use Rattle.gd_model.specs.Board.{listed}
 use Rattle.gd_reference.specs.Judging.{Target, target, targets}
-use Rattle.gd_view.specs.declared.places.Shown.{Shown}
 use Rattle.gd_judging.specs.declared.groups.Named.{Named}
 use Rattle.gd_judging.specs.Targets.{told}
 use Rattle.gd_judging.proofs.Grouping.{behind, found_all, found_none, found_next}
@@ -22,7 +21,7 @@ loop-id-preserved c =
     let look : Stamp → Option Target = target (listed (board_of c.args.canvas.now)) in
     record {
       found = ap (λ (l : List Named). behind l (targets look (drop (c.loop-id.id-index + 1) c.args.ids.now)))
-              (c.push.ensures.items ∙ ap (λ (n : Named). c.loop-id.all.items ++ n ∷ []) c.new.ensures)
+          (c.push.ensures.items ∙ ap (λ (n : Named). c.loop-id.all.items ++ n ∷ []) c.new.ensures)
           ∙ sym (found_next look c.loop-id.all.items c.args.ids.now c.loop-id.id-index c.id-item.result c.loop-id-test.true c.id-item.is (told c.in_ok-shown.shown) (sym c.in_ok-shown.ensures))
           ∙ c.loop-id.invariant.found;
       taken = omega (arith, c.push.ensures.len, c.loop-id.invariant.taken);

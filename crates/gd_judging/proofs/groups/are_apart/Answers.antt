@@ -1,4 +1,4 @@
-use Rattle.std.proofs.Common.{◌∙◌, sym, refl}
+use Rattle.std.proofs.Common.{◌∙◌, sym}
 use Rattle.gd_judging.proofs.Grouping.{apart_not, apart_on}
 use Rattle.gd_judging.proofs.groups.are_apart.Goals as goal
 

@@ -1,4 +1,4 @@
-use Rattle.std.proofs.Common.{◌≡◌, ◌<◌, ◌+◌, ◌-◌, ◌∙◌, List, Some, suc, sym, ap, map, drop, arith, length}
+use Rattle.std.proofs.Common.{◌≡◌, ◌<◌, ◌-◌, ◌∙◌, List, Some, suc, sym, ap, map, arith, length}
 use Rattle.std.proofs.Math.Seq.{drop-length}
 use Rattle.gd_base.specs.declared.member.Member.{Member}
 use Rattle.gd_judging.specs.Targets.{member, rising}
@@ -24,7 +24,7 @@ loop-place-preserved c =
     let next : suc (c.loop-place.place - 1) ≡ c.loop-place.place = omega (arith, c.loop-place-test.true) in
     record {
       sorted = rise_at c.args.named.now (c.loop-place.place - 1) c.loop-place.place c.index-named-place.result c.in_ok-member.member c.loop-place.sorted.items
-              next inside c.index-named-place.is c.loop-place.invariant.sorted (sym c.in_ok-member.ensures)
+          next inside c.index-named-place.is c.loop-place.invariant.sorted (sym c.in_ok-member.ensures)
           ∙ ap (λ (l : List Member). Some l) (sym c.put_in.ensures.items);
       left = omega (arith, c.put_in.ensures.more, c.loop-place.invariant.left, c.loop-place-test.true);
     }
