@@ -13,22 +13,18 @@ use Rattle.gd_events.specs.declared.op.Op.TheVariants as op
 use Rattle.gd_events.specs.Sound.{is_shift_in_range}
 use Rattle.gd_reference.specs.Judging.{Target, targets, with_another, are_apart, is_other, member_at, by_id, grouped}
 use Rattle.gd_judging.specs.declared.groups.Named.{Named}
-use Rattle.gd_judging.specs.Targets.{named, member, rising}
+use Rattle.gd_judging.specs.Targets.{as_named, as_member, rising}
 
 -- ---- the objects are looked up
 
 -- what is found of these ids, behind what was found before them
 abbrev pub behind : List Named → Option (List (Stamp × Target)) → Option (List Named)
-behind before found = option_map (λ ts. before ++ map named ts) found
+behind before found = option_map (λ ts. before ++ map as_named ts) found
 
-pub behind-none : (found : Option (List (Stamp × Target))) → behind [] found ≡ option_map (map named) found
-behind-none None = refl
-behind-none (Some ts) = refl
-
-another-behind : (before : List Named) (id : Stamp) (t : Target) (found : Option (List (Stamp × Target)))
-    → behind before (with_another id (Some t) found) ≡ behind (before ++ named (id, t) ∷ []) found
-another-behind before id t None = refl
-another-behind before id t (Some ts) = ap (λ (l : List Named). Some l) (sym (append_assoc before (named (id, t) ∷ []) (map named ts)))
+behind-another : (before : List Named) (id : Stamp) (t : Target) (found : Option (List (Stamp × Target)))
+    → behind before (with_another id (Some t) found) ≡ behind (before ++ as_named (id, t) ∷ []) found
+behind-another before id t None = refl
+behind-another before id t (Some ts) = ap (λ (l : List Named). Some l) (sym (append_assoc before (as_named (id, t) ∷ []) (map as_named ts)))
 
 drop_at : {X : Type 0} (xs : List X) (i : ℕ) (x : X) → i < length xs → x ≡ get_or xs i x → drop i xs ≡ x ∷ drop (i + 1) xs
 drop_at xs i x inside at = drop_more xs i x inside ∙ ap (λ y. y ∷ drop (i + 1) xs) (sym at)
@@ -49,8 +45,8 @@ module _ (look : Stamp → Option Target) (before : List Named) (ids : List Stam
     found_none is = next None is
 
     pub found_next : (t : Target) → look id ≡ Some t
-        → behind before (targets look (drop i ids)) ≡ behind (before ++ named (id, t) ∷ []) (targets look (drop (i + 1) ids))
-    found_next t is = next (Some t) is ∙ another-behind before id t (targets look (drop (i + 1) ids))
+        → behind before (targets look (drop i ids)) ≡ behind (before ++ as_named (id, t) ∷ []) (targets look (drop (i + 1) ids))
+    found_next t is = next (Some t) is ∙ behind-another before id t (targets look (drop (i + 1) ids))
 
 -- ---- the group of those that were found
 
@@ -64,12 +60,12 @@ apart_next n ns = ap (λ (b : Bool). b && apart ns) (list_all-map (is_other n.id
 take_rest : {X : Type 0} (xs : List X) (i : ℕ) → take (length xs - i) (drop i xs) ≡ drop i xs
 take_rest xs i = take_all (length xs - i) (drop i xs) (omega (arith, length-drop i xs))
 
-module _ (ns : List Named) (k : ℕ) (n : Named) (inside : k < length ns) (b : Bool)
-    (is : list_all (λ m. is_other (get_or ns k n).id m.id) (take (length ns - (k + 1)) (drop (k + 1) ns)) ≡ b) where
+module _ (ns : List Named) (k : ℕ) (d : Named) (inside : k < length ns) (b : Bool)
+    (is : list_all (λ m. is_other (get_or ns k d).id m.id) (take (length ns - (k + 1)) (drop (k + 1) ns)) ≡ b) where
   apart_from : apart (drop k ns) ≡ (b && apart (drop (k + 1) ns))
   apart_from =
-      ap apart (drop_more ns k n inside) ∙ apart_next (get_or ns k n) (drop (k + 1) ns)
-      ∙ ap (λ (l : List Named). list_all (λ m. is_other (get_or ns k n).id m.id) l && apart (drop (k + 1) ns)) (sym (take_rest ns (k + 1)))
+      ap apart (drop_more ns k d inside) ∙ apart_next (get_or ns k d) (drop (k + 1) ns)
+      ∙ ap (λ (l : List Named). list_all (λ m. is_other (get_or ns k d).id m.id) l && apart (drop (k + 1) ns)) (sym (take_rest ns (k + 1)))
       ∙ ap (λ (t : Bool). t && apart (drop (k + 1) ns)) is
 
   pub apart_not : b ≡ false → apart (drop k ns) ≡ false
@@ -78,11 +74,11 @@ module _ (ns : List Named) (k : ℕ) (n : Named) (inside : k < length ns) (b : B
   pub apart_on : b ≡ true → apart (drop (k + 1) ns) ≡ apart (drop k ns)
   apart_on e = sym (apart_from ∙ ap (λ (t : Bool). t && apart (drop (k + 1) ns)) e)
 
-ids_named : (ts : List (Stamp × Target)) → map (λ n. n.id) (map named ts) ≡ map (λ t. t.0) ts
+ids_named : (ts : List (Stamp × Target)) → map (λ n. n.id) (map as_named ts) ≡ map (λ t. t.0) ts
 ids_named [] = refl
 ids_named (t ∷ ts) = ap (λ (l : List Stamp). t.0 ∷ l) (ids_named ts)
 
-members_named : (ts : List (Stamp × Target)) → map member (map named ts) ≡ map member_at ts
+members_named : (ts : List (Stamp × Target)) → map as_member (map as_named ts) ≡ map member_at ts
 members_named [] = refl
 members_named (t ∷ ts) = ap (λ (l : List Member). member_at t ∷ l) (members_named ts)
 
@@ -98,18 +94,18 @@ made_rising ms false = refl
 abbrev grouped_by : Bool → Bool → Option (List Member) → Result Op EditRefusal
 grouped_by apart free ms = cond (not apart) (Err SameMember) (cond (not free) (Err NotTop) (made ms))
 
-pub is_grouped : (ns : List Named) (ts : List (Stamp × Target)) → map named ts ≡ ns
-    → grouped_by (are_apart (map (λ n. n.id) ns)) (list_all (λ n. n.is_free) ns) (rising (map member ns)) ≡ grouped ts
-is_grouped ns ts e = rw (← e, ids_named ts, list_all-map (λ n. n.is_free) named ts, members_named ts, made_rising (map member_at ts) (list_all is_shift_in_range (map member_at ts))) refl
+pub is_grouped : (ns : List Named) (ts : List (Stamp × Target)) → map as_named ts ≡ ns
+    → grouped_by (are_apart (map (λ n. n.id) ns)) (list_all (λ n. n.is_free) ns) (rising (map as_member ns)) ≡ grouped ts
+is_grouped ns ts e = rw (← e, ids_named ts, list_all-map (λ n. n.is_free) as_named ts, members_named ts, made_rising (map member_at ts) (list_all is_shift_in_range (map member_at ts))) refl
 
-module _ (ns : List Named) (ts : List (Stamp × Target)) (e : map named ts ≡ ns) where
+module _ (ns : List Named) (ts : List (Stamp × Target)) (e : map as_named ts ≡ ns) where
   pub group_same : are_apart (map (λ n. n.id) ns) ≡ false → Err SameMember ≡ grouped ts
-  group_same a = ap (λ b. grouped_by b (list_all (λ n. n.is_free) ns) (rising (map member ns))) (sym a) ∙ is_grouped ns ts e
+  group_same a = ap (λ b. grouped_by b (list_all (λ n. n.is_free) ns) (rising (map as_member ns))) (sym a) ∙ is_grouped ns ts e
 
   pub group_nested : are_apart (map (λ n. n.id) ns) ≡ true → list_all (λ n. n.is_free) ns ≡ false → Err NotTop ≡ grouped ts
-  group_nested a f = ap₂ (λ b c. grouped_by b c (rising (map member ns))) (sym a) (sym f) ∙ is_grouped ns ts e
+  group_nested a f = ap₂ (λ b c. grouped_by b c (rising (map as_member ns))) (sym a) (sym f) ∙ is_grouped ns ts e
 
-  pub group_made : (ms : Option (List Member)) → are_apart (map (λ n. n.id) ns) ≡ true → list_all (λ n. n.is_free) ns ≡ true → rising (map member ns) ≡ ms
+  pub group_made : (ms : Option (List Member)) → are_apart (map (λ n. n.id) ns) ≡ true → list_all (λ n. n.is_free) ns ≡ true → rising (map as_member ns) ≡ ms
       → made ms ≡ grouped ts
   group_made ms a f r =
-      ap made (sym r) ∙ ap₂ (λ b c. grouped_by b c (rising (map member ns))) (sym a) (sym f) ∙ is_grouped ns ts e
+      ap made (sym r) ∙ ap₂ (λ b c. grouped_by b c (rising (map as_member ns))) (sym a) (sym f) ∙ is_grouped ns ts e

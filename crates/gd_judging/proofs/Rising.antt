@@ -12,7 +12,7 @@ use Rattle.gd_base.specs.declared.member.Member.{Member}
 use Rattle.gd_events.specs.Sound.{is_shift_in_range}
 use Rattle.gd_reference.specs.Judging.{by_id}
 use Rattle.gd_judging.specs.declared.groups.Named.{Named}
-use Rattle.gd_judging.specs.Targets.{member, rising}
+use Rattle.gd_judging.specs.Targets.{as_member, rising}
 
 -- ---- the place of a member
 
@@ -55,35 +55,35 @@ rise m ms sorted h e = rise_by m (is_shift_in_range m) (list_all is_shift_in_ran
 
 -- ---- a list of objects, from the last one on
 
-drop_map : (ns : List Named) (i : ℕ) (n : Named) → i < length ns → n ≡ get_or ns i n → map member (drop i ns) ≡ member n ∷ map member (drop (suc i) ns)
-drop_map ns i n inside at = ap (map member) (drop-cons ns i n inside) ∙ ap (λ (k : Named). member k ∷ map member (drop (suc i) ns)) (sym at)
+drop_map : (ns : List Named) (i : ℕ) (n : Named) → i < length ns → n ≡ get_or ns i n → map as_member (drop i ns) ≡ as_member n ∷ map as_member (drop (suc i) ns)
+drop_map ns i n inside at = ap (map as_member) (drop-cons ns i n inside) ∙ ap (λ (k : Named). as_member k ∷ map as_member (drop (suc i) ns)) (sym at)
 
 pub rise_none : rising [] ≡ Some []
 unfolding by_id
 rise_none = refl
 
 pub rise_at : (ns : List Named) (i j : ℕ) (n : Named) (m : Member) (sorted : List Member) → suc i ≡ j → i < length ns → n ≡ get_or ns i n
-    → rising (map member (drop j ns)) ≡ Some sorted → cond (is_shift_in_range (member n)) (Some (member n)) None ≡ Some m
-    → rising (map member (drop i ns)) ≡ Some (inserted_by (λ k. k.id) sorted m)
+    → rising (map as_member (drop j ns)) ≡ Some sorted → cond (is_shift_in_range (as_member n)) (Some (as_member n)) None ≡ Some m
+    → rising (map as_member (drop i ns)) ≡ Some (inserted_by (λ k. k.id) sorted m)
 rise_at ns i j n m sorted e inside at h k =
     ap rising (drop_map ns i n inside at)
-    ∙ go (is_shift_in_range (member n)) refl k (ap (λ (l : ℕ). rising (map member (drop l ns))) e ∙ h)
+    ∙ go (is_shift_in_range (as_member n)) refl k (ap (λ (l : ℕ). rising (map as_member (drop l ns))) e ∙ h)
   where
-    go : (b : Bool) → is_shift_in_range (member n) ≡ b → cond b (Some (member n)) None ≡ Some m → rising (map member (drop (suc i) ns)) ≡ Some sorted
-        → rising (member n ∷ map member (drop (suc i) ns)) ≡ Some (inserted_by (λ k. k.id) sorted m)
+    go : (b : Bool) → is_shift_in_range (as_member n) ≡ b → cond b (Some (as_member n)) None ≡ Some m → rising (map as_member (drop (suc i) ns)) ≡ Some sorted
+        → rising (as_member n ∷ map as_member (drop (suc i) ns)) ≡ Some (inserted_by (λ k. k.id) sorted m)
     go true is k h =
-        let same : member n ≡ m = cc in
-        rise (member n) (map member (drop (suc i) ns)) sorted h is ∙ ap (λ (x : Member). Some (inserted_by (λ k. k.id) sorted x)) same
+        let same : as_member n ≡ m = cc in
+        rise (as_member n) (map as_member (drop (suc i) ns)) sorted h is ∙ ap (λ (x : Member). Some (inserted_by (λ k. k.id) sorted x)) same
     go false is k h = cc
 
 pub rise_not : (ns : List Named) (i : ℕ) (n : Named) → i < length ns → n ≡ get_or ns i n
-    → cond (is_shift_in_range (member n)) (Some (member n)) None ≡ None → rising (map member ns) ≡ None
-rise_not ns i n inside at h = go (is_shift_in_range (member n)) refl h
+    → cond (is_shift_in_range (as_member n)) (Some (as_member n)) None ≡ None → rising (map as_member ns) ≡ None
+rise_not ns i n inside at h = go (is_shift_in_range (as_member n)) refl h
   where
-    go : (b : Bool) → is_shift_in_range (member n) ≡ b → cond b (Some (member n)) None ≡ None → rising (map member ns) ≡ None
+    go : (b : Bool) → is_shift_in_range (as_member n) ≡ b → cond b (Some (as_member n)) None ≡ None → rising (map as_member ns) ≡ None
     go true is h = cc
     go false is h =
-        let out : list_all is_shift_in_range (map member ns) ≡ false =
-        list_all-map is_shift_in_range member ns
-        ∙ list_all_at (λ k. is_shift_in_range (member k)) ns i n inside (ap (λ (k : Named). is_shift_in_range (member k)) (sym at) ∙ is) in
-        ap (λ (b : Bool). cond b (Some (by_id (map member ns))) None) out
+        let out : list_all is_shift_in_range (map as_member ns) ≡ false =
+        list_all-map is_shift_in_range as_member ns
+        ∙ list_all_at (λ k. is_shift_in_range (as_member k)) ns i n inside (ap (λ (k : Named). is_shift_in_range (as_member k)) (sym at) ∙ is) in
+        ap (λ (b : Bool). cond b (Some (by_id (map as_member ns))) None) out

@@ -18,11 +18,11 @@ abbrev pub in_range : ℤ → ℤ → Option (ℤ × ℤ)
 in_range x y = if is_within place_limit x && is_within place_limit y then Some (x, y) else None
 
 -- an object that is shown, where a new group names it
-abbrev pub named : Stamp × Target → Named
-named t = record { id = t.0; is_free = is_free t; dx = t.1.above.dx; dy = t.1.above.dy }
+abbrev pub as_named : Stamp × Target → Named
+as_named t = record { id = t.0; is_free = is_free t; dx = t.1.above.dx; dy = t.1.above.dy }
 
-abbrev pub member : Named → Member
-member n = record { id = n.id; dx = n.dx; dy = n.dy }
+abbrev pub as_member : Named → Member
+as_member n = record { id = n.id; dx = n.dx; dy = n.dy }
 
 -- the members by rising id, where the shifts of all of them are in their range
 abbrev pub rising : List Member → Option (List Member)

@@ -11,8 +11,7 @@ ghost use Rattle.gd_events.specs.Sound.{is_shift_in_range};
 ghost use Rattle.gd_model.specs.Board.{listed};
 ghost use Rattle.gd_canvas.specs.Slots.{board_of};
 ghost use Rattle.gd_reference.specs.Judging.{Target, target, targets, with_targets, grouped, are_apart, is_other};
-ghost use Rattle.gd_judging.specs.Targets as seen;
-ghost use Rattle.gd_judging.specs.Targets.{told, rising};
+ghost use Rattle.gd_judging.specs.Targets.{told, as_named, as_member, rising};
 
 use crate::judging::{in_range, target};
 use arrayvec::ArrayVec;
@@ -33,7 +32,7 @@ struct Named {
 
 impl Named {
     fn new(id: Stamp, shown: &Shown) -> Self
-        ensures { result ≡ seen.named (id, told shown.now) }
+        ensures { result ≡ as_named (id, told shown.now) }
     {
         Named {
             id,
@@ -61,7 +60,7 @@ fn all_named(canvas: &Canvas, ids: &[Stamp]) -> Option<ArrayVec<Named, MOST_MEMB
     requires few { map_of.len (board_of canvas.now) ≤ SESSION_EVENTS }
     requires members { length ids.now ≤ MOST_MEMBERS }
     ensures { option_map (λ l. l.items) result
-        ≡ option_map (map seen.named) (targets (target (listed (board_of canvas.now))) ids.now) }
+        ≡ option_map (map as_named) (targets (target (listed (board_of canvas.now))) ids.now) }
 {
     let mut all = ArrayVec::new();
     for id in ids {
@@ -74,7 +73,8 @@ fn all_named(canvas: &Canvas, ids: &[Stamp]) -> Option<ArrayVec<Named, MOST_MEMB
 /// The group of objects that are shown, or why it is refused.
 fn grouped(named: &[Named]) -> Result<Op, EditRefusal>
     requires { length named.now ≤ MOST_MEMBERS }
-    ensures { (ts : List (stamps.Stamp × Target)) → map seen.named ts ≡ named.now → result ≡ grouped ts }
+    ensures { (ts : List (stamps.Stamp × Target)) → map as_named ts ≡ named.now
+        → result ≡ grouped ts }
 {
     if !are_apart(named) {
         return Err(EditRefusal::SameMember);
@@ -110,13 +110,13 @@ fn is_new(id: Stamp, others: &[Named]) -> bool
 fn are_free(named: &[Named]) -> bool
     ensures { result ≡ list_all (λ n. n.is_free) named.now }
 {
-    named.iter().all(|one| one.is_free)
+    named.iter().all(|object| object.is_free)
 }
 
 /// The members by rising id, where the shifts of all of them are in their range.
 fn rising(named: &[Named]) -> Option<Members>
     requires { length named.now ≤ MOST_MEMBERS }
-    ensures { result ≡ rising (map seen.member named.now) }
+    ensures { result ≡ rising (map as_member named.now) }
 {
     let mut sorted = ArrayVec::new();
     for place in (0..named.len()).rev() {
@@ -128,8 +128,8 @@ fn rising(named: &[Named]) -> Option<Members>
 
 /// The object with what stands above it as its shift, where that is in its range.
 fn member(named: &Named) -> Option<Member>
-    ensures { result ≡ (if is_shift_in_range (seen.member named.now)
-        then Some (seen.member named.now) else None) }
+    ensures { result ≡ (if is_shift_in_range (as_member named.now)
+        then Some (as_member named.now) else None) }
 {
     let (dx, dy) = in_range(i128::from(named.dx), i128::from(named.dy))?;
     Some(Member {

@@ -1,3 +1,5 @@
+//! What becomes of an edit, and of one that names a single object.
+
 ghost use Rattle.std.specs.Prelude.{◌≡◌, ◌≤◌, ◌-ℤ◌, Ok, Err, Some, None, option_map, if◌then◌else◌};
 ghost use Rattle.std.specs.FinMap as map_of;
 ghost use Rattle.gd_base.specs.Ranges.{place_limit, is_within};
@@ -13,7 +15,13 @@ use gd_canvas::{Canvas, Kind};
 use gd_events::Op;
 use gd_view::{Shown, shown};
 
-/// The operation that the edit becomes over this drawing, or why it is refused. It takes no memory.
+/// The operation that the edit becomes over this drawing, or the first of these refusals that applies, in this order:
+/// `NoObject` where an object that it names isn't shown; `NotShape` where it wants a shape and the object is a group, and
+/// `NotGroup` where it is the other way round; `SameMember` where a group names an object twice; `NotTop` where a group
+/// names an object that is in a group; `TooFar` where the own place of a moved object, or the shift of a member, would leave
+/// its range. No other refusal comes. It takes no memory.
+///
+/// Places of new shapes, sizes, styles and the number of ids are taken as they are.
 pub fn judge(canvas: &Canvas, edit: &Edit) -> Result<Op, EditRefusal>
     requires few { map_of.len (board_of canvas.now) ≤ SESSION_EVENTS }
     ensures { result ≡ judged_over (target (listed (board_of canvas.now))) edit.now }
@@ -118,6 +126,7 @@ fn own_place(above: Place, x: i32, y: i32) -> Option<(i32, i32)>
     in_range(difference(x, above.x), difference(y, above.y))
 }
 
+/// In 128 bits, which hold any difference of the two.
 fn difference(shown: i32, above: i64) -> i128
     ensures { result ≡ shown -ℤ above }
 {

@@ -1,14 +1,14 @@
 use Rattle.std.proofs.Common.{◌≡◌, ◌<◌, ◌-◌, ◌∙◌, List, Some, suc, sym, ap, map, arith, length}
 use Rattle.std.proofs.Math.Seq.{drop-length}
 use Rattle.gd_base.specs.declared.member.Member.{Member}
-use Rattle.gd_judging.specs.Targets.{member, rising}
+use Rattle.gd_judging.specs.Targets.{as_member, rising}
 use Rattle.gd_judging.specs.declared.groups.Named.{Named}
 use Rattle.gd_judging.proofs.Rising.{rise_none, rise_at, rise_not}
 use Rattle.gd_judging.proofs.groups.rising.Goals as goal
 
 pub loop-place-init : goal.loop-place-init
 loop-place-init c = record {
-  sorted = ap (λ (l : List Named). rising (map member l)) (drop-length c.args.named.now) ∙ rise_none ∙ ap (λ (l : List Member). Some l) (sym c.new-sorted.ensures);
+  sorted = ap (λ (l : List Named). rising (map as_member l)) (drop-length c.args.named.now) ∙ rise_none ∙ ap (λ (l : List Member). Some l) (sym c.new-sorted.ensures);
   left = omega (arith, ap (λ (l : List Member). length l) c.new-sorted.ensures);
 }
 
