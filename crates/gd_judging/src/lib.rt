@@ -3,5 +3,7 @@
 
 mod groups;
 mod judging;
+#[cfg(test)]
+mod tests;
 
 pub use judging::judge;
