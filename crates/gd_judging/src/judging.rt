@@ -16,10 +16,10 @@ use gd_events::Op;
 use gd_view::{Shown, shown};
 
 /// The operation that the edit becomes over this drawing, or the first of these refusals that applies, in this order:
-/// `NoObject` where an object that it names isn't shown; `NotShape` where it wants a shape and the object is a group, and
-/// `NotGroup` where it is the other way round; `SameMember` where a group names an object twice; `NotTop` where a group
-/// names an object that is in a group; `TooFar` where the own place of a moved object, or the shift of a member, would leave
-/// its range. No other refusal comes. It takes no memory.
+/// `NoObject` where an object that it names isn't shown; `NotShape` where it wants a shape and the object is a group,
+/// and `NotGroup` where it is the other way round; `SameMember` where a group names an object twice; `NotTop` where a
+/// group names an object that is in a group; `TooFar` where the own place of a moved object, or the shift of a member,
+/// would leave its range. No other refusal comes. It takes no memory.
 ///
 /// Places of new shapes, sizes, styles and the number of ids are taken as they are.
 pub fn judge(canvas: &Canvas, edit: &Edit) -> Result<Op, EditRefusal>
