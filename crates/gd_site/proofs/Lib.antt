@@ -1,0 +1,15 @@
+pub mod Keeping
+pub mod Drawn
+pub mod Numbers
+pub mod Numbered
+pub mod InRange
+pub mod Counts
+pub mod Stands
+pub mod Starting
+pub mod Taking
+pub mod Finishing
+pub mod Noting
+pub mod Framing
+pub mod Accepting
+pub mod Editing
+pub mod WorkedRow

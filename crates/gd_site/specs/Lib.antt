@@ -1,0 +1,7 @@
+pub mod Standing
+pub mod Sites
+pub mod InRange
+pub mod Judged
+pub mod Faults
+pub mod Answers
+pub mod Rows
