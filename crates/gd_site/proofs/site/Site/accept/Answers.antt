@@ -34,7 +34,7 @@ pub trim-requires : goal.trim-requires
 trim-requires g c =
     let i = c.self.invariant in
     let b = rw (← c.self.view_is) at c.requires.becomes in
-    let e = rw (c.stamp-stamp.ensures, c.in_ok-kept.ensures, c.copy.ensures, c.op.ensures.op) at c.in_ok-_arrival.ensures in
+    let e = rw (c.stamp-stamp.ensures, c.in_ok-kept.ensures, c.copy-2.ensures, c.op.ensures.op) at c.in_ok-_arrival.ensures in
     accept_line _ c.args.event.now c.arrive.new.self c.clock-self-inside.result c.line-line.result
     (record {
       wanted = b.0;
@@ -49,7 +49,7 @@ pub invariant_of-self-2 : goal.invariant_of-self-2
 invariant_of-self-2 g c =
     let i = c.self.invariant in
     let b = rw (← c.self.view_is) at c.requires.becomes in
-    let e = rw (c.stamp-stamp.ensures, c.in_ok-kept.ensures, c.copy.ensures, c.op.ensures.op) at c.in_ok-_arrival.ensures in
+    let e = rw (c.stamp-stamp.ensures, c.in_ok-kept.ensures, c.copy-2.ensures, c.op.ensures.op) at c.in_ok-_arrival.ensures in
     let m = c.trim.ensures in
     accept_is_site _ c.args.event.now c.arrive.new.self c.clock-self-inside.result c.line-line.result
     (record {
@@ -62,7 +62,7 @@ invariant_of-self-2 g c =
     }) c.trim.new.self (record { entries = m.entries; document = m.document; line = m.line }) c.drop_acked.new.outbox
     (record {
       pushed = c.push_listed.new.self.events;
-      pushes = c.push_listed.ensures.events ∙ ap (λ (x : Event). c.self.inside.outbox.events ++ x ∷ []) c.in_ok-listed.ensures;
+      pushes = c.push_listed.ensures.events ∙ ap (λ (x : Event). c.self.inside.outbox.events ++ x ∷ []) (c.in_ok-listed.ensures ∙ c.copy.ensures);
       before = c.self.inside.made;
       before_is = refl;
       acked = c.least_acked-acked.result;
@@ -73,7 +73,7 @@ invariant_of-self-2 g c =
 pub returns-clause-stands : goal.returns-clause-stands
 returns-clause-stands g c =
     let b = rw (← c.self.view_is) at c.requires.becomes in
-    let e = rw (c.stamp-stamp.ensures, c.in_ok-kept.ensures, c.copy.ensures, c.op.ensures.op) at c.in_ok-_arrival.ensures in
+    let e = rw (c.stamp-stamp.ensures, c.in_ok-kept.ensures, c.copy-2.ensures, c.op.ensures.op) at c.in_ok-_arrival.ensures in
     let m = c.trim.ensures in
     rw (← c.self.view_is)
     (accept_stands _ c.args.event.now c.arrive.new.self c.clock-self-inside.result c.line-line.result
@@ -87,7 +87,7 @@ returns-clause-stands g c =
     }) c.trim.new.self (record { entries = m.entries; document = m.document; line = m.line }) c.drop_acked.new.outbox
     (record {
       pushed = c.push_listed.new.self.events;
-      pushes = c.push_listed.ensures.events ∙ ap (λ (x : Event). c.self.inside.outbox.events ++ x ∷ []) c.in_ok-listed.ensures;
+      pushes = c.push_listed.ensures.events ∙ ap (λ (x : Event). c.self.inside.outbox.events ++ x ∷ []) (c.in_ok-listed.ensures ∙ c.copy.ensures);
       before = c.self.inside.made;
       before_is = refl;
       acked = c.least_acked-acked.result;
@@ -98,5 +98,5 @@ returns-clause-stands g c =
 pub returns-clause-steps : goal.returns-clause-steps
 returns-clause-steps g c =
     let b = rw (← c.self.view_is) at c.requires.becomes in
-    let e = rw (c.stamp-stamp.ensures, c.in_ok-kept.ensures, c.copy.ensures, c.op.ensures.op) at c.in_ok-_arrival.ensures in
+    let e = rw (c.stamp-stamp.ensures, c.in_ok-kept.ensures, c.copy-2.ensures, c.op.ensures.op) at c.in_ok-_arrival.ensures in
     e.steps ∙ ap (λ (n : ℕ). c.args.steps.now + n) (accept_cost _ c.self.invariant b.0 b.1 c.args.event.now b.2)
