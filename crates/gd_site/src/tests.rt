@@ -4,6 +4,12 @@
 ghost use Rattle.std.specs.Prelude.{◌≡◌, ◌<◌};
 ghost use Rattle.gd_lines.specs.InRange.{IsEdit};
 
+mod frames;
+mod limits;
+mod lines;
+mod received;
+mod typed;
+
 use crate::{Site, Taken};
 use gd_base::{Edit, Label, Name, Shape, Stamp, Steps};
 use gd_events::Event;
