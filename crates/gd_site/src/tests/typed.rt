@@ -100,8 +100,8 @@ fn after_picture<'a, R: Abort>(rt: &R, printed: &'a [u8], site: &Site) -> &'a [u
     after(rt, rest, &Reply::End { count })
 }
 
-/// The printed text has to begin with the note of that one of the sites, if it has one; the rest of it, and how many lines
-/// there were so far.
+/// The printed text has to begin with the note of that site, if it has one; the rest of it, and how many lines there were
+/// so far.
 fn after_note<'a, R: Abort>(
     rt: &R,
     so_far: (&'a [u8], u64),
