@@ -33,8 +33,8 @@ pub use note::Note;
 pub use offer::Offer;
 pub use place::Place;
 pub use ranges::{
-    CLOCK_LIMIT, COLOUR_LIMIT, EVENTS_OF_A_SITE, MOST_MEMBERS, PLACE_LIMIT, SESSION_EVENTS, SITES,
-    SIZE_LIMIT, WIDTH_LIMIT,
+    CLOCK_LIMIT, COLOUR_LIMIT, EVENTS_OF_A_SITE, MOST_BACKS, MOST_MEMBERS, PLACE_LIMIT,
+    SESSION_EVENTS, SITES, SIZE_LIMIT, WIDTH_LIMIT,
 };
 pub use refusal::{EditRefusal, FrameFault, LineFault, OverAck, Refusal};
 pub use shape::Shape;

@@ -15,7 +15,7 @@ use Rattle.gd_base.specs.declared.refusal.LineFault.TheVariants.{LongLine, Unkno
 use Rattle.gd_base.specs.declared.edit.Edit.{Edit}
 use Rattle.gd_base.specs.declared.edit.Edit.TheVariants as edit
 use Rattle.gd_lines.specs.declared.verb.Verb.{Verb}
-use Rattle.gd_lines.specs.declared.verb.Verb.TheVariants.{Create, Delete, Move, Resize, Stroke, Fill, Width, Text, Group, Ungroup, Raise, Lower, Show, Poll, Status, Focus, Name, Who, Quit}
+use Rattle.gd_lines.specs.declared.verb.Verb.TheVariants.{Create, Delete, Move, Resize, Stroke, Fill, Width, Text, Group, Ungroup, Raise, Lower, Undo, Show, Poll, Status, Focus, Name, Who, Quit}
 use Rattle.gd_lines.specs.declared.command.TheConstants.{LONGEST_LINE}
 use Rattle.gd_lines.specs.declared.command.Command.{Command}
 use Rattle.gd_lines.specs.declared.command.Command.TheVariants as command
@@ -89,6 +89,7 @@ verb text =
     else if bytes_eq text (codes "ungroup") then Some Ungroup
     else if bytes_eq text (codes "raise") then Some Raise
     else if bytes_eq text (codes "lower") then Some Lower
+    else if bytes_eq text (codes "undo") then Some Undo
     else if bytes_eq text (codes "show") then Some Show
     else if bytes_eq text (codes "poll") then Some Poll
     else if bytes_eq text (codes "status") then Some Status
@@ -114,6 +115,7 @@ fits Raise n = n == 1
 fits Lower n = n == 1
 fits Focus n = n == 1
 fits Name n = n == 1
+fits Undo n = n == 0
 fits Show n = n == 0
 fits Poll n = n == 0
 fits Status n = n == 0
@@ -212,6 +214,7 @@ command_at Group n line = an_edit (group_at n line)
 command_at Ungroup n line = an_edit (ungroup_at line)
 command_at Raise n line = an_edit (raise_at line)
 command_at Lower n line = an_edit (lower_at line)
+command_at Undo n line = Ok (command.Undo, line)
 command_at Show n line = Ok (command.Show, line)
 command_at Poll n line = Ok (command.Poll, line)
 command_at Status n line = Ok (command.Status, line)

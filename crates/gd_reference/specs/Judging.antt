@@ -149,10 +149,11 @@ edit_by me clock made judgement =
 unfoldable pub edit : SlowSite → Edit → Result Event EditRefusal
 edit slow wanted = edit_by slow.me (clock slow) (length (own slow)) (judged slow.held wanted)
 
-abbrev pub with_own : SlowSite → Result Event EditRefusal → SlowSite
+-- the site with the event, where there is one
+abbrev pub with_own : {Why : Type 0} → SlowSite → Result Event Why → SlowSite
 with_own slow (Ok e) = record slow { held = slow.held ++ e ∷ [] }
 with_own slow (Err why) = slow
 
--- the site after the edit
+-- the site after the edit, without its back
 abbrev pub edited : SlowSite → Edit → SlowSite
 edited slow wanted = with_own slow (edit slow wanted)

@@ -1,9 +1,11 @@
 pub mod Said
 pub mod DrawingText
 pub mod PerSite
+pub mod Backs
 pub mod SlowSite
 pub mod Offers
 pub mod Judging
+pub mod TakeBack
 pub mod World
 pub mod SiteEffects
 pub mod NodeRun

@@ -1,7 +1,7 @@
 -- The reference run of a node.
 --
--- A node writes its journal's header, prints that it is ready, and answers line by line. An edit, a name and a focus go as
--- at any site. `show` prints the drawing's text, `status` where the site stands, and `who` each site's newest note. `poll`
+-- A node writes its journal's header, prints that it is ready, and answers line by line. An edit, an undo, a name and a focus
+-- go as at any site. `show` prints the drawing's text, `status` where the site stands, and `who` each site's newest note. `poll`
 -- takes entries of the link until a pause, a failure, or 64 datagrams: each that is a frame is taken, and each that is none,
 -- or longer than 8,192 bytes, is printed as refused. Then one frame is tried for each other site, and then the number of
 -- datagrams is printed, or, where a receive failed, that the link failed after so many. A blank line does nothing, a faulty
@@ -18,18 +18,19 @@ use Rattle.gd_model.specs.Drawing.{picture}
 use Rattle.gd_effects.specs.Effects.{Effect, Head}
 use Rattle.gd_grammar.specs.FrameBytes.{frame}
 use Rattle.gd_lines.specs.InRange.{IsCommand}
-use Rattle.gd_reference.specs.Judging.{edit, edited}
+use Rattle.gd_reference.specs.Judging.{edit}
 use Rattle.gd_grammar.specs.Drawings.{drawings}
 use Rattle.gd_grammar.specs.HeaderBytes.{header_bytes}
 use Rattle.gd_lines.specs.Refusals.{line_refusal}
 use Rattle.gd_lines.specs.declared.reply.Reply.{Reply}
 use Rattle.gd_lines.specs.declared.reply.Reply.TheVariants as reply
 use Rattle.gd_reference.specs.Said.{says, all_said}
-use Rattle.gd_reference.specs.SiteEffects.{tries, edit_reply, note_reply, of_edit, of_read, after_read}
+use Rattle.gd_reference.specs.SiteEffects.{tries, edit_reply, undo_reply, note_reply, of_edit, of_undo, of_read, after_read}
 use Rattle.gd_reference.specs.SlowSite.{SlowSite, new_site, journal_header, status}
 use Rattle.gd_grammar.specs.FieldBytes.{AreBytes}
 use Rattle.gd_reference.specs.DrawingText.{drawing_replies}
-use Rattle.gd_reference.specs.World.{after_line, Names, Focuses}
+use Rattle.gd_reference.specs.TakeBack.{undo}
+use Rattle.gd_reference.specs.World.{after_line, Edits, Undoes, Names, Focuses}
 
 -- a line as it was read: what it asks for, or why it is no line
 abbrev pub ReadLine : Type 0
@@ -108,6 +109,7 @@ who_replies slow = let there = who_behind slow 0 slow.sites in there ++ reply.En
 -- what a site says of a command that neither polls nor ends a run
 abbrev pub command_replies : SlowSite → Command → List Reply
 command_replies slow (command.Edit wanted) = edit_reply (edit slow wanted) ∷ []
+command_replies slow command.Undo = undo_reply (undo slow) ∷ []
 command_replies slow (command.Name name) = note_reply slow ∷ []
 command_replies slow (command.Focus focus) = note_reply slow ∷ []
 command_replies slow command.Show = drawing_replies (picture slow.held)
@@ -117,12 +119,14 @@ command_replies slow other = []
 
 abbrev pub of_command : SlowSite → List Entry → ReadLine → List Effect
 of_command slow entries (Ok (command.Edit wanted)) = of_edit slow wanted
+of_command slow entries (Ok command.Undo) = of_undo slow
 of_command slow entries (Ok command.Poll) = of_poll slow entries
 of_command slow entries (Ok other) = all_said (command_replies slow other)
 of_command slow entries (Err fault) = says (reply.Refused (line_refusal fault)) ∷ []
 
 abbrev pub after_command : SlowSite → List Entry → ReadLine → SlowSite
-after_command slow entries (Ok (command.Edit edit)) = edited slow edit
+after_command slow entries (Ok (command.Edit edit)) = after_line slow (Edits edit)
+after_command slow entries (Ok command.Undo) = after_line slow Undoes
 after_command slow entries (Ok (command.Name name)) = after_line slow (Names name)
 after_command slow entries (Ok (command.Focus focus)) = after_line slow (Focuses focus)
 after_command slow entries (Ok command.Poll) = (polled slow entries).site

@@ -1,6 +1,6 @@
 -- What a site's lines, and the events and frames of others, do to the outside, beside what they do to the site.
 --
--- An accepted event costs its steps and is recorded, and then it is printed. An own event is printed as done, and one frame
+-- An accepted event costs its steps and is recorded, and then it is printed. An own event, of an edit or an undo, is printed as done, and one frame
 -- goes to each other site. An event of another site that is taken is printed with what came of it: it was applied, dropped
 -- by the event that covers it, or reworked with so many others. One that is backdated is printed as refused; a repeat, and
 -- one behind a gap, print nothing. A frame that is refused is printed as that, and nothing else comes of it.
@@ -28,6 +28,7 @@ use Rattle.gd_lines.specs.declared.reply.Reply.{Reply}
 use Rattle.gd_lines.specs.declared.reply.Reply.TheVariants as reply
 use Rattle.gd_reference.specs.Said.{says, all_said}
 use Rattle.gd_reference.specs.SlowSite.{SlowSite}
+use Rattle.gd_reference.specs.TakeBack.{BackRefusal, back_refusal, undo}
 use Rattle.gd_grammar.specs.Drawings.{spelling}
 use Rattle.gd_reference.specs.World.{most_notes}
 
@@ -52,6 +53,11 @@ tries slow = tries_behind slow 0 slow.sites
 abbrev pub edit_reply : Result Event EditRefusal → Reply
 edit_reply (Ok e) = reply.Done e.stamp
 edit_reply (Err why) = reply.Refused (edit_refusal why)
+
+-- what is said of an undo
+abbrev pub undo_reply : Result Event BackRefusal → Reply
+undo_reply (Ok e) = reply.Done e.stamp
+undo_reply (Err why) = reply.Refused (back_refusal why)
 
 -- the number of the new note, unless the site has made as many as it may
 abbrev pub note_reply : SlowSite → Reply
@@ -93,6 +99,14 @@ of_own slow (Err why) = says (edit_reply (Err why)) ∷ []
 
 abbrev pub of_edit : SlowSite → Edit → List Effect
 of_edit slow wanted = of_own slow (edit slow wanted)
+
+-- an undo that is accepted is an accepted edit
+abbrev pub of_taken_back : SlowSite → Result Event BackRefusal → List Effect
+of_taken_back slow (Ok e) = of_own slow (Ok e)
+of_taken_back slow (Err why) = says (undo_reply (Err why)) ∷ []
+
+abbrev pub of_undo : SlowSite → List Effect
+of_undo slow = of_taken_back slow (undo slow)
 
 -- ---- events of others
 

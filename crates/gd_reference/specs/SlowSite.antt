@@ -2,7 +2,7 @@
 --
 -- It holds the events that it accepted, in the order in which it accepted them. Of each other site it keeps a sure clock:
 -- what it doesn't hold of that site's events lies above it. It keeps how many of its own events each other site has
--- acknowledged, and the newest note of each site. All else follows: its clock is the greatest clock of the held events,
+-- acknowledged, the newest note of each site, and what takes its own last edits back, the newest first. All else follows: its clock is the greatest clock of the held events,
 -- its line is the least of its clock and of all sure clocks, what it keeps is the held events above the line, and its
 -- outbox is those of its own events that some other site hasn't acknowledged.
 use Rattle.std.specs.Prelude.{ℕ, max, Bool, List, [], ◌∷◌, length, take, drop, ◌==◌, nat_lt}
@@ -15,6 +15,7 @@ use Rattle.gd_events.specs.Ordered.{ordered}
 use Rattle.gd_base.specs.declared.version.Version.TheVariants.{Two}
 use Rattle.gd_grammar.specs.HeaderBytes.{Header}
 use Rattle.gd_grammar.specs.LogBytes.{last_clock}
+use Rattle.gd_reference.specs.Backs.{Back}
 use Rattle.gd_reference.specs.PerSite.{least_of_others}
 
 pub record SlowSite : Type 0 where
@@ -25,6 +26,7 @@ pub record SlowSite : Type 0 where
   pub sure : ℕ → ℕ
   pub acked : ℕ → ℕ
   pub notes : ℕ → Note
+  pub backs : List Back
 
 abbrev pub new_site : ℕ → ℕ → ℕ → SlowSite
 new_site me sites session =
@@ -36,9 +38,10 @@ new_site me sites session =
       sure = λ site. 0;
       acked = λ site. 0;
       notes = λ site. no_note;
+      backs = [];
     }
 
--- a site that begins anew with these events: it is sure of what it holds, and of nothing else
+-- a site that begins anew with these events: it is sure of what it holds, and of nothing else, and takes no edit back
 unfoldable pub resumed : ℕ → ℕ → ℕ → List Event → SlowSite
 resumed me sites session held =
     record {
@@ -49,6 +52,7 @@ resumed me sites session held =
       sure = λ site. last_clock site held;
       acked = λ site. 0;
       notes = λ site. no_note;
+      backs = [];
     }
 
 -- ---- events of a list

@@ -261,6 +261,7 @@ command_in verb_of.Group n line fit = edit_in (group_at n line) (group_in n line
 command_in verb_of.Ungroup n line fit = edit_in _ (lone_in edit.Ungroup line (λ id is. is))
 command_in verb_of.Raise n line fit = edit_in _ (lone_in edit.Raise line (λ id is. is))
 command_in verb_of.Lower n line fit = edit_in _ (lone_in edit.Lower line (λ id is. is))
+command_in verb_of.Undo n line fit = (tt, λ _. tt)
 command_in verb_of.Show n line fit = (tt, λ _. tt)
 command_in verb_of.Poll n line fit = (tt, λ e. absurd cc)
 command_in verb_of.Status n line fit = (tt, λ _. tt)
