@@ -20,7 +20,7 @@ use Rattle.gd_repair.specs.Repair.{Stamped, Outcome, applied, dropped, reworked}
 use Rattle.gd_model.specs.Arrivals.{outcome_of, cost_of}
 use Rattle.gd_effects.specs.Effects.{Effect, Record, Try, Work}
 use Rattle.gd_grammar.specs.FrameBytes.{Frame, Misread, frame_bytes}
-use Rattle.gd_reference.specs.Judging.{edit, with_own}
+use Rattle.gd_reference.specs.Judging.{edit, with_event}
 use Rattle.gd_reference.specs.Offers.{offer, arrived, refusal, take_frame, frame_for}
 use Rattle.gd_grammar.specs.Reading.{place}
 use Rattle.gd_lines.specs.Refusals.{edit_refusal}
@@ -94,7 +94,7 @@ frame_replies slow f = unless_refused_replies slow f (refusal slow f)
 -- ---- own events
 
 abbrev pub of_own : SlowSite → Result Event EditRefusal → List Effect
-of_own slow (Ok e) = Work 1 ∷ Record (spelling e) ∷ says (edit_reply (Ok e)) ∷ tries (with_own slow (Ok e))
+of_own slow (Ok e) = Work 1 ∷ Record (spelling e) ∷ says (edit_reply (Ok e)) ∷ tries (with_event slow e)
 of_own slow (Err why) = says (edit_reply (Err why)) ∷ []
 
 abbrev pub of_edit : SlowSite → Edit → List Effect
