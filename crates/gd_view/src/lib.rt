@@ -4,6 +4,7 @@
 mod chains;
 mod firsts;
 mod ids;
+mod items;
 mod known;
 mod levels;
 mod listing;
@@ -16,6 +17,7 @@ mod write;
 
 pub use gd_base::Place;
 use gd_base::SESSION_EVENTS;
+pub use items::item;
 pub use picture::Picture;
 pub use places::Shown;
 pub use seen::{is_top, shown};

@@ -5,19 +5,20 @@ ghost use Rattle.std.specs.FinMap as map_of;
 ghost use Rattle.gd_base.specs.declared.ranges.TheConstants.{SESSION_EVENTS};
 ghost use Rattle.gd_model.specs.Objects.{body};
 ghost use Rattle.gd_model.specs.Board.{listed};
-ghost use Rattle.gd_model.specs.Shown.{above, shape_of, item_at, shown, shown_items};
+ghost use Rattle.gd_model.specs.Shown.{above, shown, shown_items};
 ghost use Rattle.gd_canvas.specs.Slots.{board_of};
 ghost use Rattle.gd_view.specs.Chains.{Within};
 ghost use Rattle.gd_view.specs.Sums.{known, AreKnown};
 ghost use Rattle.gd_view.specs.Levels.{item_of};
 
+use crate::items::item_by;
 use crate::known::Known;
 use crate::levels::levels;
-use crate::seen::{is_gone, place_at};
+use crate::seen::is_gone;
 use crate::sums::sums;
-use gd_base::{Item, ShapeItem, Stamp};
+use gd_base::{Item, Stamp};
 use gd_canvas::Canvas;
-use gd_model::{Above, Kind, Object};
+use gd_model::Object;
 use std::alloc::{AllocError, Global};
 
 /// The items of all objects that are shown, in list order.
@@ -65,38 +66,4 @@ fn item(canvas: &Canvas, table: &Known, id: Stamp, object: &Object) -> Option<It
     }
     let sum = table.get(id)?;
     Some(item_by(id, object, &sum))
-}
-
-fn item_by(id: Stamp, object: &Object, above: &Above) -> Item
-    requires { Within SESSION_EVENTS above.now }
-    ensures { result ≡ item_at id (body object.now) above.now }
-{
-    let at = place_at(object, above);
-    let shape = shape_of(object);
-    Item {
-        id,
-        parent: above.parent,
-        at,
-        shape,
-    }
-}
-
-fn shape_of(object: &Object) -> Option<ShapeItem>
-    ensures { result ≡ shape_of object.now.kind (body object.now) }
-{
-    match object.kind {
-        Kind::Shape(kind) => {
-            let label = object.label.copy();
-            Some(ShapeItem {
-                kind,
-                w: object.w,
-                h: object.h,
-                stroke: object.stroke,
-                fill: object.fill,
-                width: object.width,
-                label,
-            })
-        }
-        Kind::Group => None,
-    }
 }
