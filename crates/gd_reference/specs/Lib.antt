@@ -1,4 +1,5 @@
 pub mod Said
+pub mod InputLines
 pub mod DrawingText
 pub mod PerSite
 pub mod Backs

@@ -5,19 +5,22 @@
 -- takes entries of the link until a pause, a failure, or 64 datagrams: each that is a frame is taken, and each that is none,
 -- or longer than 8,192 bytes, is printed as refused. Then one frame is tried for each other site, and then the number of
 -- datagrams is printed, or, where a receive failed, that the link failed after so many. A blank line does nothing, a faulty
--- line is printed as refused, and `quit` ends the run.
+-- line is printed as refused, and `quit` ends the run. So does a line that is too long or one too many, which is said.
 --
 -- The run is several functions of the same arguments: the effects, the site after, and the entries left. Its lines are given
--- as they were read.
+-- as they were heard, or, at the end, as the bytes of an input.
 use Rattle.std.specs.Prelude.{ℕ, zero, suc, ◌+◌, Bool, true, false, List, [], ◌∷◌, ◌++◌, length, Result, Ok, Err, ◌==◌, nat_lt, if◌then◌else◌}
 use Rattle.gd_base.specs.declared.refusal.LineFault.{LineFault}
 use Rattle.gd_outside.specs.Seen.{Entry, Packet, Pause, Failure}
+use Rattle.gd_outside.specs.declared.status.Status.{Status}
+use Rattle.gd_outside.specs.declared.status.Status.TheVariants.{Done, LineLimit}
 use Rattle.gd_lines.specs.declared.command.Command.{Command}
 use Rattle.gd_lines.specs.declared.command.Command.TheVariants as command
 use Rattle.gd_model.specs.Drawing.{picture}
 use Rattle.gd_effects.specs.Effects.{Effect, Head}
 use Rattle.gd_grammar.specs.FrameBytes.{frame}
 use Rattle.gd_lines.specs.InRange.{IsCommand}
+use Rattle.gd_lines.specs.Lines.{read}
 use Rattle.gd_reference.specs.Judging.{edit}
 use Rattle.gd_grammar.specs.Drawings.{drawings}
 use Rattle.gd_grammar.specs.HeaderBytes.{header_bytes}
@@ -29,6 +32,7 @@ use Rattle.gd_reference.specs.SiteEffects.{tries, edit_reply, undo_reply, note_r
 use Rattle.gd_reference.specs.SlowSite.{SlowSite, new_site, journal_header, status}
 use Rattle.gd_grammar.specs.FieldBytes.{AreBytes}
 use Rattle.gd_reference.specs.DrawingText.{drawing_replies}
+use Rattle.gd_reference.specs.InputLines.{Heard, Read, Over, heard, lines_of}
 use Rattle.gd_reference.specs.TakeBack.{undo}
 use Rattle.gd_reference.specs.World.{after_line, Edits, Undoes, Names, Focuses}
 
@@ -136,40 +140,77 @@ abbrev pub entries_after : SlowSite → List Entry → ReadLine → List Entry
 entries_after slow entries (Ok command.Poll) = (polled slow entries).entries
 entries_after slow entries other = entries
 
+-- ---- a line that is heard
+
+abbrev pub HeardLine : Type 0
+HeardLine = Heard ReadLine
+
+abbrev pub of_heard : SlowSite → List Entry → HeardLine → List Effect
+of_heard slow entries (Read line) = of_command slow entries line
+of_heard slow entries Over = says reply.LineLimit ∷ []
+
+abbrev pub after_heard : SlowSite → List Entry → HeardLine → SlowSite
+after_heard slow entries (Read line) = after_command slow entries line
+after_heard slow entries Over = slow
+
+abbrev pub entries_after_heard : SlowSite → List Entry → HeardLine → List Entry
+entries_after_heard slow entries (Read line) = entries_after slow entries line
+entries_after_heard slow entries Over = entries
+
+-- a line that ends the run
+abbrev pub is_last : HeardLine → Bool
+is_last (Read (Ok command.Quit)) = true
+is_last Over = true
+is_last other = false
+
 -- ---- the run
 
-abbrev pub is_quit : ReadLine → Bool
-is_quit (Ok command.Quit) = true
-is_quit other = false
-
 -- the lines are answered one after the other
-unfoldable pub answers : SlowSite → List Entry → List ReadLine → List Effect
+unfoldable pub answers : SlowSite → List Entry → List HeardLine → List Effect
 answers slow entries [] = []
 answers slow entries (line ∷ lines) =
-    of_command slow entries line
-    ++ (if is_quit line then [] else answers (after_command slow entries line) (entries_after slow entries line) lines)
+    of_heard slow entries line
+    ++ (if is_last line then [] else answers (after_heard slow entries line) (entries_after_heard slow entries line) lines)
 
 -- the site after them
-unfoldable pub site_after : SlowSite → List Entry → List ReadLine → SlowSite
+unfoldable pub site_after : SlowSite → List Entry → List HeardLine → SlowSite
 site_after slow entries [] = slow
 site_after slow entries (line ∷ lines) =
-    if is_quit line then slow else site_after (after_command slow entries line) (entries_after slow entries line) lines
+    if is_last line then slow else site_after (after_heard slow entries line) (entries_after_heard slow entries line) lines
+
+-- how the run ends
+unfoldable pub end_after : List HeardLine → Status
+end_after [] = Done
+end_after (Over ∷ lines) = LineLimit
+end_after (line ∷ lines) = if is_last line then Done else end_after lines
 
 -- a new node of this number, in a session of so many sites
-abbrev pub node_effects : ℕ → ℕ → ℕ → List Entry → List ReadLine → List Effect
+abbrev pub node_effects : ℕ → ℕ → ℕ → List Entry → List HeardLine → List Effect
 node_effects me sites session entries lines =
     let slow = new_site me sites session in
     Head (header_bytes drawings (journal_header slow)) ∷ says (reply.Ready me sites) ∷ answers slow entries lines
 
 -- the site of that node after its run
-abbrev pub node_after : ℕ → ℕ → ℕ → List Entry → List ReadLine → SlowSite
+abbrev pub node_after : ℕ → ℕ → ℕ → List Entry → List HeardLine → SlowSite
 node_after me sites session entries lines = site_after (new_site me sites session) entries lines
+
+-- ---- the run over the bytes of an input
+
+abbrev pub most_node_lines : ℕ
+most_node_lines = 1000000
+
+unfoldable pub node_lines : List ℕ → List HeardLine
+node_lines bytes = heard read most_node_lines (lines_of bytes)
 
 -- ---- the ranges of a run
 
 abbrev pub IsRead : ReadLine → Type 0
 IsRead (Ok command) = IsCommand command
 IsRead (Err fault) = Unit {0}
+
+abbrev pub IsHeard : HeardLine → Type 0
+IsHeard (Read line) = IsRead line
+IsHeard Over = Unit {0}
 
 -- a datagram is a list of bytes
 abbrev pub IsEntry : Entry → Type 0
