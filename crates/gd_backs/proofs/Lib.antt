@@ -1,0 +1,4 @@
+pub mod Objects
+pub mod Accepted
+pub mod Ranges
+pub mod Named
