@@ -19,15 +19,17 @@ use Rattle.gd_lines.specs.Replies.{reply_text}
 use Rattle.gd_logs.proofs.WriterLemmas.{logged-more}
 use Rattle.gd_model.specs.Arrivals.{cost_of, costs_from}
 use Rattle.gd_outside.specs.Seen.{Entry, Packet}
-use Rattle.gd_reference.specs.Judging.{edit, edited, with_own}
+use Rattle.gd_reference.specs.Judging.{edit, edited, with_event, with_own}
 use Rattle.gd_reference.specs.NodeRun.{ReadLine, after_command, after_datagram, answers, command_replies, end_of_poll, entries_after, is_quit, is_too_long, most_datagrams, of_command, of_datagram, of_poll, of_received, polled, received, site_after}
 use Rattle.gd_reference.specs.Offers.{after_offer, all_arrived, arrived, offer, refusal, take_frame, unless_refused}
 use Rattle.gd_reference.specs.Said.{says}
-use Rattle.gd_reference.specs.SiteEffects.{after_read, edit_reply, of_edit, of_event, of_events, of_frame, of_offer, of_own, of_read, tries, tries_behind, try_for, unless_refused_of}
+use Rattle.gd_reference.specs.SiteEffects.{after_read, edit_reply, of_edit, of_event, of_events, of_frame, of_offer, of_own, of_read, of_taken_back, of_undo, tries, tries_behind, try_for, unless_refused_of}
 use Rattle.gd_reference.specs.SlowSite.{SlowSite}
+use Rattle.gd_reference.specs.TakeBack.{BackRefusal, after_edit, after_undo, undo}
 use Rattle.gd_reference.specs.World.{after_line, most_notes, noted, refocused, renamed}
 use Rattle.gd_protocol.specs.Nodes.{IsPaid}
 use Rattle.gd_protocol.proofs.OwnEvents.{own_costs_one}
+use Rattle.gd_protocol.proofs.Steps.{IsTakenBack-from_undo}
 use Rattle.gd_protocol.proofs.Trips.{held-finished}
 
 -- ---- what is recorded
@@ -131,7 +133,7 @@ is-paid old new xs g = record { added = g.added; held = g.held; costs = g.costs 
 grows-own : (slow : SlowSite) (wanted : Edit) (r : Result Event EditRefusal) → edit slow wanted ≡ r → Grows slow.held (with_own slow r).held (of_own slow r)
 grows-own slow wanted (Err why) is = grows-not slow.held (of_own slow (Err why)) refl refl
 grows-own slow wanted (Ok e) is =
-    let new = with_own slow (Ok e) in
+    let new = with_event slow e in
     let one = own_costs_one slow wanted e is in
     grows-then slow.held new.held new.held (Work 1 ∷ Record (spelling e) ∷ says (edit_reply (Ok e)) ∷ []) (tries new)
     (record { added = e ∷ []; held = refl; records = (refl, refl); costs = omega (arith, one) })
@@ -139,6 +141,18 @@ grows-own slow wanted (Ok e) is =
 
 pub edit_is_paid : (slow : SlowSite) (wanted : Edit) → IsPaid slow.held (edited slow wanted).held (of_edit slow wanted)
 edit_is_paid slow wanted = is-paid slow.held (edited slow wanted).held (of_edit slow wanted) (grows-own slow wanted (edit slow wanted) refl)
+
+-- an accepted undo is an accepted edit
+grows-undo : (slow : SlowSite) → Grows slow.held (after_undo slow).held (of_undo slow)
+unfolding after_undo
+grows-undo slow = go (undo slow) refl
+  where
+    go : (r : Result Event BackRefusal) → undo slow ≡ r → Grows slow.held (with_own slow r).held (of_taken_back slow r)
+    go (Err why) is = grows-not slow.held (of_taken_back slow (Err why)) refl refl
+    go (Ok e) is = let taken = IsTakenBack-from_undo slow e is in grows-own slow taken.wanted (Ok e) taken.becomes
+
+pub undo_is_paid : (slow : SlowSite) → IsPaid slow.held (after_undo slow).held (of_undo slow)
+undo_is_paid slow = is-paid slow.held (after_undo slow).held (of_undo slow) (grows-undo slow)
 
 grows-offer : (slow : SlowSite) (e : Event) (o : Offer) → Grows slow.held (after_offer o slow e).held (of_offer slow e o)
 grows-offer slow e Next = record { added = e ∷ []; held = refl; records = (refl, refl); costs = omega arith }
@@ -195,8 +209,9 @@ grows-note slow note lines =
     (λ full. grows-says slow.held lines) (λ room. grows-says slow.held lines)
 
 grows-command : (slow : SlowSite) (entries : List Entry) (c : ReadLine) → Grows slow.held (after_command slow entries c).held (of_command slow entries c)
-unfolding after_line
+unfolding after_line after_edit
 grows-command slow entries (Ok (command.Edit wish)) = grows-own slow wish (edit slow wish) refl
+grows-command slow entries (Ok command.Undo) = grows-undo slow
 grows-command slow entries (Ok (command.Name name)) = grows-note slow (renamed (slow.notes slow.me) name) (map reply_text (command_replies slow (command.Name name)))
 grows-command slow entries (Ok (command.Focus focus)) = grows-note slow (refocused (slow.notes slow.me) focus) (map reply_text (command_replies slow (command.Focus focus)))
 grows-command slow entries (Ok command.Poll) = grows-poll slow entries
