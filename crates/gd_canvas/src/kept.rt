@@ -4,11 +4,12 @@ ghost use Rattle.gd_events.specs.Packed.{unpacked};
 ghost use Rattle.gd_model.specs.Undoing.{gone};
 ghost use Rattle.gd_canvas.specs.Kept.{before_of, of_label, of_made, op_of};
 
+use crate::deleted::Deleted;
 use crate::grouping::Grouping;
 use crate::small::SmallBefore;
 use gd_base::{Label, Stamp};
 use gd_events::{NewShape, Op, PackedOp, SmallOp};
-use gd_model::{Before, Object};
+use gd_model::Before;
 use std::alloc::{AllocError, Global};
 use std::mem::size_of;
 
@@ -34,7 +35,7 @@ pub enum Kept {
     Delete {
         id: Stamp,
         /// The object, where it was there.
-        before: Box<Option<Object>>,
+        before: Deleted,
     },
     Group(Box<Grouping>),
 }
@@ -68,7 +69,7 @@ impl Kept {
                 is_made: false,
             },
             PackedOp::Delete { id } => {
-                let before = Box::new(alloc, None)?;
+                let before = Deleted::new(alloc)?;
                 Kept::Delete { id, before }
             }
             PackedOp::Retext { id, label } => {
@@ -125,11 +126,11 @@ fn made(is_made: bool) -> Before
     }
 }
 
-fn deleted(object: &Option<Object>) -> Before
+fn deleted(object: &Deleted) -> Before
     ensures { result ≡ gone object.now }
 {
-    match object {
-        Some(object) => Before::Gone(object.copy()),
+    match object.copy() {
+        Some(object) => Before::Gone(object),
         None => Before::Nothing,
     }
 }
