@@ -30,9 +30,14 @@ impl Model for Grouping {
 
     ghost Value = { GroupingValue };
 
-    ghost view = { λ g. record { members = g.members; links = g.links.items; is_made = g.is_made } };
+    ghost view = { λ g. record {
+      members = g.members;
+      links = g.links.items;
+      is_made = g.is_made;
+    } };
 
-    ghost invariant = { λ g. (length g.members ≤ vec_capacity g.links) × (length g.links.items ≤ MOST_MEMBERS) };
+    ghost invariant = { λ g. (length g.members ≤ vec_capacity g.links)
+        × (length g.links.items ≤ MOST_MEMBERS) };
 }
 
 impl Grouping {
