@@ -7,18 +7,18 @@ use Rattle.gd_grammar.specs.HeaderBytes.{Header, header_bytes}
 use Rattle.gd_grammar.specs.Drawings.{drawings, logged}
 use Rattle.gd_model.specs.Arrivals.{costs_from}
 use Rattle.gd_outside.specs.Seen.{Entry}
-use Rattle.gd_reference.specs.NodeRun.{IsEntry, IsRead, ReadLine, node_after, node_effects}
+use Rattle.gd_reference.specs.NodeRun.{HeardLine, IsEntry, IsHeard, node_after, node_effects}
 use Rattle.gd_base.specs.Sites.{is_site}
 use Rattle.gd_reference.specs.SlowSite.{SlowSite, journal_header, new_site}
 use Rattle.gd_reference.specs.World.{IsSession}
 
--- a node's number, how many sites there are, the session, what its link gives, and its lines
+-- a node's number, how many sites there are, the session, what its link gives, and its lines as they are heard
 pub record Node : Type 0 where
   pub me : ℕ
   pub sites : ℕ
   pub session : ℕ
   pub entries : List Entry
-  pub lines : List ReadLine
+  pub lines : List HeardLine
 
 abbrev pub effects : Node → List Effect
 effects n = node_effects n.me n.sites n.session n.entries n.lines
@@ -39,7 +39,7 @@ pub record IsNode (n : Node) : Type 0 where
   pub met : IsSession n.sites n.session
   pub member : IsTrue (is_site n.sites n.me)
   pub entries : AllByRecursion IsEntry n.entries
-  pub lines : AllByRecursion IsRead n.lines
+  pub lines : AllByRecursion IsHeard n.lines
 
 -- the bytes are the log of some of these events, from the first on
 pub record IsLogOfFirst (header : Header) (events : List Event) (bytes : List ℕ) : Type 0 where
