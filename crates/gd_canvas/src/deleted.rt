@@ -8,8 +8,8 @@ use std::alloc::{AllocError, Global};
 use std::marker::Model;
 use std::mem::size_of;
 
-/// The object that an event deleted, which contracts see, or None. There is room for any object, so putting one in takes no
-/// memory.
+/// The object that an event deleted, which contracts see as an `Option<Object>`. There is room for any object, so putting one
+/// in takes no memory. What fits lies beside the operation, and the rest in a box.
 #[derive(Drop)]
 pub struct Deleted {
     parts: DeletedParts,
@@ -26,7 +26,7 @@ impl Model for Deleted {
     ghost view = { λ d. deleted d.parts d.room.value };
 }
 
-/// What of the object fits beside the operation.
+/// What of the object lies beside the operation.
 #[derive(Drop)]
 struct DeletedParts {
     rank: Rank,
@@ -37,7 +37,7 @@ struct DeletedParts {
     is_linked: bool,
 }
 
-/// Whether there is an object, and whether that one is dissolved: one byte for both.
+/// Whether there is an object, and whether it is dissolved: one byte for both, since a `Kept` has no more.
 #[derive(Clone, Copy)]
 enum Presence {
     Absent,
@@ -45,7 +45,7 @@ enum Presence {
     Dissolved,
 }
 
-/// The rest of the object. `fill` and `link` say nothing where it isn't filled or linked.
+/// The rest of the object. Its fill and its link are read only where it is filled, and linked.
 #[derive(Drop)]
 struct DeletedRoom {
     label: Label,
@@ -58,7 +58,7 @@ struct DeletedRoom {
     link: Link,
 }
 
-// With the 48 bytes of its entry in a history, a delete takes at most 300.
+// A delete takes that beside the 48 bytes of its entry in a history: at most 300 in all.
 const _: () = prove!(size_of::<DeletedRoom>() <= 252);
 
 impl Deleted {
@@ -88,7 +88,7 @@ impl Deleted {
         Ok(Deleted { parts, room })
     }
 
-    /// Puts an object in, or takes out what is there.
+    /// Puts that object in, or none, in place of the one that was there.
     pub(crate) fn put(&mut self, object: Option<Object>)
         ensures { self.new ≡ object }
     {
@@ -157,7 +157,7 @@ impl Presence {
     }
 }
 
-/// The label is moved.
+/// The object in its parts. Its label is moved.
 fn taken_apart(object: Object) -> (DeletedParts, DeletedRoom)
     ensures { deleted result.0 result.1 ≡ Some object }
 {
@@ -182,6 +182,7 @@ fn taken_apart(object: Object) -> (DeletedParts, DeletedRoom)
     (parts, room)
 }
 
+/// It stands where there is no link.
 fn no_link() -> Link {
     Link {
         parent: Stamp::default(),
