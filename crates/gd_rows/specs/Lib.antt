@@ -3,3 +3,4 @@ pub mod WorkedLines
 pub mod WorkedWorlds
 pub mod WorkedEdits
 pub mod WorkedNodes
+pub mod WorkedBacks

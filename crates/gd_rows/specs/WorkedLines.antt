@@ -17,6 +17,7 @@ read_lines =
     ∷ (codes "text 1.2", command.Edit (edit.Retext (at_stamp 1 2) []))
     ∷ (codes " group 2.1  01.16" ++ 13 ∷ [], command.Edit (edit.Group (at_stamp 2 1 ∷ at_stamp 1 16 ∷ [])))
     ∷ (codes "lower 1.1", command.Edit (edit.Lower (at_stamp 1 1)))
+    ∷ (codes "undo", command.Undo)
     ∷ (codes "focus -", command.Focus None)
     ∷ (codes "  " ++ 13 ∷ [], command.Blank)
     ∷ []
@@ -25,6 +26,7 @@ abbrev pub faulty_lines : List (List ℕ × LineFault)
 faulty_lines =
     (codes "paint 1", fault.UnknownCommand)
     ∷ (codes "move x y", fault.WrongCount)
+    ∷ (codes "undo 1", fault.WrongCount)
     ∷ (codes "create rect 0 0 1 ", fault.WrongCount)
     ∷ (codes "create Rect x 0 1 1", fault.BadKind)
     ∷ (codes "create rect x 0 1 1", fault.BadNumber)
@@ -37,6 +39,7 @@ faulty_lines =
 abbrev pub script_lines : List (List ℕ × Result ScriptLine LineFault)
 script_lines =
     (codes "at 2 show", Ok (script.At 2 command.Show))
+    ∷ (codes "at 2 undo", Ok (script.At 2 command.Undo))
     ∷ (codes "deliver -0", Ok (script.Deliver 0))
     ∷ (codes "at x paint", Err fault.UnknownCommand)
     ∷ (codes "at 1 poll", Err fault.UnknownCommand)

@@ -22,6 +22,25 @@ created_effects =
     ∷ Try 1 (frame_row_to 1) ∷ Try 3 (frame_row_to 3)
     ∷ []
 
+-- a record that deletes the rect
+abbrev pub delete_row : List ℕ
+delete_row = 0 ∷ 0 ∷ 0 ∷ 0 ∷ 0 ∷ 2 ∷ 2 ∷ 0 ∷ 2 ∷ 2 ∷ 0 ∷ 0 ∷ 0 ∷ 0 ∷ 0 ∷ 1 ∷ 2 ∷ []
+
+-- the frame with both events
+abbrev pub undone_row_to : ℕ → List ℕ
+undone_row_to to =
+    71 ∷ 68 ∷ 79 ∷ 70 ∷ 2 ∷ 0 ∷ 0 ∷ 0 ∷ 7 ∷ 2 ∷ to ∷ 0 ∷ 0 ∷ 0 ∷ 2 ∷ 0 ∷ 0 ∷ 0 ∷ 0 ∷ 0 ∷ 2
+    ∷ 0 ∷ 0 ∷ 0 ∷ 0 ∷ 0 ∷ 0 ∷ 0 ∷ 0 ∷ 0 ∷ 0 ∷ 2 ∷ record_row ++ delete_row
+
+-- the edit and two undos: the first is an event like any other, and the second is refused
+abbrev pub undone_effects : List Effect
+undone_effects =
+    created_effects
+    ++ Work 1 ∷ Record delete_row ∷ Print (codes "ok 2.2\n")
+    ∷ Try 1 (undone_row_to 1) ∷ Try 3 (undone_row_to 3)
+    ∷ Print (codes "refused: NothingBack\n")
+    ∷ []
+
 -- ---- a site alone
 
 abbrev pub alone : List Entry → List ReadLine → List Effect

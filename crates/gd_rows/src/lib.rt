@@ -1,6 +1,7 @@
 //! The definitions, computed on rows worked by hand. No other crate stands on this one.
 #![tactic(auto)]
 
+pub mod back_rows;
 pub mod edit_rows;
 pub mod line_rows;
 pub mod node_rows;
