@@ -4,3 +4,6 @@ pub mod Ranges
 pub mod Named
 pub mod Sights
 pub mod Onward
+pub mod Changes
+pub mod Views
+pub mod Grouping
