@@ -7,3 +7,5 @@ pub mod Onward
 pub mod Changes
 pub mod Views
 pub mod Grouping
+pub mod Pictures
+pub mod Texts

@@ -1,11 +1,13 @@
 -- What holds of each object of the drawing of any events, where each event keeps it.
-use Rattle.std.proofs.Common.{not, List, [], ◌∷◌, map, fold}
+use Rattle.std.proofs.Common.{◌≡◌, not, List, [], ◌∷◌, map, fold, Option, Some, sym, subst}
 use Rattle.std.proofs.lemmas.Bool.{cond_both}
 use Rattle.std.specs.List.{filter, AllByRecursion as Every}
+use Rattle.std.specs.FinMap as map_of
 use Rattle.std.specs.Prelude.{Bool, if◌then◌else◌}
 use Rattle.gd_base.proofs.Insertions.{Every-all_inserted}
 use Rattle.gd_base.proofs.Lists.{Every-append}
-use Rattle.gd_base.specs.Stamps.{Stamp}
+use Rattle.gd_base.proofs.StampLemmas.{is_same-true}
+use Rattle.gd_base.specs.Stamps.{Stamp, stamp_cmp, is_same}
 use Rattle.gd_events.specs.Events.{Event}
 use Rattle.gd_events.specs.Ordered.{ordered}
 use Rattle.gd_model.specs.declared.content.Content.{Content}
@@ -61,3 +63,10 @@ module _ (P : Stamp × Body → Type 0) where
   pub every-picture : (es : List Event) → Every (λ e. Keeps P e.stamp (form e.stamp e.op)) es → Every P (picture es)
   every-picture es keeps =
       every-fold (ordered es) [] (Every-all_inserted (λ (e : Event). e.stamp) (λ e. Keeps P e.stamp (form e.stamp e.op)) [] es tt keeps) tt
+
+  -- of what is found
+  pub every-found : (id : Stamp) (d : Drawing) (b : Body) → Every P d → map_of.find stamp_cmp id d ≡ Some b → P (id, b)
+  every-found id [] b h e = cc
+  every-found id (x ∷ xs) b h e =
+      cond_both (is_same id x.0) _ _ (λ (found : Option Body). found ≡ Some b → P (id, b))
+      (λ same is. let here : x.1 ≡ b = cc in subst P (λ i. (sym (is_same-true id x.0 same) i, here i)) h.0) (λ other is. every-found id xs b h.1 is) e

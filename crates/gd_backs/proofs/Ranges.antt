@@ -40,7 +40,7 @@ use Rattle.gd_reference.specs.Judging.{edit}
 use Rattle.gd_reference.specs.SlowSite.{SlowSite, clock}
 use Rattle.gd_reference.specs.TakeBack.{item_of, move_back, shape_back, look_back, old_style, back_over, back, is_far, IsBackEdit, IsBack}
 use Rattle.gd_backs.proofs.Accepted.{accepted}
-use Rattle.gd_backs.proofs.Objects.{Keeps, every-picture}
+use Rattle.gd_backs.proofs.Objects.{Keeps, every-picture, every-found}
 
 -- ---- objects
 
@@ -119,12 +119,6 @@ keeps-ranged e sound = form-ranged e.stamp e.op (in-range e.stamp e.op sound.op.
 ranged-picture : (held : List Event) → Every IsSound held → Every InRangeAt (picture held)
 ranged-picture held sound = every-picture InRangeAt held (Every-weaker _ _ keeps-ranged held sound)
 
-ranged-found : (d : Drawing) (id : Stamp) (b : Body) → Every InRangeAt d → map_of.find stamp_cmp id d ≡ Some b → InRange b
-ranged-found [] id b h e = cc
-ranged-found (x ∷ xs) id b h e =
-    cond_both (is_same id x.0) _ _ (λ (found : Option Body). found ≡ Some b → InRange b)
-    (λ same is. let here : x.1 ≡ b = cc in subst InRange here h.0) (λ other is. ranged-found xs id b h.1 is) e
-
 -- ---- backs
 
 abbrev shape_item : shape.Shape → Body → ShapeItem
@@ -145,7 +139,7 @@ module _ (d : Drawing) (ranged : Every InRangeAt d) where
 
       by_body : (x : Option Body) → map_of.find stamp_cmp id d ≡ x → IsBack (look_back old (found_as (item_at id) d id x))
       by_body None is = tt
-      by_body (Some b) is = by_above b (ranged-found d id b ranged is) (is_gone b) (above d id b.link)
+      by_body (Some b) is = by_above b (every-found InRangeAt id d b ranged is) (is_gone b) (above d id b.link)
 
   moves-ranged : (id : Stamp) (i : Option Item) → IsStamp id → IsBack (move_back id i)
   moves-ranged id None is = tt

@@ -1,7 +1,7 @@
 -- What is seen of a drawing after one of its objects is changed or goes, and drawings that are seen alike.
-use Rattle.std.proofs.Common.{◌≡◌, ℕ, ◌≤◌, Bool, true, false, cond, not, List, [], ◌∷◌, length, map, Option, None, Some, refl, sym, ap, ◌∙◌, arith}
+use Rattle.std.proofs.Common.{◌≡◌, ℕ, ◌≤◌, Bool, true, false, cond, not, ◌||◌, List, [], ◌∷◌, length, map, Option, None, Some, refl, sym, ap, ◌∙◌, arith}
 use Rattle.std.specs.Prelude.{option_map}
-use Rattle.std.specs.List.{filter, filter_map, cons_option}
+use Rattle.std.specs.List.{filter, filter_map, cons_option, list_any}
 use Rattle.std.specs.Option.{option_and_then as and_then}
 use Rattle.std.specs.FinMap.Entries.{find-where_key}
 use Rattle.std.proofs.lemmas.Iterator.Adapters.{option_map_id}
@@ -10,7 +10,7 @@ use Rattle.std.proofs.lemmas.List.Filters.{length-filter_both}
 use Rattle.gd_base.proofs.StampLemmas.{stamp_cmp-IsAntisymmetric, is_same-true}
 use Rattle.gd_base.specs.Stamps.{Stamp, stamp_cmp, is_same}
 use Rattle.gd_model.specs.declared.object.Body.{Body}
-use Rattle.gd_model.specs.Drawing.{Drawing, has_id, at_id, without}
+use Rattle.gd_model.specs.Drawing.{Drawing, has_id, is_there, at_id, without}
 use Rattle.gd_model.specs.Shown.{is_gone}
 use Rattle.gd_backs.proofs.Sights.{Lookup, look, Over, over-enough, Sight, sight_by, sight_of, sight_in, view, ids, seen}
 use Rattle.gd_backs.proofs.Onward.{with_body, Carries, sight-onward}
@@ -52,6 +52,11 @@ look-without id d q =
     go : (t : Bool) → cond (not t) (look d q) None ≡ cond t None (look d q)
     go true = refl
     go false = refl
+
+-- an object is there where its id is
+pub there-ids : (s : Stamp) (d : Drawing) → is_there s d ≡ list_any (is_same s) (ids d)
+there-ids s [] = refl
+there-ids s (e ∷ es) = ap (λ t. is_same s e.0 || t) (there-ids s es)
 
 -- drawings with the same ids are of one length
 length-ids : (d e : Drawing) → ids d ≡ ids e → length d ≡ length e
