@@ -1,7 +1,7 @@
 pub mod Objects
 pub mod Accepted
+pub mod Shown
 pub mod Ranges
-pub mod Named
 pub mod Sights
 pub mod Onward
 pub mod Changes

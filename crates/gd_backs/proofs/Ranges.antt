@@ -41,6 +41,7 @@ use Rattle.gd_reference.specs.SlowSite.{SlowSite, clock}
 use Rattle.gd_reference.specs.TakeBack.{item_of, move_back, shape_back, look_back, old_style, back_over, back, is_far, IsBackEdit, IsBack}
 use Rattle.gd_backs.proofs.Accepted.{accepted}
 use Rattle.gd_backs.proofs.Objects.{Keeps, every-picture, every-found}
+use Rattle.gd_backs.proofs.Shown.{seen-cases, shape_item, look-cases}
 
 -- ---- objects
 
@@ -121,29 +122,10 @@ ranged-picture held sound = every-picture InRangeAt held (Every-weaker _ _ keeps
 
 -- ---- backs
 
-abbrev shape_item : shape.Shape → Body → ShapeItem
-shape_item kind b = record { kind = kind; w = b.w; h = b.h; stroke = b.stroke; fill = b.fill; width = b.width; label = b.label }
-
 module _ (d : Drawing) (ranged : Every InRangeAt d) where
   look-ranged : (id : Stamp) (old : ShapeItem → Edit) → ((kind : shape.Shape) (b : Body) → InRange b → IsBackEdit (old (shape_item kind b))) → IsBack (look_back old (item_of d id))
-  look-ranged id old step = by_body (map_of.find stamp_cmp id d) refl
-    where
-      by_kind : (b : Body) → InRange b → (kind : Kind) → IsBack (shape_back old (shape_of kind b))
-      by_kind b r (Shape kind) = step kind b r
-      by_kind b r Group = tt
-
-      by_above : (b : Body) → InRange b → (gone : Bool) (a : Option Above) → IsBack (look_back old (cond gone None (option_map (item_at id b) a)))
-      by_above b r true a = tt
-      by_above b r false None = tt
-      by_above b r false (Some a) = by_kind b r b.kind
-
-      by_body : (x : Option Body) → map_of.find stamp_cmp id d ≡ x → IsBack (look_back old (found_as (item_at id) d id x))
-      by_body None is = tt
-      by_body (Some b) is = by_above b (every-found InRangeAt id d b ranged is) (is_gone b) (above d id b.link)
-
-  moves-ranged : (id : Stamp) (i : Option Item) → IsStamp id → IsBack (move_back id i)
-  moves-ranged id None is = tt
-  moves-ranged id (Some i) is = is
+  look-ranged id old step =
+      look-cases d id old (λ t. IsBack) tt (λ b a s group. tt) (λ b a kind s is. step kind b (every-found InRangeAt id d b ranged s.found))
 
   restyle-ranged : (style : Style) (kind : shape.Shape) (b : Body) → InRange b → is_style (old_style style (shape_item kind b)) ≡ true
   restyle-ranged (Stroke colour) kind b h = h.stroke
@@ -153,7 +135,7 @@ module _ (d : Drawing) (ranged : Every InRangeAt d) where
   over-ranged : (new : Stamp) (wanted : Edit) → IsStamp new → IsEdit wanted → IsBack (back_over d new wanted)
   over-ranged new (wish.Create kind x y w h label) stamp is = stamp
   over-ranged new (wish.Delete id) stamp is = tt
-  over-ranged new (wish.Move id x y) stamp is = moves-ranged id (item_of d id) is.0
+  over-ranged new (wish.Move id x y) stamp is = seen-cases d id (λ t i. IsBack (move_back id i)) tt (λ b a s. is.0)
   over-ranged new (wish.Resize id w h) stamp is = look-ranged id (λ old. wish.Resize id old.w old.h) (λ kind b r. (is.0, r.size))
   over-ranged new (wish.Restyle id style) stamp is = look-ranged id (λ old. wish.Restyle id (old_style style old)) (λ kind b r. (is.0, restyle-ranged style kind b r))
   over-ranged new (wish.Retext id label) stamp is = look-ranged id (λ old. wish.Retext id old.label) (λ kind b r. (is.0, r.label))

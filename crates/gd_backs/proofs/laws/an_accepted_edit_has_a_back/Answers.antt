@@ -1,4 +1,4 @@
-use Rattle.gd_backs.proofs.Named.{there}
+use Rattle.gd_backs.proofs.Shown.{there}
 use Rattle.gd_backs.proofs.Ranges.{ranged, near}
 use Rattle.gd_backs.proofs.laws.an_accepted_edit_has_a_back.Goals as goal
 

@@ -1,12 +1,15 @@
--- The object that an accepted edit names is shown, and so its edit has a back.
-use Rattle.std.proofs.Common.{◌≡◌, ◌+◌, ◌-ℤ◌, Bool, true, false, cond, Option, None, Some, Result, Ok, refl, ap, ◌∙◌}
+-- An object that is shown, and the backs of the edits that name it.
+use Rattle.std.proofs.Common.{◌≡◌, ◌+◌, ◌-ℤ◌, Bool, true, false, cond, Option, None, Some, Result, Ok, Err, refl, sym, ap, ◌∙◌}
 use Rattle.std.specs.Prelude.{option_map}
 use Rattle.std.specs.FinMap as map_of
 use Rattle.gd_base.specs.Stamps.{Stamp, stamp_cmp}
 use Rattle.gd_base.specs.declared.edit.Edit.{Edit}
 use Rattle.gd_base.specs.declared.edit.Edit.TheVariants as wish
+use Rattle.gd_base.specs.declared.item.Item.{Item}
 use Rattle.gd_base.specs.declared.item.ShapeItem.{ShapeItem}
 use Rattle.gd_base.specs.declared.refusal.EditRefusal.{EditRefusal}
+use Rattle.gd_base.specs.declared.refusal.EditRefusal.TheVariants.{NotShape}
+use Rattle.gd_base.specs.declared.shape.Shape as shape
 use Rattle.gd_events.specs.Events.{Event}
 use Rattle.gd_events.specs.declared.op.Op.{Op}
 use Rattle.gd_events.specs.declared.op.Op.TheVariants as op
@@ -16,7 +19,7 @@ use Rattle.gd_model.specs.declared.object.Kind.{Kind}
 use Rattle.gd_model.specs.declared.object.Kind.TheVariants.{Shape, Group}
 use Rattle.gd_model.specs.Drawing.{Drawing, picture}
 use Rattle.gd_model.specs.Shown.{above, is_gone, shape_of, item_at, found_as, seen_as}
-use Rattle.gd_reference.specs.Backs.{Back, Takes}
+use Rattle.gd_reference.specs.Backs.{Back, Never, Takes}
 use Rattle.gd_reference.specs.Judging.{Target, target, target_at, with_target, of_shape, moved_to, judged_over, edit}
 use Rattle.gd_reference.specs.SlowSite.{SlowSite, clock}
 use Rattle.gd_reference.specs.TakeBack.{item_of, move_back, shape_back, look_back, old_style, back_over, back}
@@ -34,27 +37,36 @@ pub seen-shown : {A : Type 0} (f : Body → Above → A) (d : Drawing) (id : Sta
 seen-shown f d id b a s =
     ap (found_as f d id) s.found ∙ ap (λ gone. cond gone None (option_map (f b) (above d id b.link))) s.stays ∙ ap (option_map (f b)) s.up
 
--- ---- the object that an accepted edit names
-
-pub record Named (d : Drawing) (id : Stamp) (rest : Target → Result Op EditRefusal) (change : Op) : Type 0 where
-  pub body : Body
-  pub over : Above
-  pub shown : ShownAt d id body over
-  pub accepts : rest (target_at body over) ≡ Ok change
-
-pub named : (d : Drawing) (id : Stamp) (rest : Target → Result Op EditRefusal) (change : Op) → with_target (target d id) rest ≡ Ok change → Named d id rest change
-named d id rest change e = by_body (map_of.find stamp_cmp id d) refl e
+-- whatever is made of it, there is neither a target nor an item, or both are those of one object
+pub seen-cases : (d : Drawing) (id : Stamp) (P : Option Target → Option Item → Type 0) → P None None
+    → ((b : Body) (a : Above) → ShownAt d id b a → P (Some (target_at b a)) (Some (item_at id b a))) → P (target d id) (item_of d id)
+seen-cases d id P none some = by_body (map_of.find stamp_cmp id d) refl
   where
     by_above : (b : Body) → map_of.find stamp_cmp id d ≡ Some b → (gone : Bool) → is_gone b ≡ gone → (a : Option Above) → above d id b.link ≡ a
-        → with_target (cond gone None (option_map (target_at b) a)) rest ≡ Ok change → Named d id rest change
-    by_above b found false stays (Some a) up k = record { body = b; over = a; shown = record { found = found; stays = stays; up = up }; accepts = k }
-    by_above b found gone stays a up k = cc
+        → P (cond gone None (option_map (target_at b) a)) (cond gone None (option_map (item_at id b) a))
+    by_above b found true stays a up = none
+    by_above b found false stays None up = none
+    by_above b found false stays (Some a) up = some b a (record { found = found; stays = stays; up = up })
 
-    by_body : (x : Option Body) → map_of.find stamp_cmp id d ≡ x → with_target (found_as target_at d id x) rest ≡ Ok change → Named d id rest change
-    by_body None found k = cc
-    by_body (Some b) found k = by_above b found (is_gone b) refl (above d id b.link) refl k
+    by_body : (x : Option Body) → map_of.find stamp_cmp id d ≡ x → P (found_as target_at d id x) (found_as (item_at id) d id x)
+    by_body None found = none
+    by_body (Some b) found = by_above b found (is_gone b) refl (above d id b.link) refl
 
--- ---- its back
+abbrev pub shape_item : shape.Shape → Body → ShapeItem
+shape_item kind b = record { kind = kind; w = b.w; h = b.h; stroke = b.stroke; fill = b.fill; width = b.width; label = b.label }
+
+-- the same of the back of a look, which a shape alone has
+pub look-cases : (d : Drawing) (id : Stamp) (old : ShapeItem → Edit) (P : Option Target → Back → Type 0) → P None Never
+    → ((b : Body) (a : Above) → ShownAt d id b a → b.kind ≡ Group → P (Some (target_at b a)) Never)
+    → ((b : Body) (a : Above) (kind : shape.Shape) → ShownAt d id b a → b.kind ≡ Shape kind → P (Some (target_at b a)) (Takes (old (shape_item kind b))))
+    → P (target d id) (look_back old (item_of d id))
+look-cases d id old P none group shape = seen-cases d id (λ t i. P t (look_back old i)) none (λ b a s. by_kind b a s b.kind refl)
+  where
+    by_kind : (b : Body) (a : Above) → ShownAt d id b a → (kind : Kind) → b.kind ≡ kind → P (Some (target_at b a)) (shape_back old (shape_of kind b))
+    by_kind b a s (Shape kind) is = shape b a kind s is
+    by_kind b a s Group is = group b a s is
+
+-- ---- an accepted edit that has a back
 
 HasBack : Back → Type 0
 HasBack b = (w : Edit) × (b ≡ Takes w)
@@ -62,21 +74,15 @@ HasBack b = (w : Edit) × (b ≡ Takes w)
 module _ (d : Drawing) (change : Op) where
   look-has : (id : Stamp) (new : Op) (old : ShapeItem → Edit) → with_target (target d id) (λ t. of_shape new t.kind) ≡ Ok change → HasBack (look_back old (item_of d id))
   unfolding HasBack
-  look-has id new old e =
-      let n = named d id (λ t. of_shape new t.kind) change e in
-      let back = by_kind n.body n.body.kind n.accepts in
-      (back.0, ap (look_back old) (seen-shown (item_at id) d id n.body n.over n.shown) ∙ back.1)
-    where
-      by_kind : (b : Body) (kind : Kind) → of_shape new kind ≡ Ok change → HasBack (shape_back old (shape_of kind b))
-      by_kind b (Shape kind) k = (_, refl)
-      by_kind b Group k = cc
+  look-has id new old =
+      look-cases d id old (λ t k. with_target t (λ v. of_shape new v.kind) ≡ Ok change → HasBack k) (λ e. cc)
+      (λ b a s group e. let clash : Err NotShape ≡ Ok change = sym (ap (of_shape new) group) ∙ e in cc) (λ b a kind s is e. (_, refl))
 
   over-has : (new : Stamp) (wanted : Edit) → judged_over (target d) wanted ≡ Ok change → has_back wanted ≡ true → HasBack (back_over d new wanted)
   unfolding HasBack
   over-has new (wish.Create kind x y w h label) e has = (wish.Delete new, refl)
   over-has new (wish.Move id x y) e has =
-      let n = named d id (λ t. moved_to id (x -ℤ t.above.dx) (y -ℤ t.above.dy)) change e in
-      (_, ap (move_back id) (seen-shown (item_at id) d id n.body n.over n.shown))
+      seen-cases d id (λ t i. with_target t (λ v. moved_to id (x -ℤ v.above.dx) (y -ℤ v.above.dy)) ≡ Ok change → HasBack (move_back id i)) (λ k. cc) (λ b a s k. (_, refl)) e
   over-has new (wish.Resize id w h) e has = look-has id (op.Resize id w h) (λ old. wish.Resize id old.w old.h) e
   over-has new (wish.Restyle id style) e has = look-has id (op.Restyle id style) (λ old. wish.Restyle id (old_style style old)) e
   over-has new (wish.Retext id label) e has = look-has id (op.Retext id label) (λ old. wish.Retext id old.label) e
