@@ -5,7 +5,9 @@ pub mod Ranges
 pub mod Sights
 pub mod Onward
 pub mod Changes
+pub mod Looks
 pub mod Views
 pub mod Grouping
 pub mod Pictures
 pub mod Texts
+pub mod Restoring

@@ -96,11 +96,12 @@ pub record Effect (h : Sight → Option Sight) (d e : Drawing) : Type 0 where
   pub sees : seen e ≡ filter_map h (seen d)
 
 module _ (d : Drawing) (id : Stamp) (b : Body) (found : look d id ≡ Some b) (stays : is_gone b ≡ false) (k : Over → Option Over) (h : Sight → Option Sight) where
-  pub effect-at : (old : Body → Body) → Carries id b (Some (old b)) k h → Effect h d (at_id id old d)
-  effect-at old c =
+  pub effect-at : (old : Body → Body) (x : Body) → old b ≡ x → Carries id b (Some x) k h → Effect h d (at_id id old d)
+  effect-at old x is c =
+      let looks : (q : Stamp) → look (at_id id old d) q ≡ with_body id (Some x) (look d) q =
+      λ q. look-at id old b d found q ∙ ap (λ v. cond (is_same id q) (Some v) (look d q)) is in
       let views : (q : Stamp) → view (at_id id old d) q ≡ and_then h (view d q) =
-      λ q. (λ i. sight_in (length-ids (at_id id old d) d (ids-at id old d) i) (λ r. look-at id old b d found r i) q)
-      ∙ sight-onward (look d) id b found stays (Some (old b)) k h c (length d) q in
+      λ q. (λ i. sight_in (length-ids (at_id id old d) d (ids-at id old d) i) (λ r. looks r i) q) ∙ sight-onward (look d) id b found stays (Some x) k h c (length d) q in
       record {
         views = views;
         sees = (λ i. filter_map (λ q. views q i) (ids-at id old d i)) ∙ filter_map-then h (view d) (ids d);
