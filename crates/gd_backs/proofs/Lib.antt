@@ -11,3 +11,4 @@ pub mod Grouping
 pub mod Pictures
 pub mod Texts
 pub mod Restoring
+pub mod Restored

@@ -62,6 +62,16 @@ pub record IsOlder (s : Stamp) (e : Stamp × Body) : Type 0 where
   pub apart : is_same s e.0 ≡ false
   pub elsewhere : (l : Link) → e.1.link ≡ Some l → is_same s l.parent ≡ false
 
+-- a link that a group gives leads to the group
+named-parent : (t : Stamp) (ms : List Member) (q : Stamp) (l : Link) → first_naming t ms q ≡ Some l → l.parent ≡ t
+named-parent t [] q l e = cc
+named-parent t (m ∷ ms) q l e =
+    cond_both (is_same q m.id) _ _ (λ (x : Option Link). x ≡ Some l → l.parent ≡ t) (λ same k. cc) (λ other k. named-parent t ms q l k) e
+
+pub given-parent : (t : Stamp) (ms : List Member) (q : Stamp) (l : Link) → link_given t ms q ≡ Some l → l.parent ≡ t
+given-parent t ms q l e =
+    cond_both (is_before q t) _ _ (λ (x : Option Link). x ≡ Some l → l.parent ≡ t) (λ before k. named-parent t ms q l k) (λ other k. cc) e
+
 module _ (s : Stamp) where
   put-older : (c : Content) (q : Stamp) (b : Body) → fits c b.kind ≡ true → IsOlder s (q, b) → IsOlder s (q, put_body c b)
   put-older (ToFlag flag) q b fit h = record { sane = ap (λ t. t && flag) fit; apart = h.apart; elsewhere = h.elsewhere }
@@ -69,15 +79,6 @@ module _ (s : Stamp) where
 
   set-older : (c : Content) (q : Stamp) (b : Body) → IsOlder s (q, b) → IsOlder s (q, set_body c b)
   set-older c q b h = cond_both (fits c b.kind) (put_body c b) b (λ v. IsOlder s (q, v)) (λ fit. put-older c q b fit h) (λ other. h)
-
-  named-parent : (t : Stamp) (ms : List Member) (q : Stamp) (l : Link) → first_naming t ms q ≡ Some l → l.parent ≡ t
-  named-parent t [] q l e = cc
-  named-parent t (m ∷ ms) q l e =
-      cond_both (is_same q m.id) _ _ (λ (x : Option Link). x ≡ Some l → l.parent ≡ t) (λ same k. cc) (λ other k. named-parent t ms q l k) e
-
-  given-parent : (t : Stamp) (ms : List Member) (q : Stamp) (l : Link) → link_given t ms q ≡ Some l → l.parent ≡ t
-  given-parent t ms q l e =
-      cond_both (is_before q t) _ _ (λ (x : Option Link). x ≡ Some l → l.parent ≡ t) (λ before k. named-parent t ms q l k) (λ other k. cc) e
 
   linked-older : (t : Stamp) (ms : List Member) (q : Stamp) (b : Body) → is_same s t ≡ false → IsOlder s (q, b) → IsOlder s (q, linked_body (link_given t ms q) b)
   linked-older t ms q b apart h = go (link_given t ms q) refl
