@@ -1,5 +1,5 @@
 -- A group that is made and then dissolved leaves what was seen.
-use Rattle.std.proofs.Common.{◌≡◌, ℕ, zero, suc, pos, ◌+ℤ◌, Bool, true, false, cond, List, [], ◌∷◌, ◌++◌, length, Option, None, Some, refl, sym, ap, ◌∙◌, subst, arith, append-nil}
+use Rattle.std.proofs.Common.{◌≡◌, ℕ, zero, suc, pos, ◌+ℤ◌, Bool, true, false, cond, List, [], ◌∷◌, ◌++◌, length, Option, None, Some, refl, sym, ap, ◌∙◌, arith, append-nil}
 use Rattle.std.specs.Prelude.{option_map}
 use Rattle.std.specs.List.{filter_map, cons_option}
 use Rattle.std.specs.FinMap.Entries.{find-append}
@@ -18,7 +18,7 @@ use Rattle.gd_model.specs.declared.object.Link.{Link}
 use Rattle.gd_model.specs.Drawing.{Drawing, link_given, at_id}
 use Rattle.gd_model.specs.Objects.{new_group, linked_body, set_body}
 use Rattle.gd_model.specs.Shown.{is_gone, shape_of}
-use Rattle.gd_backs.proofs.Sights.{look, Over, nothing_over, over_by, over_in, over, Up, go-up, go-down, over-whole, Sight, sight, sight_by, sight_of, view, ids, seen}
+use Rattle.gd_backs.proofs.Sights.{look, Over, nothing_over, over_by, over_in, over, Up, go-up, go-down, over-whole, sight, sight_by, sight_of, view, ids, seen}
 use Rattle.gd_backs.proofs.Changes.{dissolve}
 use Rattle.gd_backs.proofs.Views.{mapped, look-mapped, ids-mapped, look-at, ids-at, Alike}
 

@@ -12,3 +12,4 @@ pub mod Pictures
 pub mod Texts
 pub mod Restoring
 pub mod Restored
+pub mod Takings

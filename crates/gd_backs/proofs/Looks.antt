@@ -1,5 +1,5 @@
 -- Changes of the look of a shape, and back.
-use Rattle.std.proofs.Common.{◌≡◌, Bool, true, false, cond, ◌&&◌, Option, Some, refl, sym, ap, ◌∙◌, subst}
+use Rattle.std.proofs.Common.{◌≡◌, Bool, true, false, cond, ◌&&◌, Option, Some, refl, sym, ap, ◌∙◌}
 use Rattle.std.specs.Prelude.{option_map}
 use Rattle.gd_base.specs.Stamps.{Stamp}
 use Rattle.gd_base.specs.declared.edit.Edit.{Edit}
@@ -14,12 +14,11 @@ use Rattle.gd_model.specs.declared.content.Content.{Content}
 use Rattle.gd_model.specs.declared.content.Content.TheVariants.{ToPlace, ToSize, ToStroke, ToFill, ToWidth, ToText, ToFlag, ToRank}
 use Rattle.gd_model.specs.declared.form.Form.TheVariants.{Sets}
 use Rattle.gd_model.specs.declared.object.Body.{Body}
-use Rattle.gd_model.specs.declared.object.Kind.{Kind}
-use Rattle.gd_model.specs.declared.object.Kind.TheVariants.{Shape, Group}
+use Rattle.gd_model.specs.declared.object.Kind.TheVariants.{Shape}
 use Rattle.gd_model.specs.Drawing.{Drawing, at_id, draw}
 use Rattle.gd_model.specs.Forms.{form, styled}
 use Rattle.gd_model.specs.Objects.{is_group, fits, put_body, set_body}
-use Rattle.gd_model.specs.Shown.{is_gone, shape_of}
+use Rattle.gd_model.specs.Shown.{shape_of}
 use Rattle.gd_reference.specs.Judging.{Target, with_target, of_shape, judged_over}
 use Rattle.gd_reference.specs.TakeBack.{old_style}
 use Rattle.gd_backs.proofs.Shown.{shape_item}

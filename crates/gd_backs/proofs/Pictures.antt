@@ -1,5 +1,5 @@
 -- The drawing of events that all came before another one, which is drawn last.
-use Rattle.std.proofs.Common.{◌≡◌, ◌<◌, Bool, true, false, cond, ◌&&◌, ◌||◌, List, [], ◌∷◌, ◌++◌, fold, Option, None, Some, refl, sym, ap, ◌∙◌, subst, arith}
+use Rattle.std.proofs.Common.{◌≡◌, ◌<◌, true, false, cond, ◌&&◌, List, [], ◌∷◌, ◌++◌, fold, Option, None, Some, refl, sym, ap, ◌∙◌, arith}
 use Rattle.std.specs.Prelude.{is_some}
 use Rattle.std.specs.List.{AllByRecursion as Every}
 use Rattle.std.specs.FinMap.Entries.{is_some-find}
@@ -24,7 +24,7 @@ use Rattle.gd_model.specs.declared.object.Link.{Link}
 use Rattle.gd_model.specs.declared.rank.Rank.TheVariants.{Low, High}
 use Rattle.gd_model.specs.Drawing.{Drawing, is_there, applied, picture, first_naming, link_given}
 use Rattle.gd_model.specs.Forms.{form, styled}
-use Rattle.gd_model.specs.Objects.{is_group, fits, put_body, set_body, linked_body}
+use Rattle.gd_model.specs.Objects.{fits, put_body, set_body, linked_body}
 use Rattle.gd_model.specs.Shown.{is_gone}
 use Rattle.gd_backs.proofs.Objects.{Keeps, every-picture, every-found}
 use Rattle.gd_backs.proofs.Sights.{look}

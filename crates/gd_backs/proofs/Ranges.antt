@@ -1,17 +1,14 @@
 -- The backs of a site that holds sound events have their fields in their ranges, but for the place of a move.
-use Rattle.std.proofs.Common.{◌≡◌, ◌+◌, ◌≤◌, Bool, true, false, cond, not, ◌&&◌, [], ◌∷◌, List, Option, None, Some, Ok, refl, subst, arith}
-use Rattle.std.specs.Prelude.{option_map}
+use Rattle.std.proofs.Common.{◌≡◌, ◌+◌, ◌≤◌, Bool, true, false, cond, not, ◌&&◌, [], List, Option, None, Some, Ok, refl, subst, arith}
 use Rattle.std.specs.Str.{chars, is_utf8}
 use Rattle.std.specs.List.{AllByRecursion as Every}
-use Rattle.std.specs.FinMap as map_of
 use Rattle.std.proofs.lemmas.Bool.{cond_both, and_parts}
 use Rattle.gd_base.proofs.Lists.{Every-weaker}
 use Rattle.gd_base.specs.Labels.{IsLabel}
 use Rattle.gd_base.specs.Ranges.{place_limit, size_limit, is_within, is_colour, is_width, is_style}
-use Rattle.gd_base.specs.Stamps.{Stamp, IsStamp, stamp_cmp, is_same}
+use Rattle.gd_base.specs.Stamps.{Stamp, IsStamp}
 use Rattle.gd_base.specs.declared.edit.Edit.{Edit}
 use Rattle.gd_base.specs.declared.edit.Edit.TheVariants as wish
-use Rattle.gd_base.specs.declared.item.Item.{Item}
 use Rattle.gd_base.specs.declared.item.ShapeItem.{ShapeItem}
 use Rattle.gd_base.specs.declared.ranges.TheConstants.{SITES}
 use Rattle.gd_base.specs.declared.shape.Shape as shape
@@ -23,22 +20,19 @@ use Rattle.gd_events.specs.declared.event.EventFault.TheVariants.{Range, MemberC
 use Rattle.gd_events.specs.declared.op.Op.{Op}
 use Rattle.gd_events.specs.declared.op.Op.TheVariants as op
 use Rattle.gd_lines.specs.InRange.{IsEdit}
-use Rattle.gd_model.specs.declared.above.Above.{Above}
 use Rattle.gd_model.specs.declared.content.Content.{Content}
 use Rattle.gd_model.specs.declared.content.Content.TheVariants.{ToPlace, ToSize, ToStroke, ToFill, ToWidth, ToText, ToFlag, ToRank}
 use Rattle.gd_model.specs.declared.object.Body.{Body}
-use Rattle.gd_model.specs.declared.object.Kind.{Kind}
-use Rattle.gd_model.specs.declared.object.Kind.TheVariants.{Shape, Group}
 use Rattle.gd_model.specs.declared.object.Link.{Link}
 use Rattle.gd_model.specs.declared.rank.Rank.TheVariants.{Low, High}
 use Rattle.gd_model.specs.Drawing.{Drawing, picture, link_given}
 use Rattle.gd_model.specs.Forms.{form, styled}
 use Rattle.gd_model.specs.Objects.{fits, put_body, set_body, linked_body}
-use Rattle.gd_model.specs.Shown.{above, is_gone, shape_of, item_at, found_as}
+use Rattle.gd_model.specs.Shown.{above}
 use Rattle.gd_reference.specs.Backs.{Takes}
 use Rattle.gd_reference.specs.Judging.{edit}
 use Rattle.gd_reference.specs.SlowSite.{SlowSite, clock}
-use Rattle.gd_reference.specs.TakeBack.{item_of, move_back, shape_back, look_back, old_style, back_over, back, is_far, IsBackEdit, IsBack}
+use Rattle.gd_reference.specs.TakeBack.{item_of, move_back, look_back, old_style, back_over, back, is_far, IsBackEdit, IsBack}
 use Rattle.gd_backs.proofs.Accepted.{accepted}
 use Rattle.gd_backs.proofs.Objects.{Keeps, every-picture, every-found}
 use Rattle.gd_backs.proofs.Shown.{seen-cases, shape_item, look-cases}

@@ -14,25 +14,23 @@ use Rattle.gd_base.specs.declared.edit.Edit.TheVariants as wish
 use Rattle.gd_base.specs.declared.item.ShapeItem.{ShapeItem}
 use Rattle.gd_base.specs.declared.member.Member.{Member}
 use Rattle.gd_base.specs.declared.refusal.EditRefusal.{EditRefusal}
-use Rattle.gd_base.specs.declared.refusal.EditRefusal.TheVariants.{TooFar}
 use Rattle.gd_base.specs.declared.shape.Shape as shape
 use Rattle.gd_drawing.proofs.Lookups.{at_itself}
 use Rattle.gd_events.specs.Sound.{is_shift_in_range}
 use Rattle.gd_events.specs.declared.op.Op.{Op}
-use Rattle.gd_events.specs.declared.op.Op.TheVariants as op
 use Rattle.gd_model.specs.declared.above.Above.{Above}
 use Rattle.gd_model.specs.declared.content.Content.{Content}
 use Rattle.gd_model.specs.declared.content.Content.TheVariants.{ToPlace, ToSize, ToText, ToFlag}
 use Rattle.gd_model.specs.declared.form.Form.TheVariants.{Creates, Groups}
 use Rattle.gd_model.specs.declared.object.Body.{Body}
-use Rattle.gd_model.specs.declared.object.Kind.TheVariants.{Shape, Group}
+use Rattle.gd_model.specs.declared.object.Kind.TheVariants.{Shape}
 use Rattle.gd_model.specs.declared.object.Link.{Link}
 use Rattle.gd_model.specs.Drawing.{Drawing, at_id, without, draw, first_naming, link_given}
 use Rattle.gd_model.specs.Forms.{form, styled}
 use Rattle.gd_model.specs.Objects.{new_shape, new_group, set_body}
 use Rattle.gd_model.specs.Shown.{is_gone, shape_of}
 use Rattle.gd_reference.specs.Backs.{Back, Never, Takes}
-use Rattle.gd_reference.specs.Judging.{Target, target, target_at, with_target, of_shape, moved_to, targets, with_another, are_apart, is_free, member_at, by_id, grouped, with_targets, judged_over}
+use Rattle.gd_reference.specs.Judging.{Target, target, target_at, with_target, of_shape, moved_to, targets, with_another, are_apart, is_free, member_at, by_id, with_targets, judged_over}
 use Rattle.gd_reference.specs.TakeBack.{item_of, move_back, look_back, old_style, back_over}
 use Rattle.gd_backs.proofs.Shown.{ShownAt, seen-cases, shape_item, look-cases}
 use Rattle.gd_backs.proofs.Sights.{look, Over, nothing_over, over, told, Sight, sight, view}

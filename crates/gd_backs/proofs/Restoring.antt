@@ -10,26 +10,22 @@ use Rattle.gd_base.specs.declared.edit.Edit.{Edit}
 use Rattle.gd_base.specs.declared.edit.Edit.TheVariants as wish
 use Rattle.gd_base.specs.declared.item.ShapeItem.{ShapeItem}
 use Rattle.gd_base.specs.declared.refusal.EditRefusal.TheVariants.{TooFar}
-use Rattle.gd_base.specs.declared.shape.Shape as shape
 use Rattle.gd_drawing.proofs.Lookups.{at_itself, cond_over}
 use Rattle.gd_events.specs.declared.op.Op.{Op}
 use Rattle.gd_events.specs.declared.op.Op.TheVariants as op
 use Rattle.gd_model.specs.declared.above.Above.{Above}
 use Rattle.gd_model.specs.declared.content.Content.{Content}
 use Rattle.gd_model.specs.declared.content.Content.TheVariants.{ToPlace, ToFlag}
-use Rattle.gd_model.specs.declared.form.Form.{Form}
-use Rattle.gd_model.specs.declared.form.Form.TheVariants.{Sets}
 use Rattle.gd_model.specs.declared.object.Body.{Body}
 use Rattle.gd_model.specs.declared.object.Kind.{Kind}
 use Rattle.gd_model.specs.declared.object.Kind.TheVariants.{Shape, Group}
 use Rattle.gd_model.specs.Drawing.{Drawing, at_id, without, draw}
 use Rattle.gd_model.specs.Forms.{form}
 use Rattle.gd_model.specs.Objects.{is_group, put_body, set_body}
-use Rattle.gd_model.specs.Shown.{above, is_gone, shape_of}
-use Rattle.gd_reference.specs.Judging.{Target, target, target_at, with_target, of_shape, of_group, moved_to, judged_over}
+use Rattle.gd_model.specs.Shown.{is_gone, shape_of}
+use Rattle.gd_reference.specs.Judging.{target, target_at, with_target, of_shape, of_group, moved_to, judged_over}
 use Rattle.gd_backs.proofs.Shown.{ShownAt, seen-shown, shape_item}
-use Rattle.gd_backs.proofs.Sights.{look, Over, over, told, told-over, Sight, sight, sight_by, sight_of, view}
-use Rattle.gd_backs.proofs.Onward.{Carries}
+use Rattle.gd_backs.proofs.Sights.{look, Over, over, told, told-over, Sight, sight, sight_of, view}
 use Rattle.gd_backs.proofs.Changes.{keep_sight, deleted, less_sight, dissolve, dissolved, shift_sight, by, moved, look_sight}
 use Rattle.gd_backs.proofs.Views.{look-at, ids-at, Effect, effect-at, effect-without, Alike, alike-trans, alike-onward, alike-from_looks}
 use Rattle.gd_backs.proofs.Looks.{put_item, set-look, look-carries, look-draw, LookEdit}

@@ -1,5 +1,5 @@
 -- An object that is shown, and the backs of the edits that name it.
-use Rattle.std.proofs.Common.{◌≡◌, ◌+◌, ◌-ℤ◌, Bool, true, false, cond, Option, None, Some, Result, Ok, Err, refl, sym, ap, ◌∙◌}
+use Rattle.std.proofs.Common.{◌≡◌, ◌+◌, ◌-ℤ◌, Bool, true, false, cond, Option, None, Some, Ok, Err, refl, sym, ap, ◌∙◌}
 use Rattle.std.specs.Prelude.{option_map}
 use Rattle.std.specs.FinMap as map_of
 use Rattle.gd_base.specs.Stamps.{Stamp, stamp_cmp}
@@ -7,7 +7,6 @@ use Rattle.gd_base.specs.declared.edit.Edit.{Edit}
 use Rattle.gd_base.specs.declared.edit.Edit.TheVariants as wish
 use Rattle.gd_base.specs.declared.item.Item.{Item}
 use Rattle.gd_base.specs.declared.item.ShapeItem.{ShapeItem}
-use Rattle.gd_base.specs.declared.refusal.EditRefusal.{EditRefusal}
 use Rattle.gd_base.specs.declared.refusal.EditRefusal.TheVariants.{NotShape}
 use Rattle.gd_base.specs.declared.shape.Shape as shape
 use Rattle.gd_events.specs.Events.{Event}

@@ -12,7 +12,7 @@ use Rattle.gd_model.specs.declared.above.Above.{Above}
 use Rattle.gd_model.specs.declared.object.Body.{Body}
 use Rattle.gd_model.specs.declared.object.Link.{Link}
 use Rattle.gd_model.specs.Drawing.{Drawing}
-use Rattle.gd_model.specs.Shown.{above_in, above, above_by, through, shape_of, is_gone}
+use Rattle.gd_model.specs.Shown.{above_in, above_by, through, shape_of, is_gone}
 
 -- which body each id has
 abbrev pub Lookup : Type 0

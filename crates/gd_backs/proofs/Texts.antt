@@ -12,7 +12,6 @@ use Rattle.gd_base.proofs.StampLemmas.{stamp_cmp-total, is_same-refl, is_same-co
 use Rattle.gd_base.specs.Stamps.{Stamp, is_same}
 use Rattle.gd_events.specs.Events.{Event}
 use Rattle.gd_events.specs.Ordered.{ordered}
-use Rattle.gd_model.specs.declared.above.Above.{Above}
 use Rattle.gd_model.specs.declared.content.Content.{Content}
 use Rattle.gd_model.specs.declared.content.Content.TheVariants.{ToRank}
 use Rattle.gd_model.specs.declared.form.Form.{Form}
@@ -22,7 +21,7 @@ use Rattle.gd_model.specs.declared.rank.Rank.TheVariants.{Low, High}
 use Rattle.gd_model.specs.Drawing.{Drawing, has_id, is_there, without, to_top, to_bottom, draw, applied, picture, link_given}
 use Rattle.gd_model.specs.Forms.{form}
 use Rattle.gd_model.specs.Objects.{new_group, set_body, linked_body}
-use Rattle.gd_model.specs.Shown.{above, is_gone, item_at, shown, shown_items, in_printed_order}
+use Rattle.gd_model.specs.Shown.{is_gone, item_at, shown, shown_items, in_printed_order}
 use Rattle.gd_lines.specs.Replies.{reply_text}
 use Rattle.gd_reference.specs.DrawingText.{item_replies, text}
 use Rattle.gd_backs.proofs.Sights.{look, Over, over, told, told-over, Sight, sight, sight_by, sight_of, view, ids, seen, item}

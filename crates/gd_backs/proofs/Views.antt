@@ -1,7 +1,7 @@
 -- What is seen of a drawing after one of its objects is changed or goes, and drawings that are seen alike.
 use Rattle.std.proofs.Common.{◌≡◌, ℕ, ◌≤◌, Bool, true, false, cond, not, ◌||◌, List, [], ◌∷◌, length, map, Option, None, Some, refl, sym, ap, ◌∙◌, arith}
 use Rattle.std.specs.Prelude.{option_map}
-use Rattle.std.specs.List.{filter, filter_map, cons_option, list_any}
+use Rattle.std.specs.List.{filter_map, cons_option, list_any}
 use Rattle.std.specs.Option.{option_and_then as and_then}
 use Rattle.std.specs.FinMap.Entries.{find-where_key}
 use Rattle.std.proofs.lemmas.Iterator.Adapters.{option_map_id}
@@ -12,7 +12,7 @@ use Rattle.gd_base.specs.Stamps.{Stamp, stamp_cmp, is_same}
 use Rattle.gd_model.specs.declared.object.Body.{Body}
 use Rattle.gd_model.specs.Drawing.{Drawing, has_id, is_there, at_id, without}
 use Rattle.gd_model.specs.Shown.{is_gone}
-use Rattle.gd_backs.proofs.Sights.{Lookup, look, Over, over-enough, Sight, sight_by, sight_of, sight_in, view, ids, seen}
+use Rattle.gd_backs.proofs.Sights.{look, Over, over-enough, Sight, sight_by, sight_of, sight_in, view, ids, seen}
 use Rattle.gd_backs.proofs.Onward.{with_body, Carries, sight-onward}
 
 -- ---- look-ups
