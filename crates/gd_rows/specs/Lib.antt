@@ -4,3 +4,4 @@ pub mod WorkedWorlds
 pub mod WorkedEdits
 pub mod WorkedNodes
 pub mod WorkedBacks
+pub mod WorkedInputs

@@ -1,5 +1,5 @@
 -- Worked rows of taking back: what edits leave to take back, and what an undo does then.
-use Rattle.std.specs.Prelude.{ℕ, zero, suc, ◌-◌, pos, negsuc, List, [], ◌∷◌, ◌++◌, map, replicate, codes, Some, None, Ok}
+use Rattle.std.specs.Prelude.{ℕ, zero, suc, ◌-◌, pos, negsuc, List, [], ◌∷◌, ◌++◌, map, replicate, codes, Some, None}
 use Rattle.gd_base.specs.declared.edit.Edit.{Edit}
 use Rattle.gd_base.specs.declared.edit.Edit.TheVariants as wish
 use Rattle.gd_base.specs.declared.shape.Shape.TheVariants.{Rect, Ellipse}
@@ -9,35 +9,35 @@ use Rattle.gd_events.specs.declared.op.Op.TheVariants as op
 use Rattle.gd_events.specs.Events.{Event}
 use Rattle.gd_lines.specs.declared.command.Command.TheVariants as command
 use Rattle.gd_reference.specs.Backs.{Back, Never, Takes}
-use Rattle.gd_reference.specs.NodeRun.{ReadLine, site_after}
+use Rattle.gd_reference.specs.NodeRun.{HeardLine, site_after}
 use Rattle.gd_reference.specs.SlowSite.{SlowSite, new_site}
 use Rattle.gd_reference.specs.World.{World, Step, Edits, Undoes, At, Send, Deliver, Restart, Undoing, after}
 use Rattle.gd_rows.specs.Worked.{at_stamp, event}
-use Rattle.gd_rows.specs.WorkedNodes.{alone}
+use Rattle.gd_rows.specs.WorkedNodes.{alone, asked}
 use Rattle.gd_rows.specs.WorkedWorlds.{first_rect, group_of, move_to, new_rect}
 
 -- ---- a site alone
 
-abbrev pub edits : List Edit → List ReadLine
-edits wanted = map (λ w. Ok (command.Edit w)) wanted
+abbrev pub edits : List Edit → List HeardLine
+edits wanted = asked (map command.Edit wanted)
 
-abbrev pub undoes : ℕ → List ReadLine
-undoes n = replicate n (Ok command.Undo)
+abbrev pub undoes : ℕ → List HeardLine
+undoes n = asked (replicate n command.Undo)
 
 -- the site behind these lines, and what it prints
-abbrev pub behind : List ReadLine → SlowSite
+abbrev pub behind : List HeardLine → SlowSite
 behind lines = site_after (new_site 1 1 7) [] lines
 
-abbrev pub prints : List ReadLine → List ℕ
+abbrev pub prints : List HeardLine → List ℕ
 prints lines = printed (alone [] lines)
 
 -- ---- two edits are taken back
 
-abbrev pub made_and_moved : List ReadLine
+abbrev pub made_and_moved : List HeardLine
 made_and_moved = edits (new_rect (pos 0) ∷ move_to 1 1 50 60 ∷ [])
 
 -- and one undo more
-abbrev pub all_back : List ReadLine
+abbrev pub all_back : List HeardLine
 all_back = made_and_moved ++ undoes 3
 
 abbrev pub all_back_printed : List ℕ
@@ -64,7 +64,7 @@ abbrev pub far_edits : List Edit
 far_edits = edge_edits ++ move_to 2 1 5 5 ∷ []
 
 -- an undo, which is refused, and a raise
-abbrev pub far_raised : List ReadLine
+abbrev pub far_raised : List HeardLine
 far_raised = edits far_edits ++ undoes 1 ++ edits (wish.Raise (at_stamp 2 1) ∷ [])
 
 abbrev pub far_printed : List ℕ
@@ -105,7 +105,7 @@ far_moves =
     ∷ []
 
 -- a rect that is raised
-abbrev pub raised : List ReadLine
+abbrev pub raised : List HeardLine
 raised = edits (new_rect (pos 0) ∷ wish.Raise (at_stamp 1 1) ∷ [])
 
 -- ---- the back of each kind of edit
@@ -185,7 +185,7 @@ unacceptable =
 -- ---- how many are kept
 
 -- so many creates; the back of each is the delete of its object
-abbrev pub creates : ℕ → List ReadLine
+abbrev pub creates : ℕ → List HeardLine
 creates n = edits (replicate n (new_rect (pos 0)))
 
 -- so many deletes, from the object of that clock on to those before it

@@ -1,15 +1,21 @@
 -- Worked rows of nodes: what is typed and received, and what the node does.
-use Rattle.std.specs.Prelude.{ℕ, pos, List, [], ◌∷◌, ◌++◌, replicate, codes, Some, Ok, Err}
+use Rattle.std.specs.Prelude.{ℕ, pos, List, [], ◌∷◌, ◌++◌, map, replicate, codes, Some, Ok, Err}
 use Rattle.std.specs.List.{concat}
 use Rattle.gd_base.specs.declared.edit.Edit.TheVariants as wish
 use Rattle.gd_base.specs.declared.refusal.LineFault.TheVariants.{UnknownCommand}
 use Rattle.gd_effects.specs.Effects.{Effect, Head, Print, Record, Try, Work}
 use Rattle.gd_grammar.specs.FrameBytes.{frame_bytes}
+use Rattle.gd_lines.specs.declared.command.Command.{Command}
 use Rattle.gd_lines.specs.declared.command.Command.TheVariants as command
 use Rattle.gd_outside.specs.Seen.{Entry, Packet, Pause, Failure}
-use Rattle.gd_reference.specs.NodeRun.{ReadLine, node_effects}
+use Rattle.gd_reference.specs.InputLines.{Read}
+use Rattle.gd_reference.specs.NodeRun.{HeardLine, node_effects}
 use Rattle.gd_rows.specs.Worked.{at_stamp, frame_row, frame_row_to, header_two_bytes, record_row}
 use Rattle.gd_rows.specs.WorkedWorlds.{new_rect, ahead_move, ahead_first, ahead_gap, ahead_rest, frame_of, sure_frame, sure_late_frame}
+
+-- lines that ask for these
+abbrev pub asked : List Command → List HeardLine
+asked commands = map (λ c. Read (Ok c)) commands
 
 -- ---- site 2 of 3
 
@@ -43,7 +49,7 @@ undone_effects =
 
 -- ---- a site alone
 
-abbrev pub alone : List Entry → List ReadLine → List Effect
+abbrev pub alone : List Entry → List HeardLine → List Effect
 alone entries lines = node_effects 1 1 7 entries lines
 
 -- 65 datagrams of no byte, a pause, and one more
@@ -113,7 +119,7 @@ failing_entries =
     ∷ []
 
 -- a new node 1 of 2 in session 7
-abbrev pub listening : List Entry → List ReadLine → List Effect
+abbrev pub listening : List Entry → List HeardLine → List Effect
 listening entries lines = node_effects 1 2 7 entries lines
 
 abbrev pub ahead_printed : List ℕ
@@ -139,17 +145,17 @@ abbrev pub refused_printed : List ℕ
 refused_printed =
     codes "ready 1 of 2\nframe refused: Short at 0\nframe refused: Session\nframe refused: Trailing at 60\npolled 3\nend 0\n"
 
-abbrev pub noting_lines : List ReadLine
+abbrev pub noting_lines : List HeardLine
 noting_lines =
-    Ok (command.Name (codes "Ada"))
-    ∷ Ok (command.Focus (Some (at_stamp 1 1)))
-    ∷ Ok command.Who
-    ∷ Err UnknownCommand
-    ∷ Ok command.Blank
-    ∷ Ok (command.Edit (new_rect (pos 0)))
-    ∷ Ok (command.Edit (wish.Ungroup (at_stamp 1 1)))
-    ∷ Ok command.Quit
-    ∷ Ok command.Show
+    Read (Ok (command.Name (codes "Ada")))
+    ∷ Read (Ok (command.Focus (Some (at_stamp 1 1))))
+    ∷ Read (Ok command.Who)
+    ∷ Read (Err UnknownCommand)
+    ∷ Read (Ok command.Blank)
+    ∷ Read (Ok (command.Edit (new_rect (pos 0))))
+    ∷ Read (Ok (command.Edit (wish.Ungroup (at_stamp 1 1))))
+    ∷ Read (Ok command.Quit)
+    ∷ Read (Ok command.Show)
     ∷ []
 
 abbrev pub noting_printed : List ℕ

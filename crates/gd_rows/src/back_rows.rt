@@ -13,11 +13,12 @@ ghost use Rattle.gd_reference.specs.DrawingText.{text};
 ghost use Rattle.gd_reference.specs.SlowSite.{new_site};
 ghost use Rattle.gd_reference.specs.TakeBack.{IsFar, Refused, after_edit, after_undo, is_far, undo};
 ghost use Rattle.gd_rows.specs.Worked.{at_stamp, event};
+ghost use Rattle.gd_rows.specs.WorkedNodes.{asked};
 ghost use Rattle.gd_rows.specs.WorkedBacks.{all_back, all_back_held, all_back_printed, behind, creates, deletes, dressed, dressed_backs, dressed_text, edge_edits, edits, far_backs, far_edits, far_gone, far_moves, far_printed, far_raised, gone_site, made_and_moved, moved_backs, near_moves, prints, raised, stopped_world, takeable, unacceptable, undoes, undone_world, untakeable};
 
 /// Two edits are taken back, the second first, and then nothing is left. Each undo is an event, and leaves no back.
 pub fn two_edits_are_taken_back()
-    ensures printed { prints (all_back ++ Ok command.Show ∷ Ok command.Status ∷ [])
+    ensures printed { prints (all_back ++ asked (command.Show ∷ command.Status ∷ []))
         ≡ all_back_printed }
     ensures held { (behind all_back).held ≡ all_back_held }
     ensures once { (behind (made_and_moved ++ undoes 1)).backs

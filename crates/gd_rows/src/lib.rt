@@ -3,6 +3,7 @@
 
 pub mod back_rows;
 pub mod edit_rows;
+pub mod input_rows;
 pub mod line_rows;
 pub mod node_rows;
 pub mod rows;

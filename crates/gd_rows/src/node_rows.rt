@@ -1,43 +1,43 @@
 //! The slow run of a node, computed on worked rows.
 #![tactic(auto, unfolding(crate::proofs::Computing::computing))]
 
-ghost use Rattle.std.specs.Prelude.{◌≡◌, ◌∷◌, [], Ok, length, pos};
+ghost use Rattle.std.specs.Prelude.{◌≡◌, ◌∷◌, [], length, pos, replicate};
 ghost use Rattle.gd_lines.specs.declared.command.Command.TheVariants as command;
 ghost use Rattle.gd_effects.specs.Effects.{journal_after, printed, tried};
 ghost use Rattle.gd_reference.specs.NodeRun.{node_effects};
 ghost use Rattle.gd_rows.specs.WorkedWorlds.{new_rect};
-ghost use Rattle.gd_rows.specs.WorkedNodes.{alone, created_effects, full_entries, full_printed, long_entries, long_printed, ahead_entries, ahead_printed, failing_entries, failing_printed, listening, noting_lines, noting_printed, refused_entries, refused_printed, repeat_effects, repeat_entries, repeat_journal, sure_entries, sure_printed, undone_effects};
+ghost use Rattle.gd_rows.specs.WorkedNodes.{alone, asked, created_effects, full_entries, full_printed, long_entries, long_printed, ahead_entries, ahead_printed, failing_entries, failing_printed, listening, noting_lines, noting_printed, refused_entries, refused_printed, repeat_effects, repeat_entries, repeat_journal, sure_entries, sure_printed, undone_effects};
 
 /// A frame that comes three times is taken once, and answered once.
 pub fn a_repeated_frame()
-    ensures effects { listening repeat_entries (Ok command.Poll ∷ []) ≡ repeat_effects }
-    ensures journal { journal_after [] (listening repeat_entries (Ok command.Poll ∷ []))
+    ensures effects { listening repeat_entries (asked (command.Poll ∷ [])) ≡ repeat_effects }
+    ensures journal { journal_after [] (listening repeat_entries (asked (command.Poll ∷ [])))
         ≡ repeat_journal }
 {}
 
 /// What runs ahead is taken once what was missing is there.
 pub fn a_run_ahead()
-    ensures { printed (listening ahead_entries (Ok command.Poll ∷ Ok command.Status ∷ []))
+    ensures { printed (listening ahead_entries (asked (command.Poll ∷ command.Status ∷ [])))
         ≡ ahead_printed }
 {}
 
 /// An event at the sure clock is printed as refused.
 pub fn an_event_at_the_sure_clock()
-    ensures { printed (listening sure_entries (Ok command.Poll ∷ Ok command.Status ∷ []))
+    ensures { printed (listening sure_entries (asked (command.Poll ∷ command.Status ∷ [])))
         ≡ sure_printed }
 {}
 
 /// A failed receive ends a poll; the next one goes on behind it.
 pub fn a_link_that_fails()
-    ensures printed { printed (listening failing_entries (Ok command.Poll ∷ Ok command.Poll ∷ []))
+    ensures printed { printed (listening failing_entries (asked (command.Poll ∷ command.Poll ∷ [])))
         ≡ failing_printed }
-    ensures tried { length (tried (listening failing_entries (Ok command.Poll ∷ Ok command.Poll
-        ∷ []))) ≡ 2 }
+    ensures tried { length (tried (listening failing_entries (asked (command.Poll ∷ command.Poll
+        ∷ [])))) ≡ 2 }
 {}
 
 /// What isn't a frame, or isn't taken, is printed with its cause.
 pub fn frames_that_are_refused()
-    ensures { printed (listening refused_entries (Ok command.Poll ∷ Ok command.Show ∷ []))
+    ensures { printed (listening refused_entries (asked (command.Poll ∷ command.Show ∷ [])))
         ≡ refused_printed }
 {}
 
@@ -48,22 +48,22 @@ pub fn lines_are_answered()
 
 /// An edit's step comes first, then its record, its line, and a frame for each other site by rising number.
 pub fn an_own_event()
-    ensures { node_effects 2 3 7 [] (Ok (command.Edit (new_rect (pos 0))) ∷ []) ≡ created_effects }
+    ensures { node_effects 2 3 7 [] (asked (command.Edit (new_rect (pos 0)) ∷ []))
+        ≡ created_effects }
 {}
 
 /// So it is with an undo, where one is accepted. A refused one is printed.
 pub fn an_undo()
-    ensures { node_effects 2 3 7 [] (Ok (command.Edit (new_rect (pos 0))) ∷ Ok command.Undo
-        ∷ Ok command.Undo ∷ []) ≡ undone_effects }
+    ensures { node_effects 2 3 7 [] (asked (command.Edit (new_rect (pos 0)) ∷ command.Undo
+        ∷ command.Undo ∷ [])) ≡ undone_effects }
 {}
 
 /// A poll takes 64 datagrams at most, and ends behind a pause, which is no datagram.
 pub fn a_poll_comes_to_its_end()
-    ensures { printed (alone full_entries (Ok command.Poll ∷ Ok command.Poll ∷ Ok command.Poll
-        ∷ Ok command.Poll ∷ [])) ≡ full_printed }
+    ensures { printed (alone full_entries (asked (replicate 4 command.Poll))) ≡ full_printed }
 {}
 
 /// A datagram of 8,192 bytes is read, and one of a byte more is not.
 pub fn a_long_datagram()
-    ensures { printed (alone long_entries (Ok command.Poll ∷ [])) ≡ long_printed }
+    ensures { printed (alone long_entries (asked (command.Poll ∷ []))) ≡ long_printed }
 {}
