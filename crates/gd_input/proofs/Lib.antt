@@ -1,0 +1,4 @@
+mod CutLemmas
+mod TakingLemmas
+pub mod LineLemmas
+pub mod Hearing
