@@ -36,7 +36,7 @@ abbrev pub regrouped : Stamp → List Member → Drawing → Drawing
 regrouped s ms d = at_id s (set_body (ToFlag true)) (with_group s ms d)
 
 -- an object at the end, of an id that wasn't there
-pub look-end : (d : Drawing) (s : Stamp) (b : Body) → look d s ≡ None → (q : Stamp) → look (d ++ (s, b) ∷ []) q ≡ cond (is_same s q) (Some b) (look d q)
+look-end : (d : Drawing) (s : Stamp) (b : Body) → look d s ≡ None → (q : Stamp) → look (d ++ (s, b) ∷ []) q ≡ cond (is_same s q) (Some b) (look d q)
 look-end d s b new q = find-append stamp_cmp stamp_cmp-total d s b q new ∙ ap (λ t. cond t (Some b) (look d q)) (is_same-comm q s)
 
 pub found-end : (d : Drawing) (s : Stamp) (b : Body) → look d s ≡ None → look (d ++ (s, b) ∷ []) s ≡ Some b

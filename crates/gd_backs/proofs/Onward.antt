@@ -48,7 +48,7 @@ not-among : (id : Stamp) (gs : List Stamp) → IsUnder id gs → among id gs ≡
 not-among id [] h = refl
 not-among id (g ∷ gs) h = ap (λ t. t || among id gs) (is_before-apart id g h.0) ∙ not-among id gs h.1
 
-pub over-apart : (n : ℕ) (f : Lookup) (id : Stamp) (link : Option Link) → IfSome (over_in n f id link) (IsApart id)
+over-apart : (n : ℕ) (f : Lookup) (id : Stamp) (link : Option Link) → IfSome (over_in n f id link) (IsApart id)
 over-apart n f id link = go (over_in n f id link) (over-under n f id link)
   where
     go : (x : Option Over) → IfSome x (λ o. IsUnder id o.groups) → IfSome x (IsApart id)

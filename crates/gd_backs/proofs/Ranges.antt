@@ -2,7 +2,7 @@
 use Rattle.std.proofs.Common.{◌≡◌, ◌+◌, ◌≤◌, Bool, true, false, cond, not, ◌&&◌, [], List, Option, None, Some, Ok, refl, subst, arith}
 use Rattle.std.specs.Str.{chars, is_utf8}
 use Rattle.std.specs.List.{AllByRecursion as Every}
-use Rattle.std.proofs.lemmas.Bool.{cond_both, and_parts}
+use Rattle.std.proofs.lemmas.Bool.{cond_both, and_parts, not-false}
 use Rattle.gd_base.proofs.Lists.{Every-weaker}
 use Rattle.gd_base.specs.Labels.{IsLabel}
 use Rattle.gd_base.specs.Ranges.{place_limit, size_limit, is_within, is_colour, is_width, is_style}
@@ -28,7 +28,6 @@ use Rattle.gd_model.specs.declared.rank.Rank.TheVariants.{Low, High}
 use Rattle.gd_model.specs.Drawing.{Drawing, picture, link_given}
 use Rattle.gd_model.specs.Forms.{form, styled}
 use Rattle.gd_model.specs.Objects.{fits, put_body, set_body, linked_body}
-use Rattle.gd_model.specs.Shown.{above}
 use Rattle.gd_reference.specs.Backs.{Takes}
 use Rattle.gd_reference.specs.Judging.{edit}
 use Rattle.gd_reference.specs.SlowSite.{SlowSite, clock}
@@ -140,19 +139,15 @@ module _ (d : Drawing) (ranged : Every InRangeAt d) where
 
 -- the back of an accepted edit is in its ranges, but for the place of a move
 pub back-ranged : (slow : SlowSite) (wanted : Edit) (e : Event) → 1 ≤ slow.me → slow.me ≤ SITES → Every IsSound slow.held → IsEdit wanted → edit slow wanted ≡ Ok e → IsBack (back slow wanted)
-back-ranged slow wanted e above below sound is ok =
+back-ranged slow wanted e least most sound is ok =
     let a = accepted slow wanted e ok in
     over-ranged (picture slow.held) (ranged-picture slow.held sound) (record { clock = clock slow + 1; site = slow.me }) wanted
-    (record { clock_above = omega arith; clock_below = omega (arith, a.room); site_above = above; site_below = below }) is
+    (record { clock_above = omega arith; clock_below = omega (arith, a.room); site_above = least; site_below = most }) is
 
 pub ranged : (slow : SlowSite) (wanted w : Edit) (e : Event) → 1 ≤ slow.me → slow.me ≤ SITES → Every IsSound slow.held → IsEdit wanted → edit slow wanted ≡ Ok e → back slow wanted ≡ Takes w → IsBackEdit w
-ranged slow wanted w e above below sound is ok takes = subst IsBack takes (back-ranged slow wanted e above below sound is ok)
+ranged slow wanted w e least most sound is ok takes = subst IsBack takes (back-ranged slow wanted e least most sound is ok)
 
 -- a back that isn't too far is in all its ranges
 pub near : (w : Edit) → IsBackEdit w → is_far w ≡ false → IsEdit w
-near (wish.Move id x y) is close = (is, go (is_within place_limit x && is_within place_limit y) close)
-  where
-    go : (b : Bool) → not b ≡ false → b ≡ true
-    go true k = refl
-    go false k = cc
+near (wish.Move id x y) is close = (is, not-false (is_within place_limit x && is_within place_limit y) close)
 near w is close = is

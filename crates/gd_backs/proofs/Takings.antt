@@ -197,7 +197,7 @@ next-leaves t w ws u v f few has h alike =
     let seen : Alike (picture v.held) (picture (t.held ++ f.e ∷ [])) = subst (λ es. Alike (picture v.held) (picture es)) (edit-held t w f.e f.did) alike in
     undo-leaves t v x.0 newest (back-restores t w x.0 f.e f.did x.1 (next v) (picture v.held) (held-older v) seen)
 
-pub taken-back : (ws : List Edit) (t u v : SlowSite) → edits t ws ≡ Some u → length ws ≤ 32 → list_all has_back ws ≡ true → undos (length ws) u ≡ Some v → Alike (picture v.held) (picture t.held)
+taken-back : (ws : List Edit) (t u v : SlowSite) → edits t ws ≡ Some u → length ws ≤ 32 → list_all has_back ws ≡ true → undos (length ws) u ≡ Some v → Alike (picture v.held) (picture t.held)
 taken-back [] t u v h few has k = alike-from_same _ _ (ap (λ (x : SlowSite). picture x.held) (sym (no-edits t u h ∙ no-undos u v k)))
 taken-back (w ∷ ws) t u v h few has k =
     let f = first-edit t w ws u h in

@@ -86,7 +86,7 @@ filter_map-without f id (e ∷ es) none = go (is_same id e.0) refl (filter_map-w
     go true same rest = rest ∙ sym (ap (λ y. cons_option y (filter_map f (ids es))) (none e.0 same))
     go false other rest = ap (cons_option (f e.0)) rest
 
-pub sight-enough : (n : ℕ) (d : Drawing) (q : Stamp) (x : Option Body) → length d ≤ n → sight_of n (look d) q x ≡ sight_of (length d) (look d) q x
+sight-enough : (n : ℕ) (d : Drawing) (q : Stamp) (x : Option Body) → length d ≤ n → sight_of n (look d) q x ≡ sight_of (length d) (look d) q x
 sight-enough n d q None h = refl
 sight-enough n d q (Some b) h = ap (sight_by q b) (over-enough n d q b.link h)
 

@@ -35,8 +35,8 @@ pub fn an_accepted_edit_has_a_back()
         → IsTrue (has_back wanted) → (w : Edit) × (back slow wanted ≡ Takes w) }
     ensures never { (slow : SlowSite) (wanted : Edit)
         → IsFalse (has_back wanted) → back slow wanted ≡ Never }
-    ensures ranged { (slow : SlowSite) (wanted w : Edit) (e : Event) → 1 ≤ slow.me → slow.me ≤ SITES
-        → AllByRecursion IsSound slow.held → IsEdit wanted → edit slow wanted ≡ Ok e
-        → back slow wanted ≡ Takes w → IsBackEdit w }
+    ensures ranged { (slow : SlowSite) (wanted w : Edit) (e : Event)
+        → 1 ≤ slow.me → slow.me ≤ SITES → AllByRecursion IsSound slow.held → IsEdit wanted
+        → edit slow wanted ≡ Ok e → back slow wanted ≡ Takes w → IsBackEdit w }
     ensures near { (w : Edit) → IsBackEdit w → IsFalse (is_far w) → IsEdit w }
 {}
