@@ -10,6 +10,7 @@ use Rattle.gd_model.specs.Drawing.{picture}
 use Rattle.gd_reference.specs.Judging.{target, judged_over, judged, greatest_stamp_clock, most_own_events, next_event, event_of, edit}
 use Rattle.gd_reference.specs.SlowSite.{SlowSite, own, clock}
 
+-- the operation, the event, and that the clock hadn't come to its end
 pub record Accepted (slow : SlowSite) (wanted : Edit) (e : Event) : Type 0 where
   pub change : Op
   pub judges : judged_over (target (picture slow.held)) wanted ≡ Ok change

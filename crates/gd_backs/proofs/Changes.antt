@@ -33,6 +33,7 @@ among-past id l c o other = go c.dissolved
 
 -- ---- a deletion
 
+-- what it is over goes, and all else stays
 abbrev keep_over : Stamp → Over → Option Over
 keep_over id o = cond (among id o.groups) None (Some o)
 
@@ -56,6 +57,7 @@ deleted id b stays =
 
 -- ---- a group dissolved
 
+-- the group isn't among the groups any more
 abbrev less : Stamp → List Stamp → List Stamp
 less id gs = filter (λ g. not (is_same id g)) gs
 
@@ -68,6 +70,7 @@ less_sight id s = cond (is_same id s.id) None (Some (record s { groups = less id
 abbrev pub dissolve : Body → Body
 dissolve b = record b { dissolved = true }
 
+-- through the group, and through another object
 less-through : (id : Stamp) (l : Link) (b : Body) (o : Over) → b.dissolved ≡ false → is_same id l.parent ≡ true → less id o.groups ≡ less id (over_by l b o).groups
 less-through id l b o stays same =
     sym (ap (λ gone. less id (cond gone o.groups (l.parent ∷ o.groups))) stays ∙ ap (λ t. cond (not t) (l.parent ∷ less id o.groups) (less id o.groups)) same)
@@ -94,6 +97,7 @@ dissolved id b stays group =
 
 -- ---- a move
 
+-- what it is over is shifted along
 abbrev shift : ℤ → ℤ → Over → Over
 shift dx dy o = record o { dx = dx +ℤ o.dx; dy = dy +ℤ o.dy }
 
@@ -111,13 +115,14 @@ shape-by dx dy b (Shape k) = refl
 shape-by dx dy b Group = refl
 
 module _ (id : Stamp) (dx dy : ℤ) where
-  -- a sum of four, the third of which comes first
+  -- sums in another order
   third : (a b c d : ℤ) → (a +ℤ (d +ℤ b)) +ℤ c ≡ d +ℤ ((a +ℤ b) +ℤ c)
   third a b c d = omega (arith, ints)
 
   last : (a b c d : ℤ) → (a +ℤ b) +ℤ (d +ℤ c) ≡ d +ℤ ((a +ℤ b) +ℤ c)
   last a b c d = omega (arith, ints)
 
+  -- through the object, and through another one
   shift-through : (b : Body) (l : Link) (o : Over) → b.dissolved ≡ false → is_same id l.parent ≡ true → IsApart id o
       → over_by l (by dx dy b) (shift_over id dx dy o) ≡ shift_over id dx dy (over_by l b o)
   shift-through b l o stays same apart =
@@ -132,6 +137,7 @@ module _ (id : Stamp) (dx dy : ℤ) where
       go true = λ i. record (over_by l c o) { dx = last l.dx c.x o.dx dx i; dy = last l.dy c.y o.dy dy i }
       go false = refl
 
+  -- the object, and another one
   abbrev along : Sight → Sight
   along s = record s { x = dx +ℤ s.x; y = dy +ℤ s.y }
 
@@ -174,6 +180,7 @@ pub record LooksApart (c b : Body) : Type 0 where
   pub link : c.link ≡ b.link
   pub dissolved : c.dissolved ≡ b.dissolved
 
+-- the object's own look is changed
 abbrev pub look_sight : Stamp → (ShapeItem → ShapeItem) → Sight → Option Sight
 look_sight id g s = Some (record s { shape = cond (is_same id s.id) (option_map g s.shape) s.shape })
 

@@ -28,6 +28,7 @@ use Rattle.gd_backs.proofs.Views.{mapped, look-mapped, ids-mapped, look-at, ids-
 abbrev pub linked : Stamp → List Member → Drawing → Drawing
 linked s ms d = mapped (λ q. linked_body (link_given s ms q)) d
 
+-- and the group
 abbrev pub with_group : Stamp → List Member → Drawing → Drawing
 with_group s ms d = linked s ms d ++ (s, new_group) ∷ []
 
@@ -39,6 +40,7 @@ regrouped s ms d = at_id s (set_body (ToFlag true)) (with_group s ms d)
 look-end : (d : Drawing) (s : Stamp) (b : Body) → look d s ≡ None → (q : Stamp) → look (d ++ (s, b) ∷ []) q ≡ cond (is_same s q) (Some b) (look d q)
 look-end d s b new q = find-append stamp_cmp stamp_cmp-total d s b q new ∙ ap (λ t. cond t (Some b) (look d q)) (is_same-comm q s)
 
+-- which is found
 pub found-end : (d : Drawing) (s : Stamp) (b : Body) → look d s ≡ None → look (d ++ (s, b) ∷ []) s ≡ Some b
 found-end d s b new = look-end d s b new s ∙ ap (λ t. cond t (Some b) (look d s)) (is_same-refl s)
 
@@ -55,6 +57,7 @@ over-linked_by : (l : Link) (given : Option Link) (b : Body) (o : Over) → over
 over-linked_by l None b o = refl
 over-linked_by l (Some given) b o = refl
 
+-- options that have the same in them
 same-options : {X : Type 0} (x y : Option X) → ((v : X) → x ≡ Some v → y ≡ Some v) → ((v : X) → y ≡ Some v → x ≡ Some v) → x ≡ y
 same-options None None f g = refl
 same-options None (Some v) f g = g v refl
@@ -73,6 +76,7 @@ module _ (s : Stamp) (ms : List Member) (d : Drawing) (new : look d s ≡ None)
   abbrev now : Drawing
   now = regrouped s ms d
 
+  -- what is found at each id
   pub linked-new : look (linked s ms d) s ≡ None
   linked-new = look-mapped (λ q. linked_body (given q)) d s ∙ ap (option_map (linked_body (given s))) new
 
@@ -99,6 +103,7 @@ module _ (s : Stamp) (ms : List Member) (d : Drawing) (new : look d s ≡ None)
       let ys : (l.dy +ℤ pos 0) +ℤ pos 0 ≡ l.dy = omega (arith, ints) in
       sum ∙ (λ i. Some record { groups = []; dx = xs i; dy = ys i }) ∙ sym f.over
 
+  -- so whatever link an object was given
   over-linked : (q : Stamp) (b : Body) → look d q ≡ Some b → over now q b.link ≡ over d q b.link → over now q (linked_body (given q) b).link ≡ over d q b.link
   over-linked q b found same = go (given q) refl
     where
@@ -142,12 +147,14 @@ module _ (s : Stamp) (ms : List Member) (d : Drawing) (new : look d s ≡ None)
           over-whole (suc (length d)) d q (Some l) _ (go-down (length d) (look d) q l v u.rest u.before found (by_link v u.body u.rest (given l.parent) refl found same u.up (ih v found)))
           ∙ ap Some (sym (over-linked_by l (given l.parent) v u.rest) ∙ ap (λ w. over_by l w u.rest) same ∙ u.is)
 
+  -- so all chains are the same
   same-over : (q : Stamp) (link : Option Link) → LeadsElsewhere s link → over now q link ≡ over d q link
   same-over q link other =
       same-options (over now q link) (over d q link) (λ o e. over-from (length now) q link o other e) (λ o e. over-onto (length d) q link o other e)
 
   -- ---- what is seen
 
+  -- a link counts for nothing but what is over the object
   shape-linked : (l : Link) (b : Body) (k : Kind) → shape_of k (linked_body (Some l) b) ≡ shape_of k b
   shape-linked l b (Shape k) = refl
   shape-linked l b Group = refl

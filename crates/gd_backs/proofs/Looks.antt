@@ -1,5 +1,5 @@
 -- Changes of the look of a shape, and back.
-use Rattle.std.proofs.Common.{◌≡◌, Bool, true, false, cond, ◌&&◌, Option, Some, refl, sym, ap, ◌∙◌}
+use Rattle.std.proofs.Common.{ℕ, ℤ, List, ◌≡◌, Bool, true, false, cond, ◌&&◌, Option, Some, refl, sym, ap, ◌∙◌}
 use Rattle.std.specs.Prelude.{option_map}
 use Rattle.gd_base.specs.Stamps.{Stamp}
 use Rattle.gd_base.specs.declared.edit.Edit.{Edit}
@@ -52,6 +52,7 @@ old_item (ToWidth width) s = ToWidth s.width
 old_item (ToText label) s = ToText s.label
 old_item c s = c
 
+-- where it goes, what it leaves, and that it goes back
 pub look-draw : (s id : Stamp) (c : Content) (d : Drawing) → is_look c ≡ true → draw s (Sets id c) d ≡ at_id id (set_body c) d
 look-draw s id (ToRank rank) d is = cc
 look-draw s id c d is = refl
@@ -113,7 +114,8 @@ pub record LookEdit (w : Edit) (id : Stamp) (c : Content) : Type 0 where
   pub forms : (s : Stamp) → form s change ≡ Sets id c
   pub is_look : is_look c ≡ true
 
-pub resizes : (id : Stamp) (w h : _) → LookEdit (wish.Resize id w h) id (ToSize w h)
+-- each of these edits
+pub resizes : (id : Stamp) (w h : ℤ) → LookEdit (wish.Resize id w h) id (ToSize w h)
 resizes id w h = record { change = op.Resize id w h; judges = λ find. refl; forms = λ s. refl; is_look = refl }
 
 pub restyles : (id : Stamp) (style : Style) → LookEdit (wish.Restyle id style) id (styled style)
@@ -124,9 +126,10 @@ restyles id style = record { change = op.Restyle id style; judges = λ find. ref
     go (Fill colour) = refl
     go (Width width) = refl
 
-pub retexts : (id : Stamp) (label : _) → LookEdit (wish.Retext id label) id (ToText label)
+pub retexts : (id : Stamp) (label : List ℕ) → LookEdit (wish.Retext id label) id (ToText label)
 retexts id label = record { change = op.Retext id label; judges = λ find. refl; forms = λ s. refl; is_look = refl }
 
+-- the old style is the old content
 pub old-styled : (style : Style) (s : ShapeItem) → styled (old_style style s) ≡ old_item (styled style) s
 old-styled (Stroke colour) s = refl
 old-styled (Fill colour) s = refl

@@ -28,6 +28,8 @@ Keeps P s (Sets id c) = (q : Stamp) (b : Body) → P (q, b) → P (q, set_body c
 Keeps P s (Groups ms) = P (s, new_group) × ((q : Stamp) (b : Body) → P (q, b) → P (q, linked_body (link_given s ms q) b))
 
 module _ (P : Stamp × Body → Type 0) where
+  -- ---- lists of objects
+
   every-filter : (test : Stamp × Body → Bool) (d : Drawing) → Every P d → Every P (filter test d)
   every-filter test [] h = tt
   every-filter test (e ∷ es) h = cond_both (test e) _ _ (Every P) (λ passes. (h.0, every-filter test es h.1)) (λ fails. every-filter test es h.1)
@@ -39,6 +41,8 @@ module _ (P : Stamp × Body → Type 0) where
   every-at : (id : Stamp) (f : Body → Body) (d : Drawing) → ((q : Stamp) (b : Body) → P (q, b) → P (q, f b)) → Every P d → Every P (at_id id f d)
   every-at id f d step h =
       every-map (λ e. if has_id id e then f e.1 else e.1) d (λ e p. cond_both (has_id id e) (f e.1) e.1 (λ b. P (e.0, b)) (λ same. step e.0 e.1 p) (λ other. p)) h
+
+  -- ---- events
 
   every-sets : (s id : Stamp) (c : Content) (d : Drawing) → Keeps P s (Sets id c) → Every P d → Every P (draw s (Sets id c) d)
   every-sets s id (ToRank (High t)) d keeps h =
@@ -60,11 +64,12 @@ module _ (P : Stamp × Body → Type 0) where
   every-fold [] d keeps h = h
   every-fold (e ∷ es) d keeps h = every-fold es (applied d e) keeps.1 (every-draw e.stamp (form e.stamp e.op) d keeps.0 h)
 
+  -- so it holds of each object of the drawing of all events
   pub every-picture : (es : List Event) → Every (λ e. Keeps P e.stamp (form e.stamp e.op)) es → Every P (picture es)
   every-picture es keeps =
       every-fold (ordered es) [] (Every-all_inserted (λ (e : Event). e.stamp) (λ e. Keeps P e.stamp (form e.stamp e.op)) [] es tt keeps) tt
 
-  -- of what is found
+  -- and of the one that is found
   pub every-found : (id : Stamp) (d : Drawing) (b : Body) → Every P d → map_of.find stamp_cmp id d ≡ Some b → P (id, b)
   every-found id [] b h e = cc
   every-found id (x ∷ xs) b h e =

@@ -75,6 +75,7 @@ module _ (f : Lookup) (id : Stamp) (b : Body) (found : f id ≡ Some b) (stays :
   abbrev now : Lookup
   now = with_body id x f
 
+  -- behind the test of the parent
   by-test : (t : Bool) (y z : Option Over) → y ≡ and_then k z → cond t y None ≡ and_then k (cond t z None)
   by-test true y z e = e
   by-test false y z e = refl
@@ -105,6 +106,7 @@ module _ (f : Lookup) (id : Stamp) (b : Body) (found : f id ≡ Some b) (stays :
       go None = refl
       go (Some o) = c.past l v o other
 
+  -- the whole chain
   over-onward : (n : ℕ) (q : Stamp) (link : Option Link) → over_in n now q link ≡ and_then k (over_in n f q link)
   over-onward n q None = sym c.start
   over-onward zero q (Some l) = refl
@@ -119,6 +121,7 @@ module _ (f : Lookup) (id : Stamp) (b : Body) (found : f id ≡ Some b) (stays :
           ∙ ap (λ y. and_then k (passing l y (λ v. over_in n f l.parent v.link))) (sym found ∙ ap f here)
       go false other ih = at-other l (f l.parent) _ _ other (λ v. ih v.link)
 
+  -- that object, and another one
   own-sight : (n : ℕ) → sight_of n now id x ≡ and_then h (sight_by id b (over_in n f id b.link))
   own-sight n = linked x (λ v is. ap (over_in n now id) (c.link v is) ∙ over-onward n id b.link) ∙ go (over_in n f id b.link) (over-apart n f id b.link) ∙ sym (ap (λ t. and_then h (cond t None (option_map (sight id b) (over_in n f id b.link)))) stays)
     where

@@ -43,6 +43,7 @@ earlier-clock s e h =
       apart = false_from_ne_true _ (λ b. let clocks = ap (λ (t : Stamp). t.clock) (is_same-true s e.stamp b) in omega (arith, h, clocks));
     }
 
+-- one that is later stands at the end
 inserted-last : (es : List Event) (e : Event) → Every (IsEarlier e.stamp) es → inserted es e ≡ es ++ e ∷ []
 unfolding inserted_by
 inserted-last [] e h = refl
@@ -73,6 +74,7 @@ given-parent t ms q l e =
     cond_both (is_before q t) _ _ (λ (x : Option Link). x ≡ Some l → l.parent ≡ t) (λ before k. named-parent t ms q l k) (λ other k. cc) e
 
 module _ (s : Stamp) where
+  -- contents and links
   put-older : (c : Content) (q : Stamp) (b : Body) → fits c b.kind ≡ true → IsOlder s (q, b) → IsOlder s (q, put_body c b)
   put-older (ToFlag flag) q b fit h = record { sane = ap (λ t. t && flag) fit; apart = h.apart; elsewhere = h.elsewhere }
   put-older c q b fit h = record { sane = h.sane; apart = h.apart; elsewhere = h.elsewhere }
@@ -91,6 +93,7 @@ module _ (s : Stamp) where
         elsewhere = λ k e. let same : l ≡ k = cc in ap (is_same s) (ap (λ (v : Link). v.parent) (sym same) ∙ given-parent t ms q l is) ∙ apart;
       }
 
+  -- operations
   keeps-older : (t : Stamp) (o : Op) → is_same s t ≡ false → Keeps (IsOlder s) t (form t o)
   keeps-older t (op.Create kind x y w h label) apart = record { sane = refl; apart = apart; elsewhere = λ l e. cc }
   keeps-older t (op.Delete id) apart = tt

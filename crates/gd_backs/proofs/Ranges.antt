@@ -58,6 +58,7 @@ Fitting (ToWidth width) = is_width width ≡ true
 Fitting (ToText label) = IsLabel label
 Fitting c = Unit {0}
 
+-- what is put in keeps the ranges, and so does a link
 put-ranged : (c : Content) (b : Body) → Fitting c → InRange b → InRange (put_body c b)
 put-ranged (ToSize w v) b f h = record { size = f; stroke = h.stroke; fill = h.fill; width = h.width; label = h.label }
 put-ranged (ToStroke colour) b f h = record { size = h.size; stroke = f; fill = h.fill; width = h.width; label = h.label }
@@ -75,6 +76,7 @@ linked-ranged (Some link) b h = record { size = h.size; stroke = h.stroke; fill 
 
 -- ---- events
 
+-- the numbers of a sound operation are in their ranges
 in-range : (s : Stamp) (o : Op) → op_fault s o ≡ None → is_in_range o ≡ true
 in-range s o h = go (is_in_range o) (has_members o) (names_before s o) (has_rising_members o) h
   where
@@ -91,6 +93,7 @@ no_label : IsLabel []
 unfolding chars is_utf8
 no_label = record { fits = omega arith; plain = refl }
 
+-- what an event makes, and what it changes, is in its ranges
 form-ranged : (s : Stamp) (o : Op) → is_in_range o ≡ true → IsWellTyped o → Keeps InRangeAt s (form s o)
 form-ranged s (op.Create kind x y w h label) within typed =
     let places = and_parts (is_within place_limit x) (is_within place_limit y && (is_within size_limit w && is_within size_limit h)) within in

@@ -56,6 +56,7 @@ every-target find (id ∷ more) ts e = go (find id) refl (targets find more) (λ
         let same : (id, t) ∷ us ≡ ts = cc in subst (Every (λ (v : Stamp × Target). find v.0 ≡ Some v.1)) same (is, rest us all)
     go x is y rest all k = cc
 
+-- by rising id they are the same members
 every-by_id : (P : Member → Type 0) (ms : List Member) → Every P ms → Every P (by_id ms)
 unfolding by_id
 every-by_id P [] h = tt
@@ -83,6 +84,7 @@ free-member d id t is free b found =
     ap (λ (v : Body). over d id v.link) (sym same) ∙ up.whole ∙ no-groups up.up t.above (up.told_is ∙ ap (λ (v : Target). v.above) own) free)
     is
 
+-- each member, and so the link that it is given
 free-members : (d : Drawing) (ts : List (Stamp × Target)) → Every (λ t. target d t.0 ≡ Some t.1) ts → list_all is_free ts ≡ true → Every (FreeMember d) (map member_at ts)
 free-members d [] all free = tt
 free-members d (t ∷ ts) all free =
@@ -130,6 +132,7 @@ module _ (s : Stamp) (b : Drawing) (older : Every (IsOlder s) b) where
   seen-new d x new stays link =
       record { body = x; found = found-end d s x new; stays = stays; up = nothing_over; whole = ap (over (d ++ (s, x) ∷ []) s) link; same = refl }
 
+  -- a new object, and a new group
   created : (x : Body) → is_gone x ≡ false → x.dissolved ≡ false → x.link ≡ None → Restores b (draw s (Creates x) b) (wish.Delete s)
   unfolding seen-new
   created x shown stays link =
@@ -170,6 +173,7 @@ module _ (s : Stamp) (b : Drawing) (older : Every (IsOlder s) b) where
   not-dissolved : (id : Stamp) (v : Body) (a : Above) → ShownAt b id v a → v.dissolved ≡ false
   not-dissolved id v a sh = sym (older-found s b older id v sh.found).sane ∙ sh.stays
 
+  -- an object moved, and a shape with another look
   move-made : (id : Stamp) (v : Body) (a : Above) → ShownAt b id v a → (x y : ℤ) → Restores b (at_id id (set_body (ToPlace x y)) b) (wish.Move id (v.x +ℤ a.dx) (v.y +ℤ a.dy))
   unfolding sight-shown
   move-made id v a sh x y =
@@ -215,6 +219,7 @@ module _ (s : Stamp) (b : Drawing) (older : Every (IsOlder s) b) where
       (alike-twice b id (set_body (old_item c item)) (set_body c) v sh.found (set-back c l.is_look v kind shaped))
       (λ d r still. acts-look r (old_item c item) old back (put_item c item) refl)
 
+  -- the edits that become these
   look-restored : (id : Stamp) (c : Content) (w : Edit) (old : ShapeItem → Edit) → LookEdit w id c → ((item : ShapeItem) → LookEdit (old item) id (old_item c item))
       → RestoredBy s b (look_back old (item_of b id)) (judged_over (target b) w)
   look-restored id c w old l back =

@@ -33,6 +33,7 @@ use Rattle.gd_backs.proofs.Pictures.{IsOlder, older-found}
 
 -- ---- an object that is seen
 
+-- its body, and what is over it
 pub record SeenAt (d : Drawing) (id : Stamp) (t : Sight) : Type 0 where
   pub body : Body
   pub found : look d id ≡ Some body
@@ -79,6 +80,7 @@ module _ {d : Drawing} {id : Stamp} {t : Sight} (p : SeenAt d id t) where
       seen-shown target_at d id p.body (told p.up)
       (record { found = p.found; stays = p.stays; up = sym (told-over (length d) d id p.body.link) ∙ ap (option_map told) p.whole })
 
+  -- what it is
   group-kind : t.shape ≡ None → p.body.kind ≡ Group
   group-kind none = go p.body.kind (ap (λ (s : Sight). s.shape) p.same ∙ none)
     where

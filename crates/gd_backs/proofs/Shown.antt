@@ -27,16 +27,18 @@ use Rattle.gd_backs.proofs.Accepted.{accepted}
 
 -- ---- an object that is shown
 
+-- its body, and what stands above it
 pub record ShownAt (d : Drawing) (id : Stamp) (b : Body) (a : Above) : Type 0 where
   pub found : map_of.find stamp_cmp id d ≡ Some b
   pub stays : is_gone b ≡ false
   pub up : above d id b.link ≡ Some a
 
+-- whatever is made of an object that is shown is made of this one
 pub seen-shown : {A : Type 0} (f : Body → Above → A) (d : Drawing) (id : Stamp) (b : Body) (a : Above) → ShownAt d id b a → seen_as f d id ≡ Some (f b a)
 seen-shown f d id b a s =
     ap (found_as f d id) s.found ∙ ap (λ gone. cond gone None (option_map (f b) (above d id b.link))) s.stays ∙ ap (option_map (f b)) s.up
 
--- whatever is made of it, there is neither a target nor an item, or both are those of one object
+-- there is neither a target nor an item, or both are those of one object
 pub seen-cases : (d : Drawing) (id : Stamp) (P : Option Target → Option Item → Type 0) → P None None
     → ((b : Body) (a : Above) → ShownAt d id b a → P (Some (target_at b a)) (Some (item_at id b a))) → P (target d id) (item_of d id)
 seen-cases d id P none some = by_body (map_of.find stamp_cmp id d) refl
@@ -51,6 +53,7 @@ seen-cases d id P none some = by_body (map_of.find stamp_cmp id d) refl
     by_body None found = none
     by_body (Some b) found = by_above b found (is_gone b) refl (above d id b.link) refl
 
+-- what an item has of a shape of that kind
 abbrev pub shape_item : shape.Shape → Body → ShapeItem
 shape_item kind b = record { kind = kind; w = b.w; h = b.h; stroke = b.stroke; fill = b.fill; width = b.width; label = b.label }
 
@@ -88,6 +91,7 @@ module _ (d : Drawing) (change : Op) where
   over-has new (wish.Group ids) e has = (wish.Ungroup new, refl)
   over-has new wanted e has = cc
 
+-- so it is at a site
 pub there : (slow : SlowSite) (wanted : Edit) (e : Event) → edit slow wanted ≡ Ok e → has_back wanted ≡ true → (w : Edit) × (back slow wanted ≡ Takes w)
 unfolding HasBack
 there slow wanted e ok has =

@@ -90,6 +90,7 @@ seen d = filter_map (view d) (ids d)
 
 -- ---- what is above, of what is over
 
+-- the nearest group
 abbrev first : List Stamp → Option Stamp
 first [] = None
 first (g ∷ gs) = Some g
@@ -100,6 +101,7 @@ told o = record { parent = first o.groups; dx = o.dx; dy = o.dy }
 abbrev pub item : Sight → Item
 item s = record { id = s.id; parent = first s.groups; at = record { x = s.x; y = s.y }; shape = s.shape }
 
+-- both sum up alike, link by link
 told-by : (l : Link) (g : Body) (dissolved : Bool) (x : Option Over)
     → (let by : Over → Over = λ o. record { groups = cond dissolved o.groups (l.parent ∷ o.groups); dx = (l.dx +ℤ g.x) +ℤ o.dx; dy = (l.dy +ℤ g.y) +ℤ o.dy } in
     let on : Above → Above = λ a. record { parent = cond dissolved a.parent (Some l.parent); dx = (l.dx +ℤ g.x) +ℤ a.dx; dy = (l.dy +ℤ g.y) +ℤ a.dy } in
@@ -133,6 +135,7 @@ pub record Up (n : ℕ) (f : Lookup) (id : Stamp) (l : Link) (o : Over) : Type 0
   pub up : over_in n f l.parent body.link ≡ Some rest
   pub is : over_by l body rest ≡ o
 
+-- up to the parent
 pub go-up : (n : ℕ) (f : Lookup) (id : Stamp) (l : Link) (o : Over) → over_in (suc n) f id (Some l) ≡ Some o → Up n f id l o
 go-up n f id l o e = by_body (is_before id l.parent) refl (f l.parent) refl e
   where
@@ -144,6 +147,7 @@ go-up n f id l o e = by_body (is_before id l.parent) refl (f l.parent) refl e
     by_body true before (Some b) found k = by_over before b found (over_in n f l.parent b.link) refl k
     by_body t before x found k = cc
 
+-- and down from it
 pub go-down : (n : ℕ) (f : Lookup) (id : Stamp) (l : Link) (b : Body) (o : Over) → is_before id l.parent ≡ true → f l.parent ≡ Some b → over_in n f l.parent b.link ≡ Some o
     → over_in (suc n) f id (Some l) ≡ Some (over_by l b o)
 go-down n f id l b o before found up =
@@ -153,6 +157,7 @@ go-down n f id l b o before found up =
 
 -- ---- more links than the drawing has objects change nothing
 
+-- where something is over an object, more links change nothing
 one-more : (n : ℕ) (f : Lookup) (id : Stamp) (link : Option Link) (o : Over) → over_in n f id link ≡ Some o → over_in (suc n) f id link ≡ Some o
 one-more n f id None o e = e
 one-more zero f id (Some l) o e = cc
@@ -164,6 +169,7 @@ some-more : (k n m : ℕ) (f : Lookup) (id : Stamp) (link : Option Link) (o : Ov
 some-more zero n m f id link o is e = let same : n ≡ m = omega (arith, is) in subst (λ i. over_in i f id link ≡ Some o) same e
 some-more (suc k) n m f id link o is e = some-more k (suc n) m f id link o (omega (arith, is)) (one-more n f id link o e)
 
+-- and where it is hidden, nothing stands above it
 none-told : (x : Option Over) → option_map told x ≡ None → x ≡ None
 none-told None e = refl
 none-told (Some o) e = cc

@@ -27,6 +27,7 @@ use Rattle.gd_backs.proofs.Restored.{RestoredBy, restored}
 
 -- ---- one edit and its back
 
+-- the held events come before the next one
 below-greatest : (es : List Event) → Every (λ e. e.stamp.clock ≤ greatest_clock es) es
 unfolding greatest_clock
 below-greatest [] = tt
@@ -42,10 +43,12 @@ held-earlier slow = Every-weaker _ _ (λ (e : Event) (h : e.stamp.clock ≤ cloc
 held-older : (slow : SlowSite) → Every (IsOlder (next slow)) (picture slow.held)
 held-older slow = older-picture (next slow) slow.held (held-earlier slow)
 
+-- and it is drawn last
 drawn-next : (slow : SlowSite) (change : Op)
     → picture (slow.held ++ next_event slow.me (clock slow) (length (own slow)) change ∷ []) ≡ draw (next slow) (form (next slow) change) (picture slow.held)
 drawn-next slow change = picture-push slow.held (next_event slow.me (clock slow) (length (own slow)) change) (held-earlier slow)
 
+-- the back restores what was seen
 back-restores : (slow : SlowSite) (wanted w : Edit) (e : Event) → edit slow wanted ≡ Ok e → back slow wanted ≡ Takes w → Restores (picture slow.held) (picture (slow.held ++ e ∷ [])) w
 back-restores slow wanted w e did has =
     let a = accepted slow wanted e did in
@@ -61,6 +64,7 @@ abbrev Leaves : SlowSite → SlowSite → Result Event BackRefusal → Type 0
 Leaves old now (Ok e) = Alike (picture (now.held ++ e ∷ [])) (picture old.held)
 Leaves old now (Err why) = is_met why ≡ true
 
+-- by its judgement
 edit-leaves : (old now : SlowSite) (w : Edit) → Judged (picture old.held) (picture now.held) w → Leaves old now (or_refused (edit now w))
 unfolding edit judged
 edit-leaves old now w judgement =
@@ -90,6 +94,7 @@ undo-leaves old now w newest judgement = go now.backs newest
 
 -- ---- the first edit, and the last undo
 
+-- the first of the edits, and the others
 record First (t : SlowSite) (w : Edit) (ws : List Edit) (u : SlowSite) : Type 0 where
   e : Event
   did : edit t w ≡ Ok e
@@ -107,6 +112,7 @@ no-edits : (t u : SlowSite) → edits t [] ≡ Some u → t ≡ u
 unfolding edits
 no-edits t u h = cc
 
+-- what the site holds after an edit
 edit-held : (t : SlowSite) (w : Edit) (e : Event) → edit t w ≡ Ok e → (after_edit t w).held ≡ t.held ++ e ∷ []
 unfolding after_edit
 edit-held t w e did = ap (λ r. (with_own t r).held) did
@@ -115,6 +121,7 @@ edit-backs : (t : SlowSite) (w : Edit) (e : Event) → edit t w ≡ Ok e → (af
 unfolding after_edit
 edit-backs t w e did = ap (backs_with (back t w) t.backs) did
 
+-- the last of the undos, and those before it
 record Last (n : ℕ) (t v : SlowSite) : Type 0 where
   mid : SlowSite
   before : undos n t ≡ Some mid
@@ -138,6 +145,7 @@ no-undos : (t v : SlowSite) → undos zero t ≡ Some v → t ≡ v
 unfolding undos
 no-undos t v h = cc
 
+-- what the site holds after an undo
 undo-held : (mid : SlowSite) (e : Event) → undo mid ≡ Ok e → (after_undo mid).held ≡ mid.held ++ e ∷ []
 unfolding after_undo
 undo-held mid e did = ap (λ r. (with_own mid r).held) did
@@ -148,6 +156,7 @@ undo-backs mid e did = ap (backs_without mid.backs) did
 
 -- ---- the backs
 
+-- the first of a list, and those behind the first
 get-take : {X : Type 0} (n i : ℕ) (xs : List X) → i < n → slice_get (take n xs) i ≡ slice_get xs i
 get-take zero i xs h = absurd (omega (arith, h))
 get-take (suc n) i [] h = refl
@@ -197,6 +206,7 @@ next-leaves t w ws u v f few has h alike =
     let seen : Alike (picture v.held) (picture (t.held ++ f.e ∷ [])) = subst (λ es. Alike (picture v.held) (picture es)) (edit-held t w f.e f.did) alike in
     undo-leaves t v x.0 newest (back-restores t w x.0 f.e f.did x.1 (next v) (picture v.held) (held-older v) seen)
 
+-- so all of them leave what was seen
 taken-back : (ws : List Edit) (t u v : SlowSite) → edits t ws ≡ Some u → length ws ≤ 32 → list_all has_back ws ≡ true → undos (length ws) u ≡ Some v → Alike (picture v.held) (picture t.held)
 taken-back [] t u v h few has k = alike-from_same _ _ (ap (λ (x : SlowSite). picture x.held) (sym (no-edits t u h ∙ no-undos u v k)))
 taken-back (w ∷ ws) t u v h few has k =
@@ -207,6 +217,7 @@ taken-back (w ∷ ws) t u v h few has k =
     let leaves : Leaves t l.mid (Ok l.e) = subst (Leaves t l.mid) l.did (next-leaves t w ws u l.mid f (omega (arith, few)) parts.0 l.before before) in
     subst (λ es. Alike (picture es) (picture t.held)) (sym (undo-held l.mid l.e l.did) ∙ ap (λ (x : SlowSite). x.held) l.is) leaves
 
+-- and each is refused for what an undo may be refused for
 pub met-alone : (ws : List Edit) (t u v : SlowSite) (done : ℕ) (why : BackRefusal) → edits t ws ≡ Some u → length ws ≤ 32 → list_all has_back ws ≡ true → done < length ws
     → undos done u ≡ Some v → undo v ≡ Err why → is_met why ≡ true
 met-alone [] t u v done why h few has less k r = absurd (omega (arith, less))
@@ -222,5 +233,6 @@ met-alone (w ∷ ws) t u v done why h few has less k r =
     go true is one two = one (ltb-true _ _ is)
     go false is one two = let most = ltb-false done (length ws) is in two (omega (arith, most, less))
 
+-- the text is that of what is seen
 pub text-back : (ws : List Edit) (t u v : SlowSite) → edits t ws ≡ Some u → length ws ≤ 32 → list_all has_back ws ≡ true → undos (length ws) u ≡ Some v → text (picture v.held) ≡ text (picture t.held)
 text-back ws t u v h few has k = same-text v.held t.held (taken-back ws t u v h few has k)

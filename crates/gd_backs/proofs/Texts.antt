@@ -62,6 +62,7 @@ once-end : (d : Drawing) (s : Stamp) (b : Body) → list_any (is_same s) (ids d)
 once-end d s b new once =
     subst (IsDistinct is_same) (sym (map-append (λ (e : Stamp × Body). e.0) d ((s, b) ∷ []))) (IsDistinct-push (eq_by_cmp_equiv stamp_cmp-total) (ids d) s once new)
 
+-- through an event, and all events
 once-sets : (s id : Stamp) (c : Content) (d : Drawing) → Once d → Once (draw s (Sets id c) d)
 once-sets s id (ToRank (High t)) d once = once-top id d once
 once-sets s id (ToRank (Low t)) d once = once-bottom id d once
@@ -86,6 +87,7 @@ once-picture held = once-fold (ordered held) [] tt
 
 -- ---- so each object is found at its id
 
+-- these entries are found
 abbrev Found : Drawing → Drawing → Type 0
 Found d es = Every (λ e. look d e.0 ≡ Some e.1) es
 
@@ -103,6 +105,7 @@ once-found (e ∷ es) once = (
 
 -- ---- items and the text
 
+-- what is told of a sight
 item-by : (id : Stamp) (b : Body) (gone : Bool) (x : Option Over) → cond gone None (option_map (item_at id b) (option_map told x)) ≡ option_map item (cond gone None (option_map (sight id b) x))
 item-by id b true x = refl
 item-by id b false None = refl
@@ -112,6 +115,7 @@ item-by id b false (Some o) = refl
 shown-sight : (d : Drawing) (id : Stamp) (b : Body) → shown d (id, b) ≡ option_map item (sight_by id b (over d id b.link))
 shown-sight d id b = ap (λ x. cond (is_gone b) None (option_map (item_at id b) x)) (sym (told-over (length d) d id b.link)) ∙ item-by id b (is_gone b) (over d id b.link)
 
+-- so the shown items are those of what is seen
 map-cons : (x : Option Sight) (xs : List Sight) → cons_option (option_map item x) (map item xs) ≡ map item (cons_option x xs)
 map-cons None xs = refl
 map-cons (Some s) xs = refl

@@ -30,10 +30,12 @@ look-mapped f (e ∷ es) q = go (is_same q e.0) refl (look-mapped f es q)
     go true same rest = ap (λ r. Some (f r e.1)) (sym (is_same-true q e.0 same))
     go false other rest = rest
 
+-- the ids stay
 pub ids-mapped : (f : Stamp → Body → Body) (d : Drawing) → ids (mapped f d) ≡ ids d
 ids-mapped f [] = refl
 ids-mapped f (e ∷ es) = ap (λ qs. e.0 ∷ qs) (ids-mapped f es)
 
+-- one object changed, and one that goes
 pub look-at : (id : Stamp) (old : Body → Body) (b : Body) (d : Drawing) → look d id ≡ Some b → (q : Stamp) → look (at_id id old d) q ≡ with_body id (Some (old b)) (look d) q
 look-at id old b d found q = look-mapped (λ k v. cond (is_same id k) (old v) v) d q ∙ go (is_same id q) refl
   where
@@ -68,6 +70,7 @@ length-without id d =
 
 -- ---- what is seen
 
+-- one after the other
 filter_map-then : {X Y Z : Type 0} (h : Y → Option Z) (f : X → Option Y) (xs : List X) → filter_map (λ x. and_then h (f x)) xs ≡ filter_map h (filter_map f xs)
 filter_map-then h f [] = refl
 filter_map-then {Y = Y} h f (x ∷ xs) = ap (cons_option (and_then h (f x))) (filter_map-then h f xs) ∙ go (f x)
@@ -86,6 +89,7 @@ filter_map-without f id (e ∷ es) none = go (is_same id e.0) refl (filter_map-w
     go true same rest = rest ∙ sym (ap (λ y. cons_option y (filter_map f (ids es))) (none e.0 same))
     go false other rest = ap (cons_option (f e.0)) rest
 
+-- more links than there are objects change nothing
 sight-enough : (n : ℕ) (d : Drawing) (q : Stamp) (x : Option Body) → length d ≤ n → sight_of n (look d) q x ≡ sight_of (length d) (look d) q x
 sight-enough n d q None h = refl
 sight-enough n d q (Some b) h = ap (sight_by q b) (over-enough n d q b.link h)

@@ -14,9 +14,10 @@ ghost use Rattle.gd_reference.specs.SlowSite.{SlowSite};
 ghost use Rattle.gd_reference.specs.TakeBack.{back, BackRefusal, is_far, undo, IsBackEdit};
 ghost use Rattle.gd_backs.specs.TakingBack.{has_back, edits, undos, is_met};
 
-/// Where a site accepts at most 32 edits that can be taken back, and then as many undos, and nothing
-/// else happens in between, it shows afterwards what it showed before. Each of these undos is refused
-/// only by the greatest clock, by the number of the site's events, or because a place is too far.
+/// Where a site, whatever it holds, accepts at most 32 edits that can be taken back, and then as many
+/// undos, and nothing else happens in between, it shows afterwards what it showed before. Each of
+/// these undos is refused only by the greatest clock, by the number of the site's events, or because
+/// a place is too far.
 pub fn what_is_taken_back_leaves_no_trace()
     ensures text { (t u v : SlowSite) (wanted : List Edit) → edits t wanted ≡ Some u
         → length wanted ≤ MOST_BACKS → IsTrue (list_all has_back wanted)
