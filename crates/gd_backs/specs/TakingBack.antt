@@ -18,7 +18,8 @@ has_back wanted = true
 -- the site after these edits, where it accepts each
 unfoldable pub edits : SlowSite → List Edit → Option SlowSite
 edits slow [] = Some slow
-edits slow (wanted ∷ more) = if is_ok (edit slow wanted) then edits (after_edit slow wanted) more else None
+edits slow (wanted ∷ more) =
+    if is_ok (edit slow wanted) then edits (after_edit slow wanted) more else None
 
 abbrev pub undone : Option SlowSite → Option SlowSite
 undone None = None

@@ -14,10 +14,10 @@ ghost use Rattle.gd_reference.specs.SlowSite.{SlowSite};
 ghost use Rattle.gd_reference.specs.TakeBack.{back, BackRefusal, is_far, undo, IsBackEdit};
 ghost use Rattle.gd_backs.specs.TakingBack.{has_back, edits, undos, is_met};
 
-/// Where a site, whatever it holds, accepts at most 32 edits that can be taken back, and then as many
-/// undos, and nothing else happens in between, it shows afterwards what it showed before. Each of
-/// these undos is refused only by the greatest clock, by the number of the site's events, or because
-/// a place is too far.
+/// Where a site, whatever it holds, accepts at most 32 edits that can be taken back, and then
+/// as many undos, and nothing else happens in between, it shows afterwards what it showed
+/// before. Each of these undos is refused only by the greatest clock, by the number of the
+/// site's events, or because a place is too far.
 pub fn what_is_taken_back_leaves_no_trace()
     ensures text { (t u v : SlowSite) (wanted : List Edit) → edits t wanted ≡ Some u
         → length wanted ≤ MOST_BACKS → IsTrue (list_all has_back wanted)
@@ -28,9 +28,9 @@ pub fn what_is_taken_back_leaves_no_trace()
         → undo v ≡ Err why → IsTrue (is_met why) }
 {}
 
-/// An accepted edit has a back, unless it deletes, dissolves a group or changes the order. Where the
-/// site holds sound events, the back's fields are in their ranges, but for the place of a move; and
-/// that too, where the place isn't too far.
+/// An accepted edit has a back, unless it deletes, dissolves a group or changes the order.
+/// Where the site holds sound events, the back's fields are in their ranges, but for the place
+/// of a move; and that too, where the place isn't too far.
 pub fn an_accepted_edit_has_a_back()
     ensures there { (slow : SlowSite) (wanted : Edit) (e : Event) → edit slow wanted ≡ Ok e
         → IsTrue (has_back wanted) → (w : Edit) × (back slow wanted ≡ Takes w) }
