@@ -6,3 +6,9 @@ pub mod Statuses
 pub mod Fails
 pub mod Journals
 pub mod Memory
+pub mod Links
+pub mod Texts
+pub mod LinkParts
+pub mod MemoryLinks
+pub mod Receives
+pub mod WorkedLinks
