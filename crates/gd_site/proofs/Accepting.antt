@@ -32,9 +32,10 @@ use Rattle.gd_site.specs.Sites.{SiteValue, IsOtherOf, StandsFor, HasSlowSite}
 use Rattle.gd_site.proofs.Numbers.{least_of_others-more}
 use Rattle.gd_site.proofs.Numbered.{numbered-drop}
 use Rattle.gd_site.proofs.Counts.{held_few}
-use Rattle.gd_site.proofs.Stands.{History, Keeps, document_of, keeps, AllOf-entries, outcome_is, line_agrees, acked_agrees}
+use Rattle.gd_site.proofs.Stands.{History, Keeps, AllOf-entries, outcome_is, line_agrees, acked_agrees}
 use Rattle.gd_site.proofs.Starting.{drawing_is}
-use Rattle.gd_site.proofs.Taking.{Entered, Trimmed, keeps_entered, keeps_trimmed, made_by-other, made_by-same, greatest_clock-push}
+use Rattle.gd_history.specs.Holding.{Trimmed}
+use Rattle.gd_site.proofs.Taking.{Enters, keeps_entered, keeps_trimmed, made_by-other, made_by-same, greatest_clock-push}
 
 -- ---- the site decides as the reference site does
 
@@ -89,7 +90,7 @@ module _ (slow : SlowSite) (s : SiteValue) (stands : StandsFor slow s) (wanted :
   own_above = omega (arith, line_below, next.clocked_on)
 
   pub own_above_line : s.history.line < e.stamp.clock
-  own_above_line = omega (arith, own_above, stands.line_is)
+  own_above_line = omega (arith, own_above, stands.history.line_is)
 
   apart : (f : Event) → f.stamp.clock ≤ clock slow → f.stamp ≢ e.stamp
   apart f low same = let clocks = ap (λ (x : Stamp). x.clock) same in omega (arith, low, next.clocked_on, clocks)
@@ -118,7 +119,7 @@ module _ (slow : SlowSite) (s : SiteValue) (stands : StandsFor slow s) (wanted :
   others : (t : ℕ) → IsOtherOf slow t → made_by t (slow.held ++ e ∷ []) ≡ made_by t slow.held
   others t h = made_by-other t slow.held e (λ mine. h.1 (mine ∙ next.by_me))
 
-  module _ (top : ℕ) (top_is : top ≡ e.stamp.clock) (higher : ℕ) (higher_is : higher ≡ line_of s.peers top) (entered : History) (enters : Entered s.history e entered) where
+  module _ (top : ℕ) (top_is : top ≡ e.stamp.clock) (higher : ℕ) (higher_is : higher ≡ line_of s.peers top) (entered : History) (enters : Enters s.history e entered) where
     clock_up : top ≡ clock after_it
     clock_up = omega (arith, top_is, next.clocked_on, greatest_clock-push slow.held e)
 
@@ -126,7 +127,7 @@ module _ (slow : SlowSite) (s : SiteValue) (stands : StandsFor slow s) (wanted :
     line_new = higher_is ∙ line_agrees after_it s.peers top stands.me stands.sites clock_up stands.sures
 
     own_line_rises : entered.line ≤ higher
-    own_line_rises = omega (arith, enters.line, stands.line_is, rises, line_new)
+    own_line_rises = omega (arith, enters.line, stands.history.line_is, rises, line_new)
 
     module _ (trimmed : History) (trims : Trimmed entered higher trimmed) (box : OutboxValue) (pushed : List Event) (pushes : pushed ≡ s.outbox.events ++ e ∷ []) (before acked : ℕ) (before_is : before ≡ s.made) (acked_is : acked ≡ peers.least_acked s.peers (s.made + 1))
         (box_is : box.events ≡ cond (nat_lt before acked) (numbered_above acked pushed) pushed) where
@@ -136,7 +137,7 @@ module _ (slow : SlowSite) (s : SiteValue) (stands : StandsFor slow s) (wanted :
       kept_now : Keeps (slow.held ++ e ∷ []) (line after_it) trimmed
       kept_now =
           subst (λ (l : ℕ). Keeps (slow.held ++ e ∷ []) l trimmed) line_new
-          (keeps_trimmed (slow.held ++ e ∷ []) (line slow) higher entered (keeps_entered slow.held (line slow) s.history (keeps slow s stands) e own_above entered enters) (omega (arith, rises, line_new)) trimmed trims)
+          (keeps_trimmed (slow.held ++ e ∷ []) (line slow) higher entered (keeps_entered slow.held (line slow) s.history stands.history e own_above entered enters) (omega (arith, rises, line_new)) trimmed trims)
 
       made_more : s.made + 1 ≡ length (own after_it)
       made_more = omega (arith, stands.made, ap length own_grows, length-append (own slow) (e ∷ []))
@@ -171,9 +172,7 @@ module _ (slow : SlowSite) (s : SiteValue) (stands : StandsFor slow s) (wanted :
         made = made_more;
         held = omega (arith, stands.held, length-append slow.held (e ∷ []));
         outbox_is = box_now;
-        line_is = kept_now.line_is;
-        entries = kept_now.entries;
-        document = document_of (slow.held ++ e ∷ []) (line after_it) trimmed kept_now;
+        history = kept_now;
       }
 
 -- ---- what the calls of `accept` leave
@@ -184,7 +183,7 @@ pub record Accepted (s : SiteValue) (e : Event) (entered : History) (top higher 
   pub becomes : decided s wanted ≡ Ok e
   pub top_is : top ≡ e.stamp.clock
   pub higher_is : higher ≡ line_of s.peers top
-  pub enters : Entered s.history e entered
+  pub enters : Enters s.history e entered
 
 pub record Boxed (s : SiteValue) (e : Event) (box : OutboxValue) : Type 0 where
   pub pushed : List Event

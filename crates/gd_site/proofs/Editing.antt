@@ -57,7 +57,5 @@ box_stands slow s stands box same = record {
   made = stands.made;
   held = stands.held;
   outbox_is = same ∙ stands.outbox_is;
-  line_is = stands.line_is;
-  entries = stands.entries;
-  document = stands.document;
+  history = stands.history;
 }

@@ -20,8 +20,9 @@ use Rattle.gd_site.specs.Judged.{refused_by, IsSameMember}
 use Rattle.gd_site.specs.Sites.{SiteValue, IsOtherOf, StandsFor, HasSlowSite}
 use Rattle.gd_site.proofs.Numbers.{of_site-put, length-put, least_of_others-rises}
 use Rattle.gd_site.proofs.Numbered.{numbered-drop}
-use Rattle.gd_site.proofs.Stands.{History, Keeps, document_of, keeps, other_of, line_agrees, acked_agrees}
-use Rattle.gd_site.proofs.Taking.{Trimmed, keeps_trimmed}
+use Rattle.gd_site.proofs.Stands.{History, Keeps, other_of, line_agrees, acked_agrees}
+use Rattle.gd_history.specs.Holding.{Trimmed}
+use Rattle.gd_site.proofs.Taking.{keeps_trimmed}
 
 -- ---- frames are refused alike
 
@@ -100,9 +101,7 @@ module _ (s : SiteValue) (f : Frame) (p : PeersValue) (before after : ℕ) (box 
       made = stands.made;
       held = stands.held;
       outbox_is = box_new;
-      line_is = stands.line_is;
-      entries = stands.entries;
-      document = stands.document;
+      history = stands.history;
     }
 
     pub acked_stands : StandsFor (with_ack slow f) acked_site
@@ -152,13 +151,13 @@ module _ (s : SiteValue) (sized : IsPeers s.peers) (sures : List ℕ) (slow : Sl
   line_up = least_of_others-rises slow.sure sure slow.me (clock slow) slow.sites (λ t from to ne. rise t)
 
   risen_line : s.history.line ≤ higher
-  risen_line = omega (arith, stands.line_is, line_new, line_up)
+  risen_line = omega (arith, stands.history.line_is, line_new, line_up)
 
   module _ (trimmed : History) (trims : Trimmed s.history higher trimmed) where
     after_it : Keeps slow.held (line slower) trimmed
     after_it =
         subst (λ (l : ℕ). Keeps slow.held l trimmed) line_new
-        (keeps_trimmed slow.held (line slow) higher s.history (keeps slow s stands) (omega (arith, line_up, line_new)) trimmed trims)
+        (keeps_trimmed slow.held (line slow) higher s.history stands.history (omega (arith, line_up, line_new)) trimmed trims)
 
     risen_stands : StandsFor slower (record s { history = trimmed; peers = record s.peers { sures = sures } })
     risen_stands = record {
@@ -182,9 +181,7 @@ module _ (s : SiteValue) (sized : IsPeers s.peers) (sures : List ℕ) (slow : Sl
       made = stands.made;
       held = stands.held;
       outbox_is = stands.outbox_is;
-      line_is = after_it.line_is;
-      entries = after_it.entries;
-      document = document_of slow.held (line slower) trimmed after_it;
+      history = after_it;
     }
 
 -- ---- the beat

@@ -1,5 +1,3 @@
-pub mod Keeping
-pub mod Drawn
 pub mod Numbers
 pub mod Numbered
 pub mod InRange

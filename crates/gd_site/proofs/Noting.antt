@@ -40,9 +40,7 @@ module _ (s : SiteValue) (slow : SlowSite) (stands : StandsFor slow s) (notes : 
     made = stands.made;
     held = stands.held;
     outbox_is = stands.outbox_is;
-    line_is = stands.line_is;
-    entries = stands.entries;
-    document = stands.document;
+    history = stands.history;
   }
 
 -- one note is put

@@ -24,14 +24,13 @@ use Rattle.gd_base.proofs.SiteLemmas.{is_site-bounds, is_site-within}
 use Rattle.gd_canvas.specs.Slots.{Slots, board_of}
 use Rattle.gd_stable.specs.Peers.{PeersValue, IsOther, of_site, line_of}
 use Rattle.gd_stable.specs.Peers as peers
-use Rattle.gd_site.specs.Standing.{Holds}
+use Rattle.gd_history.specs.Holding.{Holds}
+use Rattle.gd_history.proofs.Holding.{seen-events, seen-every, seen-later, seen-document}
 use Rattle.gd_protocol.proofs.Steps.{every_below}
 use Rattle.gd_base.proofs.Lists.{Every-weaker}
 use Rattle.gd_site.specs.InRange.{AreObjects}
 use Rattle.gd_site.specs.Sites.{SiteValue, IsOtherOf, StandsFor}
 use Rattle.gd_site.proofs.InRange.{objects_in_range}
-use Rattle.gd_site.proofs.Drawn.{by_clock, drawn-after, drawn-above, drawn-later, AllOf-drawn, length-drawn}
-use Rattle.gd_site.proofs.Keeping.{Holds-events, Holds-later, AllOf-events_above}
 use Rattle.gd_site.proofs.Numbers.{least_of_others-same}
 use Rattle.gd_site.proofs.Counts.{held_few}
 
@@ -41,9 +40,6 @@ History = HistoryValue Slots Op Before
 -- the history keeps the fold of these events
 abbrev pub Keeps : List Event → ℕ → History → Type 0
 Keeps held line h = Holds drawing_rules board_of map_of.empty (all_drawn (ordered held)) line h
-
-pub document_of : (held : List Event) (line : ℕ) (h : History) → Keeps held line h → board_of h.document ≡ board held
-document_of held line h is = is.document ∙ drawn-after (ordered held) map_of.empty
 
 -- ---- events that one site made
 
@@ -57,27 +53,26 @@ every_by P site (e ∷ es) h = go (is_by site e) refl (every_by P site es) h
     go false is rest k = (λ same. absurd (eqb-false e.stamp.site site is same), rest k)
 
 module _ (slow : SlowSite) (s : SiteValue) (stands : StandsFor slow s) where
-  pub keeps : Keeps slow.held (line slow) s.history
-  keeps = record { line_is = stands.line_is; entries = stands.entries; document = stands.document ∙ sym (drawn-after (ordered slow.held) map_of.empty) }
-
   -- the kept events
   kept_events : events_of s.history.entries ≡ all_drawn (kept slow)
-  kept_events = Holds-events drawing_rules board_of map_of.empty (all_drawn (ordered slow.held)) (by_clock slow.held) (line slow) s.history keeps ∙ drawn-above (line slow) (ordered slow.held)
+  kept_events = seen-events drawn drawing_rules board_of map_of.empty slow.held (line slow) s.history stands.history
 
   kept_count : length s.history.entries ≡ length (kept slow)
-  kept_count = sym (length-map s.history.entries _) ∙ ap length kept_events ∙ length-drawn (kept slow)
+  kept_count = sym (length-map s.history.entries _) ∙ ap length kept_events ∙ length-map (kept slow) drawn
 
   -- what holds of all held events holds of the entries
   pub AllOf-entries : (P : Stamped Op → Type 0) → Every (λ e. P (drawn e)) slow.held → AllOf P (events_of s.history.entries)
-  AllOf-entries P h =
-      subst (AllOf P) (sym (Holds-events drawing_rules board_of map_of.empty (all_drawn (ordered slow.held)) (by_clock slow.held) (line slow) s.history keeps))
-      (AllOf-events_above P (line slow) (all_drawn (ordered slow.held)) (AllOf-drawn P (ordered slow.held) (every-ordered (λ e. P (drawn e)) slow.held h)))
+  AllOf-entries P h = seen-every drawn drawing_rules board_of map_of.empty slow.held (line slow) s.history stands.history P (every-ordered (λ e. P (drawn e)) slow.held h)
 
   -- what comes of an event above the line goes by the entries
   pub outcome_is : (e : Event) → line slow < e.stamp.clock → outcome are_independent is_covered (drawn e) (later_than e.stamp (events_of s.history.entries)) ≡ outcome_of slow.held e
   outcome_is e above =
       ap (outcome are_independent is_covered (drawn e))
-      (Holds-later drawing_rules board_of map_of.empty (all_drawn (ordered slow.held)) (by_clock slow.held) (line slow) s.history keeps e.stamp above ∙ drawn-later e.stamp (ordered slow.held))
+      (seen-later drawn drawing_rules board_of map_of.empty slow.held (line slow) s.history stands.history e.stamp above)
+
+  -- the drawing is that of the held events
+  pub board_is : board_of s.history.document ≡ board slow.held
+  board_is = seen-document drawn drawing_rules board_of map_of.empty slow.held (line slow) s.history stands.history
 
   pub other_of : (t : ℕ) → IsOther s.peers t → IsOtherOf slow t
   other_of t h = (is_site-within slow.sites t h.from (omega (arith, h.to, stands.sites)), λ mine. h.other (mine ∙ sym stands.me))
@@ -102,7 +97,7 @@ acked_agrees slow p top me sites same acks =
 -- ---- how much it holds
 
 pub drawing_few : (slow : SlowSite) (s : SiteValue) → StandsFor slow s → map_of.len (board_of s.history.document) ≤ 1048560
-drawing_few slow s stands = omega (arith, ap map_of.len stands.document, board-len slow.held, held_few slow stands.well)
+drawing_few slow s stands = omega (arith, ap map_of.len (board_is slow s stands), board-len slow.held, held_few slow stands.well)
 
 pub entries_few : (slow : SlowSite) (s : SiteValue) → StandsFor slow s → length s.history.entries ≤ 1048560
 entries_few slow s stands =
@@ -111,10 +106,10 @@ entries_few slow s stands =
     omega (arith, kept_count slow s stands, both, length-ordered slow.held, held_few slow stands.well)
 
 pub status_is : (slow : SlowSite) (s : SiteValue) → StandsFor slow s → record { held = s.held; kept = length s.history.entries; line = s.history.line; clock = s.clock } ≡ status slow
-status_is slow s stands = λ i. record { held = stands.held i; kept = kept_count slow s stands i; line = stands.line_is i; clock = stands.clock_is i }
+status_is slow s stands = λ i. record { held = stands.held i; kept = kept_count slow s stands i; line = stands.history.line_is i; clock = stands.clock_is i }
 
 -- the objects of the drawing are in their ranges
 pub objects_of : (slow : SlowSite) (s : SiteValue) → StandsFor slow s → AreObjects s.clock (board_of s.history.document)
 objects_of slow s stands =
-    subst (AreObjects s.clock) (sym stands.document)
+    subst (AreObjects s.clock) (sym (board_is slow s stands))
     (objects_in_range s.clock slow.held stands.well.sound (Every-weaker _ _ (λ (e : Event) (le : e.stamp.clock ≤ clock slow). omega (arith, le, stands.clock_is)) slow.held (every_below slow.held)))

@@ -17,6 +17,7 @@ use Rattle.gd_canvas.specs.Slots.{Slots, board_of}
 use Rattle.gd_stable.specs.Peers.{IsPeers, of_site, new_peers, zeros}
 use Rattle.gd_stable.specs.Outboxes.{OutboxValue}
 use Rattle.gd_site.specs.Sites.{SiteValue, StandsFor, HasSlowSite}
+use Rattle.gd_site.proofs.Stands.{board_is}
 
 zero_at : (t : ℕ) → 1 ≤ t → t ≤ 16 → of_site zeros t ≡ 0
 zero_at t low high = get_or-replicate 16 (t - 1) 0 0 (omega arith)
@@ -52,9 +53,7 @@ module _ (me sites session : ℕ) (from : 1 ≤ me) (to : me ≤ sites) (few : s
     made = refl;
     held = refl;
     outbox_is = none ∙ sym (drop_all _ [] (omega arith));
-    line_is = zero_line;
-    entries = refl;
-    document = empty;
+    history = record { line_is = zero_line; entries = refl; document = empty };
   }
     where
       zero_line : 0 ≡ line slow
@@ -65,4 +64,4 @@ module _ (me sites session : ℕ) (from : 1 ≤ me) (to : me ≤ sites) (few : s
 
 -- the drawing that the history has is that of the held events
 pub drawing_is : (slow : SlowSite) (s : SiteValue) → StandsFor slow s → listed (board_of s.history.document) ≡ picture slow.held
-drawing_is slow s stands = ap listed stands.document ∙ stacking slow.held (well_distinct slow stands.well)
+drawing_is slow s stands = ap listed (board_is slow s stands) ∙ stacking slow.held (well_distinct slow stands.well)

@@ -8,10 +8,8 @@ use Rattle.gd_base.specs.declared.offer.Offer.TheVariants.{Next}
 use Rattle.gd_events.specs.Events.{Event}
 use Rattle.gd_events.specs.Ordered.{ordered}
 use Rattle.gd_events.specs.Sound.{IsSound}
-use Rattle.gd_repair.specs.Repair.{after, recorded}
-use Rattle.gd_history.specs.Entries.{events_of, all_held}
-use Rattle.gd_history.specs.Histories.{base_of}
-use Rattle.gd_history.specs.Orders.{inserted, entries_above, HasNone}
+use Rattle.gd_history.specs.Entries.{events_of}
+use Rattle.gd_history.specs.Orders.{HasNone}
 use Rattle.gd_model.specs.Arrivals.{drawn, all_drawn}
 use Rattle.gd_reference.specs.Offers.{offered, offer, with_event, after_offer}
 use Rattle.gd_reference.specs.PerSite.{put, least_of_others}
@@ -27,36 +25,23 @@ use Rattle.gd_protocol.proofs.Rising.{IsNext, IsNext-from_offer, next_above_line
 use Rattle.gd_protocol.proofs.WellSites.{well_arrived}
 use Rattle.gd_canvas.specs.Slots.{board_of}
 use Rattle.gd_stable.specs.Peers.{PeersValue, IsPeers, IsOther, of_site, with_taken, line_of}
-use Rattle.gd_site.specs.Standing.{Holds}
+use Rattle.gd_history.specs.Holding.{Entered, Trimmed}
+use Rattle.gd_history.proofs.Holding.{seen-entered, Holds-trimmed}
 use Rattle.gd_site.specs.Sites.{SiteValue, IsOtherOf, StandsFor, HasSlowSite}
-use Rattle.gd_site.proofs.Drawn.{by_clock, drawn-push}
-use Rattle.gd_site.proofs.Keeping.{Holds-arrived, Holds-trimmed}
 use Rattle.gd_site.proofs.Numbers.{of_site-put, length-put}
 use Rattle.gd_site.proofs.Counts.{held_few}
-use Rattle.gd_site.proofs.Stands.{History, Keeps, document_of, every_by, keeps, AllOf-entries, other_of, line_agrees}
+use Rattle.gd_site.proofs.Stands.{History, Keeps, every_by, AllOf-entries, other_of, line_agrees}
 
 -- ---- a history that an event entered, and that is then trimmed
 
--- what `arrive` leaves
-pub record Entered (old : History) (e : Event) (new : History) : Type 0 where
-  pub entries : all_held new.entries ≡ recorded drawing_rules (inserted (drawn e) (events_of old.entries)) (base_of drawing_rules board_of old)
-  pub document : board_of new.document ≡ after drawing_rules (inserted (drawn e) (events_of old.entries)) (base_of drawing_rules board_of old)
-  pub line : new.line ≡ old.line
+abbrev pub Enters : History → Event → History → Type 0
+Enters old e new = Entered drawing_rules board_of old (drawn e) new
 
--- what `trim` leaves
-pub record Trimmed (old : History) (higher : ℕ) (new : History) : Type 0 where
-  pub entries : new.entries ≡ entries_above higher old.entries
-  pub document : new.document ≡ old.document
-  pub line : new.line ≡ higher
-
-pub keeps_entered : (held : List Event) (line : ℕ) (h : History) → Keeps held line h → (e : Event) → line < e.stamp.clock → (new : History) → Entered h e new → Keeps (held ++ e ∷ []) line new
-keeps_entered held line h is e above new entered =
-    subst (λ l. Holds drawing_rules board_of map_of.empty l line new) (sym (drawn-push held e))
-    (Holds-arrived drawing_rules board_of map_of.empty (all_drawn (ordered held)) (by_clock held) line h is drawing_laws (drawn e) above new entered.entries entered.document entered.line)
+pub keeps_entered : (held : List Event) (line : ℕ) (h : History) → Keeps held line h → (e : Event) → line < e.stamp.clock → (new : History) → Enters h e new → Keeps (held ++ e ∷ []) line new
+keeps_entered held line h is e above new enters = seen-entered drawn drawing_rules board_of map_of.empty held line h is drawing_laws e above new enters
 
 pub keeps_trimmed : (held : List Event) (line higher : ℕ) (h : History) → Keeps held line h → line ≤ higher → (new : History) → Trimmed h higher new → Keeps held higher new
-keeps_trimmed held line higher h is le new trimmed =
-    Holds-trimmed drawing_rules board_of map_of.empty (all_drawn (ordered held)) line higher h new is le trimmed.entries trimmed.document trimmed.line
+keeps_trimmed held line higher h is le new trims = Holds-trimmed drawing_rules board_of map_of.empty (all_drawn (ordered held)) line higher h new is le trims
 
 -- ---- one event of another site
 
@@ -93,7 +78,7 @@ module _ (slow : SlowSite) (s : SiteValue) (stands : StandsFor slow s) (e : Even
   taken_above = next_above_line slow e there.0 there.1 is_next
 
   pub above_line : s.history.line < e.stamp.clock
-  above_line = omega (arith, taken_above, stands.line_is)
+  above_line = omega (arith, taken_above, stands.history.line_is)
 
   pub has_room : of_site s.peers.counts e.stamp.site < 65535
   has_room = omega (arith, count_is, facts.number, sound.number_fits)
@@ -148,7 +133,7 @@ module _ (slow : SlowSite) (s : SiteValue) (stands : StandsFor slow s) (e : Even
         (λ k. ap (λ (n : ℕ). n + 1) count_is ∙ sym more)
         (λ u ne k. stands.counts u k ∙ sym (ap length (made_by-other u slow.held e ne))) t h
 
-    module _ (entered trimmed : History) (top : ℕ) (top_is : top ≡ max s.clock e.stamp.clock) (higher : ℕ) (higher_is : higher ≡ line_of now top) (enters : Entered s.history e entered) where
+    module _ (entered trimmed : History) (top : ℕ) (top_is : top ≡ max s.clock e.stamp.clock) (higher : ℕ) (higher_is : higher ≡ line_of now top) (enters : Enters s.history e entered) where
       clock_up : top ≡ clock (with_event slow e)
       clock_up = top_is ∙ ap (λ (c : ℕ). max c e.stamp.clock) stands.clock_is ∙ sym (greatest_clock-push slow.held e)
 
@@ -157,7 +142,7 @@ module _ (slow : SlowSite) (s : SiteValue) (stands : StandsFor slow s) (e : Even
 
       -- what `trim` asks for
       line_rises : entered.line ≤ higher
-      line_rises = omega (arith, enters.line, stands.line_is, line_up, line_new)
+      line_rises = omega (arith, enters.line, stands.history.line_is, line_up, line_new)
 
       module _ (trims : Trimmed entered higher trimmed) where
         abbrev pub taken : SiteValue
@@ -166,7 +151,7 @@ module _ (slow : SlowSite) (s : SiteValue) (stands : StandsFor slow s) (e : Even
         after_it : Keeps (slow.held ++ e ∷ []) (line (with_event slow e)) trimmed
         after_it =
             subst (λ (l : ℕ). Keeps (slow.held ++ e ∷ []) l trimmed) line_new
-            (keeps_trimmed (slow.held ++ e ∷ []) (line slow) higher entered (keeps_entered slow.held (line slow) s.history (keeps slow s stands) e taken_above entered enters) (omega (arith, line_up, line_new)) trimmed trims)
+            (keeps_trimmed (slow.held ++ e ∷ []) (line slow) higher entered (keeps_entered slow.held (line slow) s.history stands.history e taken_above entered enters) (omega (arith, line_up, line_new)) trimmed trims)
 
         StandsFor-taken : StandsFor (with_event slow e) taken
         StandsFor-taken = record {
@@ -182,9 +167,7 @@ module _ (slow : SlowSite) (s : SiteValue) (stands : StandsFor slow s) (e : Even
           made = stands.made ∙ ap length (sym own_stays);
           held = omega (arith, stands.held, length-append slow.held (e ∷ []));
           outbox_is = stands.outbox_is ∙ sym outbox_stays;
-          line_is = after_it.line_is;
-          entries = after_it.entries;
-          document = document_of (slow.held ++ e ∷ []) (line (with_event slow e)) trimmed after_it;
+          history = after_it;
         }
 
 sized_taken : (p : PeersValue) (site clock : ℕ) → IsPeers p → IsPeers (with_taken p site clock)
@@ -207,7 +190,7 @@ pub record Taken (s : SiteValue) (e : Event) (entered : History) (p : PeersValue
   pub peers : p ≡ with_taken s.peers e.stamp.site e.stamp.clock
   pub top_is : top ≡ max s.clock e.stamp.clock
   pub higher_is : higher ≡ line_of p top
-  pub enters : Entered s.history e entered
+  pub enters : Enters s.history e entered
 
 module _ (s : SiteValue) (e : Event) (entered : History) (p : PeersValue) (top higher : ℕ) (t : Taken s e entered p top higher) where
   higher_now : higher ≡ line_of (with_taken s.peers e.stamp.site e.stamp.clock) top
