@@ -12,7 +12,7 @@ use Rattle.gd_repair.specs.Repair.{cost, outcome}
 use Rattle.gd_history.specs.Entries.{events_of}
 use Rattle.gd_history.specs.Orders.{later_than, HasNone}
 use Rattle.gd_model.specs.Arrivals.{drawn, are_independent, is_covered}
-use Rattle.gd_reference.specs.Judging.{edit, edit_by, edited, event_of, with_own, judged, judged_over, target, greatest_stamp_clock, most_own_events}
+use Rattle.gd_reference.specs.Judging.{edit, edit_by, edited, event_of, with_event, with_own, judged, judged_over, target, greatest_stamp_clock, most_own_events}
 use Rattle.gd_lines.specs.InRange.{IsEdit}
 use Rattle.gd_reference.specs.PerSite.{least_of_others}
 use Rattle.gd_reference.specs.SlowSite.{SlowSite, made_by, own, clock, line, outbox, least_acked}
@@ -81,7 +81,7 @@ module _ (slow : SlowSite) (s : SiteValue) (stands : StandsFor slow s) (wanted :
   next = IsOwnNext-from_edit slow wanted e ok
 
   abbrev after_it : SlowSite
-  after_it = with_own slow (Ok e)
+  after_it = with_event slow e
 
   line_below : line slow ≤ clock slow
   line_below = least_of_others-top slow.sure slow.me (clock slow) slow.sites
@@ -202,12 +202,12 @@ module _ (s : SiteValue) (e : Event) (entered : History) (top higher : ℕ) (a :
     abbrev pub accept_site : SiteValue
     accept_site = record s { clock = top; made = s.made + 1; held = s.held + 1; history = trimmed; outbox = box }
 
-    pub accept_stands : (slow : SlowSite) → StandsFor slow s → StandsFor (with_own slow (Ok e)) accept_site
+    pub accept_stands : (slow : SlowSite) → StandsFor slow s → StandsFor (with_event slow e) accept_site
     accept_stands slow stands =
         accepted_stands slow s stands a.wanted a.ranged e a.becomes top a.top_is higher a.higher_is entered a.enters trimmed trims box b.pushed b.pushes b.before b.acked b.before_is b.acked_is b.box_is
 
     pub accept_is_site : HasSlowSite s → HasSlowSite accept_site
-    accept_is_site i = record { slow = with_own i.slow (Ok e); stands = accept_stands i.slow i.stands; peers = i.peers; notes = i.notes }
+    accept_is_site i = record { slow = with_event i.slow e; stands = accept_stands i.slow i.stands; peers = i.peers; notes = i.notes }
 
 pub accept_cost : (s : SiteValue) → HasSlowSite s → (wanted : Edit) → IsEdit wanted → (e : Event) → decided s wanted ≡ Ok e → cost (outcome are_independent is_covered (drawn e) (later_than e.stamp (events_of s.history.entries))) ≡ 1
 accept_cost s i wanted ranged e becomes = own_cost i.slow s i.stands wanted ranged e becomes

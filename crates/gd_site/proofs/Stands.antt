@@ -15,6 +15,7 @@ use Rattle.gd_history.specs.Orders.{later_than}
 use Rattle.gd_model.specs.declared.before.Before.{Before}
 use Rattle.gd_model.specs.Arrivals.{drawn, all_drawn, outcome_of, are_independent, is_covered}
 use Rattle.gd_model.specs.Board.{board}
+use Rattle.gd_reference.specs.Backs.{Back}
 use Rattle.gd_reference.specs.PerSite.{least_of_others}
 use Rattle.gd_reference.specs.SlowSite.{SlowSite, made_by, is_by, own, clock, line, kept, least_acked, status}
 use Rattle.gd_drawing.specs.Rules.{drawing_rules}
@@ -27,6 +28,7 @@ use Rattle.gd_stable.specs.Peers as peers
 use Rattle.gd_history.specs.Holding.{Holds}
 use Rattle.gd_history.proofs.Holding.{seen-events, seen-every, seen-later, seen-document}
 use Rattle.gd_protocol.proofs.Steps.{every_below}
+use Rattle.gd_protocol.proofs.WellSites.{well_backs}
 use Rattle.gd_base.proofs.Lists.{Every-weaker}
 use Rattle.gd_site.specs.InRange.{AreObjects}
 use Rattle.gd_site.specs.Sites.{SiteValue, IsOtherOf, StandsFor}
@@ -81,6 +83,26 @@ module _ (slow : SlowSite) (s : SiteValue) (stands : StandsFor slow s) where
   other_in t h =
       let bounds = is_site-bounds slow.sites t h.0 in
       record { from = bounds.0; to = omega (arith, bounds.1, stands.sites); other = λ mine. h.1 (mine ∙ stands.me) }
+
+-- a site stands for a reference site whatever that one's backs are
+pub stands_any_backs : (slow : SlowSite) (s : SiteValue) (backs : List Back) → StandsFor slow s → StandsFor (record slow { backs = backs }) s
+stands_any_backs slow s backs stands = record {
+  well = well_backs slow backs stands.well;
+  me = stands.me;
+  sites = stands.sites;
+  session = stands.session;
+  counts = stands.counts;
+  sures = stands.sures;
+  acks = stands.acks;
+  notes = stands.notes;
+  clock_is = stands.clock_is;
+  made = stands.made;
+  held = stands.held;
+  outbox_is = stands.outbox_is;
+  line_is = stands.line_is;
+  entries = stands.entries;
+  document = stands.document;
+}
 
 pub line_agrees : (slow : SlowSite) (p : PeersValue) (top : ℕ) → p.me ≡ slow.me → p.sites ≡ slow.sites → top ≡ clock slow → ((t : ℕ) → IsOtherOf slow t → of_site p.sures t ≡ slow.sure t) → line_of p top ≡ line slow
 line_agrees slow p top me sites same sures =

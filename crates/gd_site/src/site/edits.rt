@@ -3,7 +3,7 @@ ghost use Rattle.std.specs.Prelude.{◌≡◌, ◌+◌, ◌≤◌, Ok, OnOk, OnE
 ghost use Rattle.gd_base.specs.declared.edit.Edit as wish;
 ghost use Rattle.gd_events.specs.Sound.{IsSound};
 ghost use Rattle.gd_lines.specs.InRange.{IsEdit};
-ghost use Rattle.gd_reference.specs.Judging.{edited, with_own};
+ghost use Rattle.gd_reference.specs.Judging.{edited, with_event};
 ghost use Rattle.gd_reference.specs.Judging as judging;
 ghost use Rattle.gd_reference.specs.SlowSite.{SlowSite};
 
@@ -80,7 +80,7 @@ impl Site {
             × (decided self.old wanted ≡ Ok event.now) }
         requires room { 1 ≤ self.old.outbox.spare }
         ensures stands { (slow : SlowSite) → StandsFor slow self.old
-            → OnOk result (StandsFor (with_own slow (Ok event.now)) self.new) }
+            → OnOk result (StandsFor (with_event slow event.now) self.new) }
         ensures err_stands { (slow : SlowSite) → StandsFor slow self.old
             → OnErr result (StandsFor slow self.new) }
         ensures steps { OnOk result (steps.new ≡ steps.old + 1) }
