@@ -99,9 +99,7 @@ stands_any_backs slow s backs stands = record {
   made = stands.made;
   held = stands.held;
   outbox_is = stands.outbox_is;
-  line_is = stands.line_is;
-  entries = stands.entries;
-  document = stands.document;
+  history = stands.history;
 }
 
 pub line_agrees : (slow : SlowSite) (p : PeersValue) (top : ℕ) → p.me ≡ slow.me → p.sites ≡ slow.sites → top ≡ clock slow → ((t : ℕ) → IsOtherOf slow t → of_site p.sures t ≡ slow.sure t) → line_of p top ≡ line slow
