@@ -1,0 +1,45 @@
+-- What takes an edit back, as it is kept.
+use Rattle.std.specs.Prelude.{List, [], ◌∷◌, Option, None, Some, Result, Ok, Err, if◌then◌else◌}
+use Rattle.gd_base.specs.Stamps.{Stamp}
+use Rattle.gd_base.specs.declared.edit.Edit.{Edit}
+use Rattle.gd_base.specs.declared.edit.Edit.TheVariants as wish
+use Rattle.gd_base.specs.declared.item.Item.{Item}
+use Rattle.gd_base.specs.declared.item.ShapeItem.{ShapeItem}
+use Rattle.gd_reference.specs.Backs.{Never, Takes}
+use Rattle.gd_reference.specs.Backs as model
+use Rattle.gd_reference.specs.TakeBack.{is_far}
+use Rattle.gd_takeback.specs.declared.back.Back.{Back}
+use Rattle.gd_takeback.specs.declared.back.Back.TheVariants as back
+use Rattle.gd_takeback.specs.declared.take_back.BackFault.{BackFault}
+use Rattle.gd_takeback.specs.declared.take_back.BackFault.TheVariants as fault
+
+-- the back that it stands for
+abbrev pub as_back : Back → model.Back
+as_back back.Never = Never
+as_back (back.Delete id) = Takes (wish.Delete id)
+as_back (back.Ungroup id) = Takes (wish.Ungroup id)
+as_back (back.Move id x y) = Takes (wish.Move id x y)
+as_back (back.Resize id w h) = Takes (wish.Resize id w h)
+as_back (back.Restyle id style) = Takes (wish.Restyle id style)
+as_back (back.Retext id label) = Takes (wish.Retext id label)
+
+-- what an item has of a shape, where there is one and it is a shape's
+abbrev pub of_shape : Option Item → Option ShapeItem
+of_shape None = None
+of_shape (Some item) = item.shape
+
+-- the back of an edit that became the event at that stamp, by what was found before it
+abbrev pub with_new : Stamp → Edit → model.Back → model.Back
+with_new stamp (wish.Create kind x y w h label) found = Takes (wish.Delete stamp)
+with_new stamp (wish.Group ids) found = Takes (wish.Ungroup stamp)
+with_new stamp wanted found = found
+
+-- the edit that a back asks for, or why there is none
+abbrev pub edit_of : model.Back → Result Edit BackFault
+edit_of Never = Err fault.Never
+edit_of (Takes wanted) = if is_far wanted then Err fault.Far else Ok wanted
+
+-- the same of the newest back
+abbrev pub next_edit : List model.Back → Result Edit BackFault
+next_edit [] = Err fault.Nothing
+next_edit (back ∷ backs) = edit_of back
