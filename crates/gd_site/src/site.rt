@@ -1,6 +1,7 @@
 ghost use Rattle.std.specs.Prelude.{◌≡◌, ◌≤◌, IfOk, IsTrue};
+ghost use Rattle.std.specs.FinMap as map_of;
 ghost use Rattle.gd_base.specs.Sites.{is_site};
-ghost use Rattle.gd_base.specs.declared.ranges.TheConstants.{SITES};
+ghost use Rattle.gd_base.specs.declared.ranges.TheConstants.{SESSION_EVENTS, SITES};
 ghost use Rattle.gd_canvas.specs.Slots.{board_of};
 ghost use Rattle.gd_model.specs.Drawing.{picture};
 ghost use Rattle.gd_model.specs.Shown.{items};
@@ -148,10 +149,11 @@ impl Site {
     }
 
     /// The drawing of the held events, and those of them that lie above the line. The ids of the objects have clocks of at
-    /// most the own one, and their fields are in their ranges.
+    /// most the own one, and their fields are in their ranges. There are no more of them than a session has events.
     pub fn history(&self) -> &History<Canvas>
         ensures history { result.now ≡ self.now.history }
         ensures objects { AreObjects self.now.clock (board_of self.now.history.document) }
+        ensures few { map_of.len (board_of self.now.history.document) ≤ SESSION_EVENTS }
     {
         &self.history
     }
