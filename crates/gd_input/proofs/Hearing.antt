@@ -104,7 +104,7 @@ module _ {A : Type 0} {read : List ℕ → A} {total : ℕ} {input : Option (Lis
       → Hears read total input (so_far ++ Read meaning ∷ []) most' p' b
   hears_one_more {meaning = meaning} {p' = p'} {b = b} most' turn r =
       let line = r.cuts.line in
-      let bytes : h.used ++ p ++ r.takes.taken ≡ (h.used ++ (line ++ lf ∷ [])) ++ p'
+      let bytes : h.used ++ (p ++ r.takes.taken) ≡ (h.used ++ (line ++ lf ∷ [])) ++ p'
       = ap (λ z. h.used ++ z) (sym r.takes.are ∙ r.cuts.split) ∙ sym (regroup h.used line p') in
       record {
         used = h.used ++ (line ++ lf ∷ []);

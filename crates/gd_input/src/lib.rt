@@ -4,6 +4,8 @@
 mod next;
 mod reader;
 mod scan;
+#[cfg(test)]
+mod tests;
 mod typed;
 
 pub use gd_base::LineFault;
