@@ -1,9 +1,9 @@
 -- The first line of an input, what is heard of it, and what stands in whole lines.
-use Rattle.std.proofs.Common.{◌≡◌, ◌≢◌, ℕ, zero, suc, ◌+◌, ◌<◌, ◌≤◌, List, [], ◌∷◌, ◌++◌, All, length, cond, refl, sym, ◌∙◌, ap, arith}
+use Rattle.std.proofs.Common.{◌≡◌, ◌≢◌, ℕ, zero, suc, ◌<◌, ◌≤◌, List, [], ◌∷◌, ◌++◌, length, cond, refl, ◌∙◌, ap, arith}
 use Rattle.std.proofs.lemmas.Bool.{ne_eqb, lt-ltb, le-ltb}
 use Rattle.std.proofs.lemmas.List.Elements.{All-head, All-tail}
 use Rattle.gd_input.specs.Cutting.{HasNoLf}
-use Rattle.gd_reference.specs.InputLines.{lf, Heard, Read, Over, onto, lines_of, longest_input_line, heard, before_lf, whole_lines}
+use Rattle.gd_reference.specs.InputLines.{lf, Read, Over, onto, lines_of, longest_input_line, heard, before_lf, whole_lines}
 
 abbrev IsNoLf : ℕ → Type 0
 IsNoLf byte = byte ≢ lf

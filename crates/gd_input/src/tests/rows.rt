@@ -55,37 +55,20 @@ fn input_of(alloc: Global, count: usize, text: &str) -> Result<Vec<u8>, AllocErr
 
 #[test]
 fn lines_come_out_of_any_pieces(rt: HostRuntime) -> Result<(), test::Fail> {
-    // So many bytes `x` and a text behind them, in pieces of at most so many bytes, of which the read of that number fails:
-    // what the reader comes to, and how many reads there are.
+    let three = [Line(2), Line(0), Line(2), Finished];
+    let failed = [Line(2), Failed, Line(2), Finished];
+    // The input is so many bytes `x` and a text behind them, in pieces of at most so many bytes. The read of that number fails.
+    // This is what the reader comes to, with so many reads.
     let rows = [
         (0, "", 8, 0, [Finished].as_slice(), 1),
         (0, "\n", 8, 0, &[Line(0), Finished], 2),
-        (
-            0,
-            "ab\n\nc\r\n",
-            8,
-            0,
-            &[Line(2), Line(0), Line(2), Finished],
-            2,
-        ),
-        (
-            0,
-            "ab\n\nc\r\n",
-            1,
-            0,
-            &[Line(2), Line(0), Line(2), Finished],
-            8,
-        ),
+        (0, "ab\n\nc\r\n", 8, 0, &three, 2),
+        (0, "ab\n\nc\r\n", 1, 0, &three, 8),
         (0, "ab\ncd", 8, 0, &[Line(2), Last(2)], 2),
         (0, "ab\ncd", 1, 0, &[Line(2), Last(2)], 6),
-        (
-            0,
-            "ab\ncd\n",
-            4,
-            2,
-            &[Line(2), Failed, Line(2), Finished],
-            4,
-        ),
+        (0, "ab", 8, 0, &[Last(2), Finished], 3),
+        (0, "ab", 8, 2, &[Failed, Last(2)], 3),
+        (0, "ab\ncd\n", 4, 2, &failed, 4),
         (65_536, "\n", 1_000_000, 0, &[Line(65_536), Finished], 2),
         (65_536, "", 4_096, 0, &[Last(65_536)], 17),
         (65_536, "\nab", 1, 0, &[Line(65_536), Last(2)], 65_540),
