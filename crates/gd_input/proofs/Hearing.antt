@@ -11,6 +11,10 @@ use Rattle.gd_outside.proofs.ToldLemmas.{hands_out_then}
 use Rattle.gd_outside.specs.Told.{told, HandsOut}
 use Rattle.gd_reference.specs.InputLines.{lf, Heard, Read, Over, lines_of, heard, whole_lines}
 
+-- at the start that is the whole input
+pub at_the_start_all_is_to_be_read : {pending : List ℕ} (input : Option (List ℕ)) → pending ≡ [] → pending ++ told input ≡ told input
+at_the_start_all_is_to_be_read input e = ap (λ z. z ++ told input) e
+
 -- bytes that are taken stay among those that are still to be read
 takes_from_the_rest : {p bytes : List ℕ} {a b : Option (List ℕ)} → Takes p a bytes b → IsSome b → p ++ told a ≡ bytes ++ told b
 takes_from_the_rest {p = p} {b = b} h t =
@@ -88,7 +92,7 @@ module _ {A : Type 0} (read : List ℕ → A) (total : ℕ) (input : Option (Lis
   pub hears_nothing_yet : {pending : List ℕ} → pending ≡ [] → Hears read total input [] total pending input
   hears_nothing_yet e = record {
     used = [];
-    handed = record { was = λ t. t; now = λ t. ap (λ z. z ++ told input) (sym e) };
+    handed = record { was = λ t. t; now = λ t. sym (at_the_start_all_is_to_be_read input e) };
     lines = λ rest. refl;
     whole = λ rest. refl;
   }

@@ -19,7 +19,8 @@ IsSplit false bytes line rest = bytes ≡ line ++ lf ∷ rest
 IsSplit true bytes line rest = (bytes ≡ line) × (0 < length line) × (rest ≡ [])
 
 -- a line that isn't too long was cut off the front, and read
-pub record CutsLine {A : Type 0} (read : List ℕ → A) (bytes : List ℕ) (meaning : A) (is_last : Bool) (rest : List ℕ) : Type 0 where
+pub record CutsLine {A : Type 0} (read : List ℕ → A) (bytes : List ℕ)
+    (meaning : A) (is_last : Bool) (rest : List ℕ) : Type 0 where
   pub line : List ℕ
   pub split : IsSplit is_last bytes line rest
   pub one : HasNoLf line

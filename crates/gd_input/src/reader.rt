@@ -2,7 +2,7 @@
 
 ghost use Rattle.std.specs.Prelude.{◌≡◌, ◌≤◌, ◌+◌, ◌-◌, [], length, take, drop, false, Ok, IfOk, IsErr, OnErr, MatchOption};
 ghost use Rattle.gd_input.specs.Cutting.{HasNoLf, IsLineEnd, Cuts, is_end};
-ghost use Rattle.gd_input.specs.Reading.{IsEmpty, Reads, Takes};
+ghost use Rattle.gd_input.specs.Reading.{IsAtEnd, Reads, Takes};
 ghost use Rattle.gd_input.specs.declared.reader.TheConstants.{LONGEST};
 ghost use Rattle.gd_outside.specs.Called.{SourceCalled};
 
@@ -54,7 +54,7 @@ impl LineReader {
 
     /// Reads the next line, and asks the source for more bytes as long as no whole line is pending.
     ///
-    /// Fails where a read failed; what was taken before it stays pending. A line that is too long stays pending too, and comes
+    /// Fails where a read failed; what was taken before it stays pending. A line that is too long stays pending too, and is found
     /// again. Behind the last line, and at the end, nothing is pending.
     pub fn next<T: TypedLine, S: Source>(&mut self, input: &mut S) -> Result<Next<T>, Failed>
         ensures reads { Reads T.read self.old (S.seen input.old).left
@@ -133,13 +133,13 @@ impl LineReader {
         self.looked = 0;
     }
 
-    /// Asks the source for more bytes, and says how many came: none at its end alone.
+    /// Asks the source for more bytes, and says how many came. None is the end.
     fn fill<S: Source>(&mut self, input: &mut S) -> Result<usize, Failed>
         requires { length self.old ≤ LONGEST }
         ensures takes { Takes self.old (S.seen input.old).left
             self.new (S.seen input.new).left }
         ensures count { IfOk result (λ count. length self.new ≡ length self.old + count) }
-        ensures end { result ≡ Ok 0 → IsEmpty (S.seen input.new).left }
+        ensures end { result ≡ Ok 0 → IsAtEnd (S.seen input.new).left }
         ensures failed { OnErr result (self.new ≡ self.old) }
         ensures called { SourceCalled (S.seen input.old) (S.seen input.new) (IsErr result) }
     {
