@@ -90,6 +90,13 @@ impl PackedOp {
     pub fn new(alloc: Global, op: Op) -> Result<PackedOp, AllocError>
         ensures { IfOk result (λ packed. unpacked packed ≡ op) }
     {
+        PackedOp::of(alloc, &op)
+    }
+
+    /// Packs a copy of the operation, of which no more is copied than is packed. `AllocError` where memory ran out.
+    pub fn of(alloc: Global, op: &Op) -> Result<PackedOp, AllocError>
+        ensures { IfOk result (λ packed. unpacked packed ≡ op.now) }
+    {
         Ok(match op {
             Op::Create {
                 kind,
@@ -99,31 +106,43 @@ impl PackedOp {
                 h,
                 label,
             } => {
+                let label = label.copy();
                 let new = NewShape {
-                    kind,
-                    x,
-                    y,
-                    w,
-                    h,
+                    kind: *kind,
+                    x: *x,
+                    y: *y,
+                    w: *w,
+                    h: *h,
                     label,
                 };
                 PackedOp::Create(Box::new(alloc, new)?)
             }
-            Op::Delete { id } => PackedOp::Delete { id },
+            Op::Delete { id } => PackedOp::Delete { id: *id },
             Op::Retext { id, label } => {
-                let label = Box::new(alloc, label)?;
-                PackedOp::Retext { id, label }
+                let label = Box::new(alloc, label.copy())?;
+                PackedOp::Retext { id: *id, label }
             }
             Op::Group { members } => {
-                let members = MemberList::new(alloc, &members)?;
+                let members = MemberList::new(alloc, members)?;
                 PackedOp::Group { members }
             }
-            Op::Move { id, x, y } => PackedOp::Small(SmallOp::Move { id, x, y }),
-            Op::Resize { id, w, h } => PackedOp::Small(SmallOp::Resize { id, w, h }),
-            Op::Restyle { id, style } => PackedOp::Small(SmallOp::Restyle { id, style }),
-            Op::Ungroup { id } => PackedOp::Small(SmallOp::Ungroup { id }),
-            Op::Raise { id } => PackedOp::Small(SmallOp::Raise { id }),
-            Op::Lower { id } => PackedOp::Small(SmallOp::Lower { id }),
+            Op::Move { id, x, y } => PackedOp::Small(SmallOp::Move {
+                id: *id,
+                x: *x,
+                y: *y,
+            }),
+            Op::Resize { id, w, h } => PackedOp::Small(SmallOp::Resize {
+                id: *id,
+                w: *w,
+                h: *h,
+            }),
+            Op::Restyle { id, style } => PackedOp::Small(SmallOp::Restyle {
+                id: *id,
+                style: *style,
+            }),
+            Op::Ungroup { id } => PackedOp::Small(SmallOp::Ungroup { id: *id }),
+            Op::Raise { id } => PackedOp::Small(SmallOp::Raise { id: *id }),
+            Op::Lower { id } => PackedOp::Small(SmallOp::Lower { id: *id }),
         })
     }
 

@@ -8,12 +8,11 @@ ghost use Rattle.gd_reference.specs.SlowSite.{SlowSite};
 ghost use Rattle.gd_stable.specs.Peers.{IsOther, of_site};
 
 use crate::answers::Taken;
+use crate::packing::kept_of;
 use crate::site::Site;
 use gd_base::{Offer, Steps};
-use gd_canvas::Canvas;
 use gd_events::Event;
 use gd_history::Arrival;
-use gd_repair::Document;
 use std::alloc::AllocError;
 use std::sync::ledger::Ledger;
 
@@ -76,8 +75,8 @@ impl Site {
         ensures err_steps { OnErr result (steps.new ≡ steps.old) }
         ensures member { IsSameMember self.old self.new }
     {
-        let (stamp, op) = event.into_parts();
-        let kept = Canvas::keep(self.alloc, op)?;
+        let kept = kept_of(self.alloc, event.op())?;
+        let stamp = event.stamp();
         let arrival = self.history.arrive(stamp, kept, steps)?;
         let clock = stamp.clock();
         self.peers.took(stamp.site(), clock);

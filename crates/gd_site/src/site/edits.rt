@@ -8,13 +8,12 @@ ghost use Rattle.gd_reference.specs.Judging as judging;
 ghost use Rattle.gd_reference.specs.SlowSite.{SlowSite};
 
 use crate::answers::EditFault;
+use crate::packing::{kept_of, listed_of};
 use crate::site::Site;
 use crate::site::frames::drop_acked;
 use gd_base::{CLOCK_LIMIT, EVENTS_OF_A_SITE, Edit, EditRefusal, Stamp, Steps};
-use gd_canvas::Canvas;
-use gd_events::{Event, ListedEvent, Op};
+use gd_events::{Event, Op};
 use gd_judging::judge;
-use gd_repair::Document;
 use std::alloc::AllocError;
 use std::sync::ledger::Ledger;
 
@@ -86,8 +85,8 @@ impl Site {
         ensures steps { OnOk result (steps.new ≡ steps.old + 1) }
         ensures err_steps { OnErr result (steps.new ≡ steps.old) }
     {
-        let listed = ListedEvent::new(self.alloc, event.copy())?;
-        let kept = Canvas::keep(self.alloc, event.op().copy())?;
+        let listed = listed_of(self.alloc, event)?;
+        let kept = kept_of(self.alloc, event.op())?;
         let stamp = event.stamp();
         let _arrival = self.history.arrive(stamp, kept, steps)?;
         self.outbox.push_listed(listed);
