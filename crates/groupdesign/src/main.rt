@@ -11,16 +11,14 @@ ghost use Rattle.groupdesign.specs.Runs.{IsRunTold, asked_of, slow_end};
 
 mod laws;
 mod running;
-mod standard;
 #[cfg(test)]
 mod tests;
 mod words;
 
 use gd_base::Steps;
 use gd_outside::{Sink, Source, Status, WordList};
+use gd_real::{StandardInput, StandardOutput};
 use running::run;
-use standard::input::StandardInput;
-use standard::output::StandardOutput;
 use std::alloc::Global;
 use std::io;
 use std::marker::Brand;

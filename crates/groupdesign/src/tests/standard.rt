@@ -1,9 +1,8 @@
 //! Standard input and output over readers and writers of these tests' own, through the whole run.
 
 use super::{TIE, TIE_TEXT, ran, words_of};
-use crate::standard::input::StandardInput;
-use crate::standard::output::StandardOutput;
 use gd_outside::{Status, SureSink, SureSource};
+use gd_real::{StandardInput, StandardOutput};
 use std::alloc::{AllocError, Global};
 use std::io::{Error, ErrorKind, Read, Result as IoResult, Write};
 use std::test::Fail;
