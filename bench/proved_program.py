@@ -7,12 +7,12 @@ from pathlib import Path
 
 HERE = Path(__file__).resolve().parent
 ROOT = HERE.parent
-# The ledger of `measure` is that of its blank.
+# The ledger of what `main` calls is that of its blank.
 INVARIANTS = """\
 use Rattle.{program}.proofs.main.Given as goal
 
-abbrev pub ghosts-measure : goal.ghosts-measure
-ghosts-measure g a = record {{ name = a.blank.name; parts = a.blank.parts }}
+abbrev pub ghosts-{called} : goal.ghosts-{called}
+ghosts-{called} g a = record {{ name = a.blank.name; parts = a.blank.parts }}
 """
 
 
@@ -28,8 +28,9 @@ def lines_below(names):
     return {name: lines[name] for name in sorted(wanted)}
 
 
-def build(room, program, uses, words):
-    """The program over a copy of the crates, with what their checks have kept. `words` are for a first, short run."""
+def build(room, program, uses, words, called="measure"):
+    """The program over a copy of the crates, with what their checks have kept. `words` are for a first, short run, and
+    `called` is the function that `main` hands a blank."""
     lines = lines_below(uses)
     (room / "crates.txt").write_text("\n".join([*lines.values(), f"{program}: {' '.join(uses)}"]) + "\n")
     shutil.copy(ROOT / "HANDLES", room)
@@ -39,7 +40,7 @@ def build(room, program, uses, words):
     (crate / "src").mkdir(parents=True)
     (crate / "proofs/main").mkdir(parents=True)
     shutil.copy(HERE / f"{program}.rt.in", crate / "src/main.rt")
-    (crate / "proofs/main/Invariants.antt").write_text(INVARIANTS.format(program=program))
+    (crate / "proofs/main/Invariants.antt").write_text(INVARIANTS.format(program=program, called=called))
     print("proving and building the program, which can take some minutes ..", file=sys.stderr, flush=True)
     done = subprocess.run(["rt", "run", "--", *words], cwd=crate, capture_output=True, text=True)
     if done.returncode != 0:

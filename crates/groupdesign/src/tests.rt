@@ -16,6 +16,7 @@ mod ids;
 mod labels;
 mod logs;
 mod pairs;
+mod refusing;
 mod rows;
 mod standard;
 mod texts;
