@@ -1,15 +1,11 @@
 -- Bytes that are taken from a source, one piece after another.
-use Rattle.std.proofs.Common.{List, ℕ, ◌++◌, [], refl, ap, sym, ◌∙◌, append_assoc}
+use Rattle.std.proofs.Common.{List, ℕ, ◌++◌, ap, ◌∙◌, append_assoc}
 use Rattle.std.proofs.lemmas.Bool.{false≢true}
-use Rattle.std.proofs.lemmas.List.{append-nil}
 use Rattle.std.specs.Prelude.{IsErr, Option, Result, Ok, Err}
 use Rattle.gd_input.specs.declared.next.Next.{Next}
 use Rattle.gd_input.specs.Cutting.{HasNoLf}
 use Rattle.gd_input.specs.Reading.{Reads, Takes}
 use Rattle.gd_outside.proofs.ToldLemmas.{hands_out_then}
-
-pub takes_nothing : (pending : List ℕ) (left : Option (List ℕ)) → Takes pending left pending left
-takes_nothing pending left = record { taken = []; handed = record { was = λ t. t; now = λ t. refl }; are = sym (append-nil pending) }
 
 pub takes_then : {p q r : List ℕ} {a b c : Option (List ℕ)} → Takes p a q b → Takes q b r c → Takes p a r c
 takes_then {p = p} h k = record {

@@ -1,4 +1,4 @@
-ghost use Rattle.std.specs.Prelude.{◌≤◌, IsErr};
+ghost use Rattle.std.specs.Prelude.{◌≡◌, ◌≤◌, IsErr};
 ghost use Rattle.gd_outside.specs.Causes.{Rose};
 ghost use Rattle.gd_real.specs.Untold.{seen_file};
 
@@ -17,7 +17,9 @@ pub struct FileJournal<R: Files<File = File> + Drop> {
 
 impl<R: Files<File = File> + Drop> FileJournal<R> {
     /// No file so far.
-    pub fn new(rt: R) -> Self {
+    pub fn new(rt: R) -> Self
+        ensures { result.faults ≡ 0 }
+    {
         FileJournal {
             rt,
             file: None,

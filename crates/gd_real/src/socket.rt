@@ -37,7 +37,9 @@ pub struct SocketLink<R: Net + Drop> {
 
 impl<R: Net + Drop> SocketLink<R> {
     /// No socket so far.
-    pub fn new(rt: R) -> Self {
+    pub fn new(rt: R) -> Self
+        ensures { result.faults ≡ 0 }
+    {
         SocketLink {
             rt,
             bound: None,
