@@ -1,7 +1,6 @@
 -- Backs that are kept in a ring.
-use Rattle.std.proofs.Common.{◌≡◌, ◌≢◌, ℕ, zero, suc, ◌+◌, ◌-◌, ◌<◌, ◌≤◌, ◌⊎◌, inl, inr, List, [], ◌∷◌, length, take, drop, slice_get, slice_index_or, slice_set, min, Some, None, refl, sym, ap, ap₂, ◌∙◌, arith}
+use Rattle.std.proofs.Common.{◌≡◌, ◌≢◌, ℕ, zero, suc, ◌+◌, ◌-◌, ◌<◌, ◌≤◌, ◌⊎◌, inl, inr, List, [], ◌∷◌, length, take, drop, slice_get, slice_index_or, slice_set, min, Some, refl, sym, ap, ap₂, ◌∙◌, arith}
 use Rattle.std.proofs.lemmas.List.{get_or-set_same, get_or-set_other, get_or_default}
-use Rattle.gd_reference.specs.Backs as model
 use Rattle.gd_takeback.specs.Backs.{as_back}
 use Rattle.gd_takeback.specs.Rings.{place_before, backwards}
 use Rattle.gd_takeback.specs.declared.back.Back.{Back}

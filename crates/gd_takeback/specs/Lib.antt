@@ -1,2 +1,4 @@
 pub mod Backs
 pub mod Rings
+pub mod Answers
+pub mod Standing

@@ -21,31 +21,13 @@ use gd_view::item;
 pub enum Back {
     /// Nothing ever does.
     Never,
-    Delete {
-        id: Stamp,
-    },
-    Ungroup {
-        id: Stamp,
-    },
+    Delete { id: Stamp },
+    Ungroup { id: Stamp },
     /// To where the object was shown, which may lie out of the range of places.
-    Move {
-        id: Stamp,
-        x: i64,
-        y: i64,
-    },
-    Resize {
-        id: Stamp,
-        w: i32,
-        h: i32,
-    },
-    Restyle {
-        id: Stamp,
-        style: Style,
-    },
-    Retext {
-        id: Stamp,
-        label: Label,
-    },
+    Move { id: Stamp, x: i64, y: i64 },
+    Resize { id: Stamp, w: i32, h: i32 },
+    Restyle { id: Stamp, style: Style },
+    Retext { id: Stamp, label: Label },
 }
 
 impl Back {
@@ -101,7 +83,7 @@ fn is_in_range(part: i64) -> bool
 /// What was found before the edit that takes it back: the place where a moved object is shown, or the look of a changed
 /// shape. `Never` where the edit is never taken back, and where the stamp of its event takes it back.
 pub(crate) fn found(canvas: &Canvas, edit: &Edit) -> Back
-    requires few { map_of.len (board_of canvas.now) ≤ SESSION_EVENTS }
+    requires { map_of.len (board_of canvas.now) ≤ SESSION_EVENTS }
     ensures { (new : StampValue) → with_new new edit.now (as_back result)
         ≡ back_over (listed (board_of canvas.now)) new edit.now }
 {
@@ -121,7 +103,7 @@ pub(crate) fn found(canvas: &Canvas, edit: &Edit) -> Back
 
 /// The back of an edit that became the event at that stamp, by what was found before it.
 pub(crate) fn with_new(edit: &Edit, found: Back, stamp: Stamp) -> Back
-    ensures back { as_back result ≡ with_new stamp edit.now (as_back found) }
+    ensures { as_back result ≡ with_new stamp edit.now (as_back found) }
 {
     match edit {
         Edit::Create { .. } => Back::Delete { id: stamp },
@@ -132,7 +114,7 @@ pub(crate) fn with_new(edit: &Edit, found: Back, stamp: Stamp) -> Back
 
 /// The shape of that id, where it is shown and is one.
 fn shape(canvas: &Canvas, id: Stamp) -> Option<ShapeItem>
-    requires few { map_of.len (board_of canvas.now) ≤ SESSION_EVENTS }
+    requires { map_of.len (board_of canvas.now) ≤ SESSION_EVENTS }
     ensures { result ≡ of_shape (item_of (listed (board_of canvas.now)) id) }
 {
     item(canvas, id)?.shape

@@ -6,4 +6,4 @@ mod backs;
 mod take_back;
 
 pub use back::Back;
-pub use take_back::BackFault;
+pub use take_back::{BackFault, TakeBack};

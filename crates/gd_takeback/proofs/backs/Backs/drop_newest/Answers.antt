@@ -1,4 +1,4 @@
-use Rattle.std.proofs.Common.{◌≡◌, ℕ, ◌-◌, List, drop, refl, ap, ◌∙◌}
+use Rattle.std.proofs.Common.{ℕ, ◌-◌, List, drop, refl, ap, ◌∙◌}
 use Rattle.gd_reference.specs.Backs as model
 use Rattle.gd_takeback.specs.Rings.{backwards}
 use Rattle.gd_takeback.proofs.Rings.{no_backs, other_backs}
