@@ -121,6 +121,7 @@ impl TakeBack {
         self.backs.drop_newest();
         Ok(event)
     }
+
     /// The edit that takes the last one back, or why there is none.
     fn next(&self) -> Result<Edit, BackFault>
         ensures next { result ≡ next_edit self.now }
