@@ -19,9 +19,10 @@ use Rattle.gd_lines.specs.Replies.{reply_text}
 use Rattle.gd_logs.proofs.WriterLemmas.{logged-more}
 use Rattle.gd_model.specs.Arrivals.{cost_of, costs_from}
 use Rattle.gd_outside.specs.Seen.{Entry, Packet}
+use Rattle.gd_reference.specs.Dialogues.{answered, effects_of_heard, ends_at, left_after_heard, state_after, state_after_heard}
 use Rattle.gd_reference.specs.InputLines.{Read, Over}
 use Rattle.gd_reference.specs.Judging.{edit, edited, with_event, with_own}
-use Rattle.gd_reference.specs.NodeRun.{HeardLine, ReadLine, after_command, after_datagram, after_heard, answers, command_replies, end_of_poll, entries_after_heard, is_last, is_too_long, most_datagrams, of_command, of_datagram, of_heard, of_poll, of_received, polled, received, site_after}
+use Rattle.gd_reference.specs.NodeRun.{HeardLine, ReadLine, after_command, after_datagram, answers, command_replies, end_of_poll, is_too_long, most_datagrams, node_manner, of_command, of_datagram, of_poll, of_received, polled, received, site_after}
 use Rattle.gd_reference.specs.Offers.{after_offer, all_arrived, arrived, offer, refusal, take_frame, unless_refused}
 use Rattle.gd_reference.specs.Said.{says}
 use Rattle.gd_reference.specs.SiteEffects.{after_read, edit_reply, of_edit, of_event, of_events, of_frame, of_offer, of_own, of_read, of_taken_back, of_undo, tries, tries_behind, try_for, unless_refused_of}
@@ -219,26 +220,26 @@ grows-command slow entries (Ok command.Poll) = grows-poll slow entries
 grows-command slow entries (Ok c) = grows-says slow.held (map reply_text (command_replies slow c))
 grows-command slow entries (Err fault) = grows-says slow.held (_ ∷ [])
 
-grows-heard : (slow : SlowSite) (entries : List Entry) (l : HeardLine) → Grows slow.held (after_heard slow entries l).held (of_heard slow entries l)
+grows-heard : (slow : SlowSite) (entries : List Entry) (l : HeardLine) → Grows slow.held (state_after_heard node_manner slow entries l).held (effects_of_heard node_manner slow entries l)
 grows-heard slow entries (Read c) = grows-command slow entries c
 grows-heard slow entries Over = grows-says slow.held (_ ∷ [])
 
-last-same : (slow : SlowSite) (entries : List Entry) (l : HeardLine) → is_last l ≡ true → after_heard slow entries l ≡ slow
+last-same : (slow : SlowSite) (entries : List Entry) (l : HeardLine) → ends_at node_manner l ≡ true → state_after_heard node_manner slow entries l ≡ slow
 last-same slow entries (Read (Ok command.Quit)) e = refl
 last-same slow entries Over e = refl
 last-same slow entries l e = cc
 
 pub grows_answers : (slow : SlowSite) (entries : List Entry) (ls : List HeardLine) → Grows slow.held (site_after slow entries ls).held (answers slow entries ls)
-unfolding answers site_after
+unfolding answered state_after
 grows_answers slow entries [] = grows-not slow.held [] refl refl
 grows_answers slow entries (l ∷ ls) =
-    let next = after_heard slow entries l in
-    let last = site_after next (entries_after_heard slow entries l) ls in
-    let more = answers next (entries_after_heard slow entries l) ls in
+    let next = state_after_heard node_manner slow entries l in
+    let last = site_after next (left_after_heard node_manner slow entries l) ls in
+    let more = answers next (left_after_heard node_manner slow entries l) ls in
     let one = grows-heard slow entries l in
-    (elim (is_last l) as (λ b. is_last l ≡ b → Grows slow.held (cond b slow last).held (of_heard slow entries l ++ cond b [] more)) [
+    (elim (ends_at node_manner l) as (λ b. ends_at node_manner l ≡ b → Grows slow.held (cond b slow last).held (effects_of_heard node_manner slow entries l ++ cond b [] more)) [
       | true ↦ λ ends.
-          grows-then slow.held next.held slow.held (of_heard slow entries l) [] one
+          grows-then slow.held next.held slow.held (effects_of_heard node_manner slow entries l) [] one
           (subst (λ (s : SlowSite). Grows next.held s.held []) (last-same slow entries l ends) (grows-not next.held [] refl refl))
-      | false ↦ λ goes_on. grows-then slow.held next.held last.held (of_heard slow entries l) more one (grows_answers next (entries_after_heard slow entries l) ls)
+      | false ↦ λ goes_on. grows-then slow.held next.held last.held (effects_of_heard node_manner slow entries l) more one (grows_answers next (left_after_heard node_manner slow entries l) ls)
     ]) refl

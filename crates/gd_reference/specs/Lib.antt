@@ -1,5 +1,6 @@
 pub mod Said
 pub mod InputLines
+pub mod Dialogues
 pub mod DrawingText
 pub mod PerSite
 pub mod Backs

@@ -1,8 +1,6 @@
--- The reference run: what a command does to the outside, and how it ends, by plain definitions that keep no drawing.
-use Rattle.std.specs.Prelude.{ℕ, Bool, true, false, List, [], ◌∷◌, ◌++◌, map, Result, Ok, Err, Option, Some, None}
+-- What the commands that read a log do to the outside, and how they end, by plain definitions that keep no drawing.
+use Rattle.std.specs.Prelude.{ℕ, Bool, true, false, List, [], ◌∷◌, ◌++◌, map, Result, Ok, Err}
 use Rattle.gd_events.specs.Events.{Event}
-use Rattle.gd_options.specs.declared.command.Command.{Command}
-use Rattle.gd_options.specs.declared.command.Command.TheVariants.{Replay, Upgrade, Node, Rehearse, Churn}
 use Rattle.gd_options.specs.declared.format.Format.{Format}
 use Rattle.gd_options.specs.declared.format.Format.TheVariants.{Text, Json, Events}
 use Rattle.gd_outside.specs.declared.status.Status.{Status}
@@ -62,22 +60,3 @@ upgraded_as bytes (Err fault) = says (reply.BadLog (place bytes fault.left) faul
 
 abbrev pub upgraded_log : List ℕ → List Effect
 upgraded_log bytes = upgraded_as bytes (log bytes)
-
--- What the program is asked to do, where it does it: the commands that are named here aren't built.
-abbrev pub built : Option Command → Option Command
-built (Some (Node session site journal addresses)) = None
-built (Some (Rehearse sites)) = None
-built (Some (Churn seed steps)) = None
-built other = other
-
--- what is done for a command that is built, over this input; where there is none, it is said how the program is called
-abbrev pub effects_of : Option Command → List ℕ → List Effect
-effects_of (Some (Replay format counts)) input = replayed format counts input
-effects_of (Some Upgrade) input = upgraded_log input
-effects_of other input = says reply.Usage ∷ []
-
--- and how that ends
-abbrev pub end_of : Option Command → List ℕ → Status
-end_of (Some (Replay format counts)) input = ended_by input
-end_of (Some Upgrade) input = ended_by input
-end_of other input = status.Usage

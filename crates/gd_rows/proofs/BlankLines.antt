@@ -4,6 +4,7 @@ use Rattle.std.specs.Prelude.{replicate}
 use Rattle.gd_lines.specs.LineWords.{count_from, without_cr}
 use Rattle.gd_lines.specs.Lines.{read}
 use Rattle.gd_outside.specs.declared.status.Status.TheVariants.{Done, LineLimit}
+use Rattle.gd_reference.specs.Dialogues.{end_of_lines}
 use Rattle.gd_reference.specs.InputLines.{Over, heard, lf, lines_of}
 use Rattle.gd_reference.specs.NodeRun.{HeardLine, end_after}
 use Rattle.gd_rows.specs.WorkedInputs.{blank, heard_of}
@@ -32,11 +33,11 @@ one_more_heard n = ap (heard read n) (blanks-cut (suc n)) ∙ last-heard n
 
 -- how a run of them ends
 pub ends_done : (n : ℕ) → end_after (replicate n blank) ≡ Done
-unfolding end_after
+unfolding end_of_lines
 ends_done zero = refl
 ends_done (suc n) = ends_done n
 
 pub ends_over : (n : ℕ) → end_after (replicate n blank ++ Over ∷ []) ≡ LineLimit
-unfolding end_after
+unfolding end_of_lines
 ends_over zero = refl
 ends_over (suc n) = ends_over n

@@ -23,9 +23,10 @@ use Rattle.gd_lines.specs.Text.{bad_log_line, colour_text, colours_text, end_lin
 use Rattle.gd_lines.specs.WordKinds.{colour, digit, fill, focus, id, kind, label, name, natural_in, number, number_in, numeral}
 use Rattle.gd_model.specs.Relations.{covers, independent}
 use Rattle.gd_model.specs.Splices.{splice}
+use Rattle.gd_reference.specs.Dialogues.{answered, end_of_lines, state_after}
 use Rattle.gd_reference.specs.InputLines.{heard, lines_of, whole_lines}
 use Rattle.gd_reference.specs.Judging.{are_apart, by_id, edit, judged, targets}
-use Rattle.gd_reference.specs.NodeRun.{answers, end_after, node_lines, of_received, received, site_after, who_behind}
+use Rattle.gd_reference.specs.NodeRun.{node_lines, of_received, received, who_behind}
 use Rattle.gd_reference.specs.Offers.{all_arrived, frame_for, offered, offers, refusal, take_frame}
 use Rattle.gd_reference.specs.PerSite.{least_of_others, put}
 use Rattle.gd_reference.specs.SiteEffects.{events_replies, of_events, tries_behind}
@@ -46,7 +47,7 @@ lines_compute = tt
 
 -- drawings, sites, worlds and runs
 unfoldable pub sites_compute : ⊤
-unfolding stamp_cmp inserted_by covers independent splice are_apart by_id edit judged targets heard lines_of whole_lines answers end_after node_lines of_received received site_after who_behind all_arrived frame_for offered offers refusal take_frame least_of_others put events_replies of_events tries_behind greatest_clock made_by resumed tally_from after_edit after_undo undo after_from after_line happens with_site
+unfolding stamp_cmp inserted_by covers independent splice are_apart by_id edit judged targets heard lines_of whole_lines answered end_of_lines state_after node_lines of_received received who_behind all_arrived frame_for offered offers refusal take_frame least_of_others put events_replies of_events tries_behind greatest_clock made_by resumed tally_from after_edit after_undo undo after_from after_line happens with_site
 sites_compute = tt
 
 unfoldable pub computing : ⊤

@@ -12,7 +12,7 @@ ghost use Rattle.gd_model.specs.Drawing.{picture};
 ghost use Rattle.gd_model.specs.Splices.{splice};
 ghost use Rattle.gd_model.specs.Arrivals.{drawn, all_drawn, outcome_of, costs};
 ghost use Rattle.gd_reference.specs.DrawingText.{text};
-ghost use Rattle.gd_reference.specs.SlowRun.{built, effects_of, end_of};
+ghost use Rattle.gd_run.specs.Runs.{built, effects_of, end_of};
 ghost use Rattle.gd_reference.specs.Tally.{tally};
 ghost use Rattle.gd_json.specs.Worked.{tie_picture_json, tie_events_json};
 ghost use Rattle.gd_options.specs.declared.format.Format.TheVariants.{Json, Events};
@@ -21,23 +21,23 @@ ghost use Rattle.gd_rows.specs.Worked.{header, header_two, header_bytes, empty_l
 
 /// A log without events prints no object, with its closed gate and without.
 pub fn an_empty_log_prints_its_end()
-    ensures gate { effects_of replay empty_log ≡ prints_of end_alone }
-    ensures no_gate { effects_of replay header_bytes ≡ prints_of end_alone }
+    ensures gate { effects_of replay empty_log [] ≡ prints_of end_alone }
+    ensures no_gate { effects_of replay header_bytes [] ≡ prints_of end_alone }
 {}
 
 /// Events of one clock are ordered by their sites.
 pub fn a_tie_of_clocks_goes_by_sites()
     ensures read { log tie_log ≡ Ok (header, tie_events) }
-    ensures printed { effects_of replay tie_log
+    ensures printed { effects_of replay tie_log []
         ≡ works_of (1 ∷ 1 ∷ []) ++ prints_of tie_text }
     ensures end { end_of replay tie_log ≡ status.Done }
 {}
 
 /// The same as one line of JSON, of the drawing and of the events, and then with the line of the counts.
 pub fn a_tie_as_json()
-    ensures picture { effects_of (replays Json false) tie_log
+    ensures picture { effects_of (replays Json false) tie_log []
         ≡ works_of (1 ∷ 1 ∷ []) ++ prints_of (tie_picture_json ∷ []) }
-    ensures events { effects_of (replays Events true) tie_log
+    ensures events { effects_of (replays Events true) tie_log []
         ≡ works_of (1 ∷ 1 ∷ []) ++ prints_of (tie_events_json ∷ tie_counts ∷ []) }
     ensures end { end_of (replays Events true) tie_log ≡ status.Done }
 {}
@@ -45,14 +45,14 @@ pub fn a_tie_as_json()
 /// A move puts an object at another place, and a label is printed behind all else.
 pub fn a_move_and_a_label_are_shown()
     ensures read { log moved_log ≡ Ok (header, moved_events) }
-    ensures printed { effects_of replay moved_log
+    ensures printed { effects_of replay moved_log []
         ≡ works_of (1 ∷ 1 ∷ []) ++ prints_of moved_text }
 {}
 
 /// A size, both colours, the width and a label are those that were set last, and what is set of no object changes nothing.
 pub fn a_look_is_set()
     ensures read { log styled_log ≡ Ok (header, styled_events) }
-    ensures printed { effects_of replay styled_log
+    ensures printed { effects_of replay styled_log []
         ≡ works_of (1 ∷ 1 ∷ 1 ∷ 1 ∷ 1 ∷ 1 ∷ 1 ∷ []) ++ prints_of styled_text }
 {}
 
@@ -131,14 +131,14 @@ pub fn a_fault_has_its_place()
 
 /// Bytes that are no log are refused with the place and the reason of the first fault.
 pub fn what_is_no_log_is_refused()
-    ensures printed { effects_of replay (take 32 tie_log) ≡ prints_of cut_text }
+    ensures printed { effects_of replay (take 32 tie_log) [] ≡ prints_of cut_text }
     ensures end { end_of replay (take 32 tie_log) ≡ status.BadLog }
 {}
 
 /// Where there is no command, it is said how the program is called, whatever the input is. So it is where the command isn't
 /// built.
 pub fn what_is_no_command_is_refused()
-    ensures printed { effects_of None tie_log ≡ prints_of (usage_line ∷ []) }
+    ensures printed { effects_of None tie_log [] ≡ prints_of (usage_line ∷ []) }
     ensures end { end_of None tie_log ≡ status.Usage }
     ensures unbuilt { built rehearsal ≡ None }
     ensures built { built replay ≡ replay }

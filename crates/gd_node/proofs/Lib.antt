@@ -1,0 +1,11 @@
+mod Links
+mod Carrying
+mod SlowFrames
+mod Undone
+mod SlowEvents
+mod Logs
+mod Arrivals
+mod Turns
+mod Frames
+mod Entries
+mod Receiving
