@@ -1,38 +1,49 @@
--- What is done with the words of a command line over an input, how that ends, and what a run has to be told.
-use Rattle.std.specs.Prelude.{ℕ, List, Option, IsSome}
-use Rattle.gd_outside.specs.Seen.{SeenSource}
-use Rattle.gd_outside.specs.declared.status.Status.{Status}
-use Rattle.gd_outside.specs.declared.status.Status.TheVariants.{Done, Usage, BadLog, ReadFault, WriteFault, NoMemory}
-use Rattle.gd_effects.specs.Effects.{Effect}
-use Rattle.gd_options.specs.declared.command.Command.{Command}
+-- A run of the program: what was asked, what the slow run owes for it, and what it has to be told.
+use Rattle.std.specs.Prelude.{ℕ, List, Option, Some, None, IsSome}
 use Rattle.gd_commands.specs.Commands.{command_of}
-use Rattle.gd_reference.specs.SlowRun.{built, effects_of, end_of}
+use Rattle.gd_effects.specs.Effects.{Effect}
+use Rattle.gd_effects.specs.Endings.{IsUncut}
+use Rattle.gd_effects.specs.Outside.{IsTold, Outside}
+use Rattle.gd_options.specs.declared.command.Command.{Command}
+use Rattle.gd_options.specs.declared.command.Command.TheVariants.{Node}
+use Rattle.gd_outside.specs.Told.{told}
+use Rattle.gd_outside.specs.declared.status.Status.{Status}
+use Rattle.gd_run.specs.Runs.{built, cut_of, effects_of, end_of}
+
+-- the words after the program's name, how the run of them ended, and what was outside before and after it
+pub record Run : Type 0 where
+  pub words : List (List ℕ)
+  pub status : Status
+  pub before : Outside
+  pub after : Outside
 
 -- the command that the words ask for, if they ask for one that is built
 abbrev pub asked_of : List (List ℕ) → Option Command
 asked_of words = built (command_of words)
 
--- what is done with these words, over this input
-unfoldable pub slow_effects : List (List ℕ) → List ℕ → List Effect
-slow_effects words input = effects_of (asked_of words) input
+abbrev pub asked : Run → Option Command
+asked run = asked_of run.words
 
--- and how that ends
-unfoldable pub slow_end : List (List ℕ) → List ℕ → Status
-slow_end words input = end_of (asked_of words) input
+-- what the slow run owes for it, how that ends, and what is owed for a part of the input
+abbrev pub owed : Run → List Effect
+owed run = effects_of (asked run) (told run.before.input.left) (told run.before.link.entries)
 
-abbrev pub IsRunEnd : Status → Type 0
-IsRunEnd Done = Unit {0}
-IsRunEnd Usage = Unit {0}
-IsRunEnd BadLog = Unit {0}
-IsRunEnd ReadFault = Unit {0}
-IsRunEnd WriteFault = Unit {0}
-IsRunEnd NoMemory = Unit {0}
-IsRunEnd other = ⊥
+abbrev pub owed_status : Run → Status
+owed_status run = end_of (asked run) (told run.before.input.left)
 
--- What a run does depends on this alone: for a command the input, which has to tell what it has left; where there is no
--- command nothing.
-abbrev pub IsToldFor : Option Command → SeenSource → Type 0
-IsToldFor command input = IsSome command → IsSome input.left
+abbrev pub owed_for_part : Run → List ℕ → List Effect
+owed_for_part run taken = cut_of (asked run) (told run.before.link.entries) taken
 
-abbrev pub IsRunTold : List (List ℕ) → SeenSource → Type 0
-IsRunTold words input = IsToldFor (asked_of words) input
+-- what a command depends on: a node on what its input and its link hand out, another command on its input
+abbrev pub IsToldFor : Option Command → Outside → Type 0
+IsToldFor None o = Unit {0}
+IsToldFor (Some (Node session site journal addresses)) o = IsTold o
+IsToldFor (Some other) o = IsSome o.input.left
+
+-- the run was told what it depends on
+abbrev pub Told : Run → Type 0
+Told run = IsToldFor (asked run) run.after
+
+-- and nothing cut it short
+abbrev pub Whole : Run → Type 0
+Whole run = Told run × IsUncut run.status

@@ -1,0 +1,68 @@
+-- The headline, sentence by sentence: whatever lines and datagrams the program is handed, what it leaves is the slow run's.
+use Rattle.std.specs.Prelude.{◌≡◌, ◌+◌, ◌≤◌, ◌⊎◌, IsSome, Some}
+use Rattle.gd_commands.specs.Plain.{IsPlain, Plain, plain_command, plain_words}
+use Rattle.gd_effects.specs.Done.{DidFront, DidHalfPrint, DidTornRecord, Journals, NoneFell}
+use Rattle.gd_effects.specs.Effects.{cost, printed, tried}
+use Rattle.gd_effects.specs.Endings.{Causes, DidRead, Unopened}
+use Rattle.gd_outside.specs.Causes.{Rose}
+use Rattle.gd_outside.specs.Told.{Grows, told}
+use Rattle.gd_outside.specs.declared.status.Status.TheVariants.{Usage, ReadFault, WriteFault, JournalFault, LinkFault, NoMemory}
+use Rattle.gd_run.specs.Runs.{built}
+use Rattle.groupdesign.specs.Commands.{IsEnd, IsLogOf, Named, OpensFirst, Silent, Untouched}
+use Rattle.groupdesign.specs.Runs.{Run, Told, Whole, asked, owed, owed_for_part, owed_status}
+
+pub record Headline (run : Run) : Type 0 where
+  -- ---- where nothing cut the run short
+
+  -- it ends as the slow run does
+  pub status : Whole run → run.status ≡ owed_status run
+  -- its printed answers are the slow run's
+  pub output : Whole run → Grows run.before.output.bytes (printed (owed run)) run.after.output.bytes
+  -- so is its journal
+  pub journal : Whole run → Journals run.before.journal.contents (owed run) run.after.journal.contents
+  -- which is, for a node, the log of what the slow site holds after its lines
+  pub log : Whole run → IsSome run.after.journal.contents
+      → IsLogOf (asked run) (told run.before.input.left) (told run.before.link.entries) (told run.after.journal.contents)
+  -- so are the frames that it sends, or tries to
+  pub frames : Whole run → Grows run.before.link.tried (tried (owed run)) run.after.link.tried
+  -- it takes as many steps as the slow run's events cost
+  pub steps : Whole run → run.after.steps ≡ run.before.steps + cost (owed run)
+  -- ---- where it was cut short
+
+  -- without memory, a front of what is owed was done
+  pub memory : Told run → run.status ≡ NoMemory → DidFront run.before (owed run) run.after
+  -- after a failed read, what is owed for the whole lines that were read before
+  pub read : Told run → run.status ≡ ReadFault → DidRead run.before (owed_for_part run) run.after
+  -- after a failed write, a front, and a front of the next line
+  pub write : Told run → run.status ≡ WriteFault → DidHalfPrint run.before (owed run) run.after
+  -- after a failed call of the journal, a front; and the journal is a log with the next event or without
+  pub torn : Told run → run.status ≡ JournalFault → DidTornRecord run.before (owed run) run.after
+  -- where the link wasn't opened, nothing, and no entry was taken
+  pub unopened : run.status ≡ LinkFault → Unopened run.before run.after
+  pub opens_first : OpensFirst run.status run.before run.after
+  -- it takes no more steps than the slow run
+  pub most_steps : Told run → run.after.steps ≤ run.before.steps + cost (owed run)
+  -- ---- when it is cut short
+
+  -- a status that says that a call on an object failed comes only where that object's count of faults rose, and none falls
+  pub cause : Causes run.status run.before run.after
+  pub counts : NoneFell run.before run.after
+  -- where no call of the input, the output and the journal failed, and the link was opened, the run is carried out, unless
+  -- memory ran out
+  pub complete : Told run → ¬ Rose run.before.input.faults run.after.input.faults
+      → ¬ Rose run.before.output.faults run.after.output.faults
+      → ¬ Rose run.before.journal.faults run.after.journal.faults → ¬ (run.status ≡ LinkFault)
+      → (run.status ≡ owed_status run) ⊎ (run.status ≡ NoMemory)
+  -- ---- by the command
+
+  -- each command has its own statuses; words that ask for none that is built are refused, and only these
+  pub ends : IsEnd (asked run) run.status
+  -- words in the plain form of a command that is built are taken
+  pub plain : (plain : Plain) → IsPlain plain → run.words ≡ plain_words plain
+      → IsSome (built (Some (plain_command plain))) → ¬ (run.status ≡ Usage)
+  -- what a command has nothing to do with stays as it was
+  pub untouched : Untouched (asked run) run.before run.after
+  -- a command that reads a log printed nothing where it couldn't read it, or had no memory for it
+  pub silent : Silent (asked run) run.status run.before run.after
+  -- the journal's path, and the link's addresses and own number, are those of the words once `ready` is printed
+  pub named : Named (asked run) run.status run.before run.after
