@@ -3,7 +3,7 @@ use Rattle.std.proofs.Common.{◌≡◌, ℕ, List, [], ◌∷◌, ◌++◌, ref
 use Rattle.std.specs.Prelude.{Result, Ok, Err, IsErrAnd, IsSome, OnOk}
 use Rattle.gd_dialogue.proofs.Links.{open_same, open_then}
 use Rattle.gd_dialogue.specs.Owing.{At, Carries, Goes, Owed, at, beside, entries, without_entries}
-use Rattle.gd_effects.proofs.Doing.{does_as, does_exit, does_more, does_nothing, does_ok, does_then, does_when}
+use Rattle.gd_effects.proofs.Doing.{does_as, does_exit, does_more, does_nothing, does_ok, does_then, does_when, on_ok}
 use Rattle.gd_effects.proofs.OneRecord.{none_done, nothing_done}
 use Rattle.gd_effects.proofs.RunEnds.{idle_source}
 use Rattle.gd_effects.specs.Effects.{Effect}
@@ -103,10 +103,6 @@ module _ {State A : Type 0} {meets : State → A → SeenJournal → Type 0} whe
 
   -- ---- calls that leave the state
 
-  every : {T : Type 0} (r : Result T End) → OnOk r (Unit {0})
-  every (Ok v) = tt
-  every (Err e) = tt
-
   -- beside a change that takes no steps, a call on the output alone
   pub carries_changed : {T : Type 0} (r : Result T End) (xs : State → List Effect) (then : State → State) {old new : A} {output output' : SeenSink} (journal : SeenJournal) (link : SeenLink) {steps steps' : ℕ}
       → ((before : State) → meets before old journal → meets (then before) new journal × (steps' ≡ steps))
@@ -114,7 +110,7 @@ module _ {State A : Type 0} {meets : State → A → SeenJournal → Type 0} whe
       → Carries meets (without_entries xs then) r (at old output journal link steps) (at new output' journal link steps')
   carries_changed r xs then {old} {new} {output} journal link {steps' = steps'} changed prints = record {
     does = λ before m input. does_then (nothing_done input output journal link (changed before m).1) (prints before m input journal link steps');
-    goes = on_ok_map r (λ t before m. record { reached = then before; meets_it = (changed before m).0; is = λ told. (refl, refl) }) (every r);
+    goes = on_ok_map r (λ t before m. record { reached = then before; meets_it = (changed before m).0; is = λ told. (refl, refl) }) (on_ok {P = Unit {0}} r tt);
     name = grows_nothing journal.name;
     opened = open_same link;
   }
