@@ -1,15 +1,15 @@
 -- How an event of another site is taken, or isn't.
 use Rattle.std.proofs.Common.{◌≡◌, ℕ, ◌+◌, List, [], ◌∷◌, ◌++◌, refl, sym, ◌∙◌, ap, ◌⊎◌, inl, inr, arith}
-use Rattle.std.specs.Prelude.{Result, Ok, Err, OnOk}
-use Rattle.gd_dialogue.proofs.Links.{open_same}
+use Rattle.std.specs.Prelude.{Result, OnOk}
 use Rattle.gd_base.specs.declared.offer.Offer.{Offer}
 use Rattle.gd_base.specs.declared.offer.Offer.TheVariants.{Next, Repeat, Gap, Backdated}
+use Rattle.gd_dialogue.proofs.Carrying.{on_ok_map}
+use Rattle.gd_dialogue.proofs.Links.{open_same}
 use Rattle.gd_effects.proofs.Doing.{does_as, does_then}
-use Rattle.gd_effects.proofs.OneRecord.{nothing_done, none_done, worked}
+use Rattle.gd_effects.proofs.OneRecord.{worked}
 use Rattle.gd_effects.specs.Done.{Does}
-use Rattle.gd_effects.specs.Effects.{Effect, Record, Work}
+use Rattle.gd_effects.specs.Effects.{Record, Work}
 use Rattle.gd_effects.specs.Outside.{outside}
-use Rattle.gd_effects.specs.Prints.{Prints}
 use Rattle.gd_events.specs.Events.{Event}
 use Rattle.gd_events.specs.Sound.{IsOp}
 use Rattle.gd_grammar.specs.Drawings.{drawings, spelling}
@@ -19,19 +19,15 @@ use Rattle.gd_history.specs.declared.arrival.Arrival.{Arrival}
 use Rattle.gd_lines.specs.declared.reply.Reply.{Reply}
 use Rattle.gd_logs.specs.Written.{IsRuled}
 use Rattle.gd_model.specs.Arrivals.{cost_of, outcome_of}
-use Rattle.gd_dialogue.proofs.Carrying.{on_ok_map}
 use Rattle.gd_node.proofs.Carrying.{IsBeside, same_as, stands_beside}
 use Rattle.gd_node.proofs.SlowEvents.{arrived_as, echo_arrival, meets_taken, of_next}
 use Rattle.gd_node.specs.Arriving.{arrival_reply}
 use Rattle.gd_node.specs.Meeting.{HasLog, Meets}
-use Rattle.gd_dialogue.specs.Owing.{without_entries}
-use Rattle.gd_node.specs.Owing.{Carries, NodeOwed, for_event, node}
+use Rattle.gd_node.specs.Owing.{Carries, for_event, node}
 use Rattle.gd_node.specs.declared.member.Member.{Member}
-use Rattle.gd_outside.proofs.ToldLemmas.{grows_nothing}
 use Rattle.gd_outside.specs.Seen.{SeenSource, SeenSink, SeenJournal, SeenLink}
 use Rattle.gd_outside.specs.Told.{Stays}
 use Rattle.gd_outside.specs.declared.end.End.{End}
-use Rattle.gd_outside.specs.declared.end.End.TheVariants.{NoMemory}
 use Rattle.gd_protocol.proofs.Journals.{well_ruled}
 use Rattle.gd_reference.specs.Offers.{after_offer, arrived, offer}
 use Rattle.gd_reference.specs.Said.{says}

@@ -2,22 +2,21 @@
 use Rattle.std.proofs.Common.{◌≡◌, ℕ, ◌<◌, ◌≤◌, ◌==◌, cond, List, [], ◌∷◌, ◌++◌, length, refl, sym, ◌∙◌, ap, append-nil}
 use Rattle.std.proofs.lemmas.Bool.{cond_both, le-ltb, lt-ltb}
 use Rattle.std.specs.Prelude.{Option, Some, None, Ok, Err}
-use Rattle.gd_dialogue.specs.Owing.{without_entries}
-use Rattle.gd_node.specs.Owing.{for_datagram, for_events, for_frame}
 use Rattle.gd_base.specs.declared.fault.WireFault.{WireFault}
 use Rattle.gd_base.specs.declared.refusal.FrameFault.{FrameFault}
-use Rattle.gd_effects.specs.Effects.{Effect}
+use Rattle.gd_dialogue.proofs.Carrying.{Alike, behind}
+use Rattle.gd_dialogue.specs.Owing.{without_entries}
 use Rattle.gd_events.specs.Events.{Event}
 use Rattle.gd_grammar.specs.FrameBytes.{Frame, IsFrame, frame}
 use Rattle.gd_lines.specs.declared.reply.Reply.TheVariants as reply
-use Rattle.gd_dialogue.proofs.Carrying.{Alike, behind}
 use Rattle.gd_node.proofs.Carrying.{Same}
 use Rattle.gd_node.proofs.Turns.{others_in_turn}
 use Rattle.gd_node.specs.Arriving.{AreOthers}
+use Rattle.gd_node.specs.Owing.{for_datagram, for_events, for_frame}
 use Rattle.gd_outside.specs.Seen.{Entry}
 use Rattle.gd_protocol.proofs.WellSites.{IsAccepted-from_none}
-use Rattle.gd_reference.specs.Offers.{all_arrived, finished, refusal, take_frame, unless_refused, with_note}
 use Rattle.gd_reference.specs.NodeRun.{after_datagram, of_datagram}
+use Rattle.gd_reference.specs.Offers.{all_arrived, finished, refusal, take_frame, unless_refused, with_note}
 use Rattle.gd_reference.specs.Said.{says}
 use Rattle.gd_reference.specs.SiteEffects.{after_read, of_events, of_frame, of_read, unless_refused_of}
 use Rattle.gd_reference.specs.SlowSite.{SlowSite, count}

@@ -1,14 +1,14 @@
 -- What an event of another site owes, by its offer.
-use Rattle.std.proofs.Common.{◌≡◌, ℕ, List, [], ◌∷◌, ◌++◌, length, refl, sym, ◌∙◌, ap, subst}
+use Rattle.std.proofs.Common.{◌≡◌, [], ◌∷◌, ◌++◌, refl, sym, ◌∙◌, ap, subst}
 use Rattle.std.proofs.lemmas.List.{length-map}
 use Rattle.gd_base.specs.declared.offer.Offer.{Offer}
-use Rattle.gd_base.specs.declared.offer.Offer.TheVariants.{Next, Repeat, Gap, Backdated}
-use Rattle.gd_effects.specs.Effects.{Effect, Record, Work}
-use Rattle.gd_events.specs.declared.op.Op.{Op}
+use Rattle.gd_base.specs.declared.offer.Offer.TheVariants.{Next}
+use Rattle.gd_effects.specs.Effects.{Record, Work}
 use Rattle.gd_events.specs.Events.{Event}
+use Rattle.gd_events.specs.declared.op.Op.{Op}
 use Rattle.gd_grammar.specs.Drawings.{spelling}
-use Rattle.gd_history.specs.Histories.{arrival_of}
 use Rattle.gd_history.specs.Entries.{stamp_of}
+use Rattle.gd_history.specs.Histories.{arrival_of}
 use Rattle.gd_lines.specs.declared.reply.Reply.TheVariants as reply
 use Rattle.gd_model.specs.Arrivals.{cost_of, outcome_of}
 use Rattle.gd_node.specs.Arriving.{arrival_reply}

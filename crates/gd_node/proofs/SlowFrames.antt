@@ -1,9 +1,7 @@
 -- The frames that a reference site owes the others, one after another.
-use Rattle.std.proofs.Common.{◌≡◌, ℕ, suc, ◌+◌, ◌-◌, ◌<◌, ◌≤◌, List, [], ◌∷◌, ◌++◌, cond, refl, ap, arith, IsTrue}
+use Rattle.std.proofs.Common.{◌≡◌, ℕ, suc, ◌+◌, [], ◌∷◌, ◌++◌, cond, ap}
 use Rattle.std.proofs.lemmas.Bool.{eq-eqb, ne_eqb}
-use Rattle.gd_base.proofs.SiteLemmas.{is_site-within}
-use Rattle.gd_base.specs.Sites.{is_site}
-use Rattle.gd_effects.specs.Effects.{Effect, Try}
+use Rattle.gd_effects.specs.Effects.{Try}
 use Rattle.gd_grammar.specs.FrameBytes.{frame_bytes}
 use Rattle.gd_reference.specs.Offers.{frame_for}
 use Rattle.gd_reference.specs.SiteEffects.{tries_behind, try_for}

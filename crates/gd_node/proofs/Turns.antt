@@ -1,22 +1,18 @@
 -- The events of a frame, one after another.
 use Rattle.std.proofs.Common.{◌≡◌, ℕ, suc, ◌+◌, ◌<◌, ◌≤◌, List, [], ◌∷◌, length, refl, sym, ◌∙◌, ap, subst, drop, drop-cons, eqb-true, get_or, add-one, ◌==◌}
 use Rattle.std.proofs.lemmas.Bool.{and_parts}
-use Rattle.std.specs.List.{AllByRecursion as Every}
 use Rattle.std.specs.Prelude.{Option, Some, Result, Ok, Err}
 use Rattle.gd_dialogue.proofs.Carrying.{carries_front, carries_nothing, carries_then}
-use Rattle.gd_effects.specs.Effects.{Effect}
 use Rattle.gd_events.specs.Events.{Event}
 use Rattle.gd_grammar.specs.FrameBytes.{AreInTurn, last_of}
 use Rattle.gd_grammar.specs.Reading.{AllFollow}
 use Rattle.gd_grammar.specs.declared.frame.Head.{Head}
 use Rattle.gd_grammar.specs.declared.frame.Last.{Last}
 use Rattle.gd_node.specs.Arriving.{AreOthers}
-use Rattle.gd_node.specs.Meeting.{IsMet}
-use Rattle.gd_dialogue.specs.Owing.{entries}
-use Rattle.gd_node.specs.Owing.{Carries, Node, NodeOwed, for_event, for_events}
+use Rattle.gd_node.specs.Owing.{Carries, Node, for_event, for_events}
 use Rattle.gd_outside.specs.declared.end.End.{End}
-use Rattle.gd_reference.specs.SiteEffects.{of_events}
 use Rattle.gd_reference.specs.Offers.{all_arrived, arrived}
+use Rattle.gd_reference.specs.SiteEffects.{of_events}
 use Rattle.gd_site.specs.Judged.{IsSameMember}
 use Rattle.gd_site.specs.Sites.{SiteValue}
 use Rattle.gd_stable.specs.Peers.{IsOther, PeersValue}

@@ -1,12 +1,11 @@
 use Rattle.std.proofs.Common.{◌≡◌, [], ◌∷◌, refl, sym, ◌∙◌, ap, subst}
+use Rattle.gd_base.specs.declared.offer.Offer.TheVariants.{Backdated}
 use Rattle.gd_dialogue.proofs.Carrying.{carries_exit, carries_none}
-use Rattle.gd_node.proofs.Carrying.{carries_beside}
-use Rattle.gd_base.specs.declared.offer.Offer.TheVariants.{Next, Repeat, Gap, Backdated}
 use Rattle.gd_effects.proofs.Doing.{does_as, does_nothing}
 use Rattle.gd_lines.specs.declared.reply.Reply.TheVariants as reply
-use Rattle.gd_model.specs.Arrivals.{outcome_of}
 use Rattle.gd_node.proofs.Arrivals.{IsVain, arrives, carries_arrival, offer_backdated, offer_next, offer_vain, vain_beside}
-use Rattle.gd_node.proofs.SlowEvents.{arrived_as, echo_arrival, of_other}
+use Rattle.gd_node.proofs.Carrying.{carries_beside}
+use Rattle.gd_node.proofs.SlowEvents.{of_other}
 use Rattle.gd_node.proofs.Undone.{undone_few}
 use Rattle.gd_node.specs.Arriving.{IsShort, arrival_reply}
 use Rattle.gd_node.specs.Meeting.{Meets}

@@ -1,9 +1,8 @@
 use Rattle.std.proofs.Common.{◌+◌, ◌∷◌, drop, drop_of_length-le, subst, arith}
 use Rattle.gd_dialogue.proofs.Carrying.{carries_exit}
+use Rattle.gd_effects.proofs.RunEnds.{idle_link}
 use Rattle.gd_node.proofs.Turns.{at_item, events_cut, events_done, events_then, others_same, same_self, same_then}
 use Rattle.gd_node.specs.Arriving.{AreOthers}
-use Rattle.gd_outside.specs.Seen.{SeenLink}
-use Rattle.gd_effects.proofs.RunEnds.{idle_link}
 use Rattle.gd_node.proofs.arriving.take_events.Goals as goal
 
 pub loop-event-init : goal.loop-event-init

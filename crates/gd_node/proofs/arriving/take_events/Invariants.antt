@@ -1,4 +1,4 @@
-use Rattle.std.proofs.Common.{ℕ, drop}
+use Rattle.std.proofs.Common.{drop}
 use Rattle.std.specs.Prelude.{Result}
 use Rattle.gd_node.specs.Arriving.{AreOthers}
 use Rattle.gd_node.specs.Meeting.{IsMet}

@@ -1,15 +1,12 @@
-use Rattle.std.proofs.Common.{◌≡◌, [], ◌∷◌, refl, sym, subst}
-use Rattle.std.specs.Prelude.{None, Some}
+use Rattle.std.proofs.Common.{[], ◌∷◌, refl, sym, subst}
 use Rattle.gd_dialogue.proofs.Carrying.{carries_as, carries_exit, carries_front, carries_prints, carries_then}
-use Rattle.gd_node.proofs.Carrying.{carries_beside, stands_beside}
 use Rattle.gd_effects.proofs.Doing.{does_nothing}
 use Rattle.gd_lines.specs.declared.reply.Reply.TheVariants as reply
+use Rattle.gd_node.proofs.Carrying.{carries_beside, stands_beside}
 use Rattle.gd_node.proofs.Frames.{accepted_alike, checked_some, frame_first, others_of, refused_alike, same_finished}
 use Rattle.gd_node.specs.Arriving.{AreOthers}
-use Rattle.gd_node.specs.Meeting.{Meets}
 use Rattle.gd_reference.specs.Offers.{finished, refusal}
 use Rattle.gd_reference.specs.Said.{says}
-use Rattle.gd_reference.specs.SlowSite.{SlowSite}
 use Rattle.gd_site.proofs.Finishing.{checked_none}
 use Rattle.gd_node.proofs.arriving.take_frame.Goals as goal
 
