@@ -4,7 +4,6 @@
 -- the whole input before they do anything.
 use Rattle.std.specs.Prelude.{ℕ, List, [], ◌∷◌, length, Option, Some, None}
 use Rattle.gd_effects.specs.Effects.{Effect}
-use Rattle.gd_effects.specs.Endings.{no_effects}
 use Rattle.gd_lines.specs.declared.reply.Reply.TheVariants as reply
 use Rattle.gd_options.specs.declared.command.Command.{Command}
 use Rattle.gd_options.specs.declared.command.Command.TheVariants.{Replay, Upgrade, Node, Rehearse, Churn}
