@@ -10,10 +10,10 @@ use std::marker::Model;
 /// session is, itself too. There are 1 to 16 sites, and its own number is one of theirs, from 1.
 #[derive(Drop)]
 pub struct Config {
-    session: u32,
-    me: u8,
-    journal: Word,
-    addresses: WordList,
+    pub(crate) session: u32,
+    pub(crate) me: u8,
+    pub(crate) journal: Word,
+    pub(crate) addresses: WordList,
 }
 
 impl Model for Config {

@@ -13,6 +13,7 @@ use crate::member::Member;
 use crate::saying::say;
 use gd_base::{Steps, Version};
 use gd_dialogue::answer_lines;
+use gd_effects::ended;
 use gd_logs::LogWriter;
 use gd_outside::{End, Journal, Link, Sink, Source, Status};
 use gd_site::Site;
@@ -91,12 +92,4 @@ fn begin<K: Sink, J: Journal>(
     let log = start_log(journal, config.journal.as_str(), &header)?;
     say(&Reply::Ready { site: config.me, n }, output)?;
     Ok(log)
-}
-
-/// The status of a run that came to this.
-fn ended(run: Result<Status, End>) -> Status {
-    match run {
-        Ok(status) => status,
-        Err(end) => early_status(end),
-    }
 }
