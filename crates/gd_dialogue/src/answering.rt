@@ -1,12 +1,14 @@
 //! The loop over lines.
 
-ghost use Rattle.std.specs.Prelude.{IfOk};
+ghost use Rattle.std.specs.Prelude.{◌≡◌, [], ◌∷◌, IfOk};
 ghost use Rattle.gd_dialogue.specs.Answering.{cut_effects, input_effects, input_end};
 ghost use Rattle.gd_effects.specs.Endings.{IsUncut};
 ghost use Rattle.gd_effects.specs.Outside.{outside};
+ghost use Rattle.gd_effects.specs.Prints.{Prints};
 ghost use Rattle.gd_effects.specs.Runs.{RunsAs};
 ghost use Rattle.gd_outside.specs.Links.{StaysOpen};
 ghost use Rattle.gd_outside.specs.Told.{told, Stays};
+ghost use Rattle.gd_reference.specs.Said.{says};
 
 use crate::answerer::Answerer;
 use gd_base::Steps;
@@ -62,7 +64,11 @@ pub fn answer_lines<A: Answerer, S: Source, K: Sink, J: Journal, N: Link, L: Led
 }
 
 /// Prints that a line is too long, or one too many.
-fn say_limit<K: Sink>(output: &mut K) -> Result<Status, End> {
+fn say_limit<K: Sink>(output: &mut K) -> Result<Status, End>
+    ensures does { Prints (K.seen output.old) (says Reply.LineLimit ∷ []) result
+        (K.seen output.new) }
+    ensures end { IfOk result (λ status. status ≡ Status.LineLimit) }
+{
     print(output, Reply::LineLimit.text().as_slice())?;
     Ok(Status::LineLimit)
 }
