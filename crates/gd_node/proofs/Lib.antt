@@ -9,3 +9,4 @@ mod Turns
 mod Frames
 mod Entries
 mod Receiving
+mod Edits

@@ -3,6 +3,7 @@ pub mod Calls
 pub mod Owing
 pub mod Arriving
 pub mod Polling
+pub mod Editing
 pub mod Noting
 pub mod Configs
 pub mod Serving

@@ -1,8 +1,14 @@
 //! Edits of the node's user, and their taking back.
 
-ghost use Rattle.std.specs.Prelude.{◌≡◌};
-ghost use Rattle.gd_base.specs.Refusals.{};
-ghost use Rattle.gd_dialogue.specs.Owing.{};
+ghost use Rattle.std.specs.Prelude.{◌≡◌, ℕ, Ok, option_map};
+ghost use Rattle.gd_lines.specs.InRange.{IsEdit};
+ghost use Rattle.gd_lines.specs.Refusals.{edit_refusal};
+ghost use Rattle.gd_lines.specs.declared.command.Command.TheVariants as command;
+ghost use Rattle.gd_node.specs.Editing.{Announces, IsAhead, Refuses, refused_edit, refused_undo};
+ghost use Rattle.gd_node.specs.Meeting.{IsMet};
+ghost use Rattle.gd_node.specs.Owing.{Carries, for_line, node};
+ghost use Rattle.gd_reference.specs.SlowSite.{SlowSite};
+ghost use Rattle.gd_reference.specs.TakeBack.{back_refusal};
 
 use crate::journalling::record_and_say;
 use crate::member::Member;
@@ -18,6 +24,9 @@ use std::sync::ledger::Ledger;
 
 /// Carries out an edit. One that is accepted becomes an event, which is added to the log, and then it is printed as done, and
 /// then each other site is tried a frame. One that isn't is printed as refused.
+///
+/// `NoMemory` where there is no memory for the event. `JournalFault` and `WriteFault` where a call on that object failed; no
+/// other end comes.
 pub(crate) fn take_edit<K: Sink, J: Journal, N: Link, L: Ledger>(
     member: &mut Member,
     edit: &Edit,
@@ -57,28 +66,39 @@ pub(crate) fn take_back<K: Sink, J: Journal, N: Link, L: Ledger>(
     }
 }
 
-/// Adds an own event to the log, prints its edit as done, and tries a frame for each other site.
+/// Adds an event that the member's site has made to the log, prints it as done, and tries a frame for each other site.
+/// `JournalFault` and `WriteFault` where a call on that object failed; no other end comes.
 fn announce<K: Sink, J: Journal, N: Link>(
     member: &mut Member,
     event: &Event,
     output: &mut K,
     journal: &mut J,
     link: &mut N,
-) -> Result<(), End> {
+) -> Result<(), End>
+    requires { (slow : SlowSite) × IsAhead slow event.now member.old (J.seen journal.old) }
+    ensures { (steps : ℕ) → Announces event.now result
+        (node member.old (K.seen output.old) (J.seen journal.old) (N.seen link.old) steps)
+        (node member.new (K.seen output.new) (J.seen journal.new) (N.seen link.new) steps) }
+{
     let reply = Reply::Done { id: event.stamp() };
     record_and_say(&mut member.log, event, &reply, output, journal)?;
     send_frames(&member.site, link);
     Ok(())
 }
 
-/// Prints why nothing was done, or ends for want of memory.
-fn refuse<K: Sink>(why: Option<Refusal>, output: &mut K) -> Result<(), End> {
+/// Prints why nothing was done. `NoMemory` where there is no reason, since memory had run out, and `WriteFault` where a write
+/// failed; no other end comes.
+fn refuse<K: Sink>(why: Option<Refusal>, output: &mut K) -> Result<(), End>
+    ensures { Refuses why (K.seen output.old) result (K.seen output.new) }
+{
     let why = why.ok_or(End::NoMemory)?;
     say(&Reply::Refused { why }, output)
 }
 
 /// Why an edit is refused, as it is printed. None for want of memory, which is no refusal.
-fn edit_refusal(fault: EditFault) -> Option<Refusal> {
+fn edit_refusal(fault: EditFault) -> Option<Refusal>
+    ensures { result ≡ option_map edit_refusal (refused_edit fault) }
+{
     match fault {
         EditFault::ClockEnd => Some(Refusal::ClockEnd),
         EditFault::SessionFull { .. } => Some(Refusal::SessionFull),
@@ -93,7 +113,9 @@ fn edit_refusal(fault: EditFault) -> Option<Refusal> {
 }
 
 /// The same of an undo.
-fn back_refusal(fault: BackFault) -> Option<Refusal> {
+fn back_refusal(fault: BackFault) -> Option<Refusal>
+    ensures { result ≡ option_map back_refusal (refused_undo fault) }
+{
     match fault {
         BackFault::Nothing => Some(Refusal::NothingBack),
         BackFault::Never => Some(Refusal::NotTakeable),
