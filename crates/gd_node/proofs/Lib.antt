@@ -1,6 +1,8 @@
 mod Links
 mod Carrying
 mod SlowFrames
+mod Noted
+mod Who
 mod Undone
 mod SlowEvents
 mod Logs

@@ -5,5 +5,6 @@ pub mod Arriving
 pub mod Polling
 pub mod Editing
 pub mod Noting
+pub mod Telling
 pub mod Configs
 pub mod Serving
