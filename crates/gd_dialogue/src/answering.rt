@@ -1,8 +1,7 @@
 //! The loop over lines.
 
 ghost use Rattle.std.specs.Prelude.{◌≡◌, [], ◌∷◌, IfOk};
-ghost use Rattle.gd_dialogue.specs.Answering.{cut_effects, input_effects, input_end};
-ghost use Rattle.gd_effects.specs.Endings.{IsUncut};
+ghost use Rattle.gd_dialogue.specs.Answering.{IsDialogueEnd, cut_effects, input_effects, input_end};
 ghost use Rattle.gd_effects.specs.Outside.{outside};
 ghost use Rattle.gd_effects.specs.Prints.{Prints};
 ghost use Rattle.gd_effects.specs.Runs.{RunsAs};
@@ -36,7 +35,7 @@ pub fn answer_lines<A: Answerer, S: Source, K: Sink, J: Journal, N: Link, L: Led
         (input_end A.manner A.Line.read most (told (S.seen input.old).left)) result
         (outside (S.seen input.old) (K.seen output.old) (J.seen journal.old) (N.seen link.old) steps.old)
         (outside (S.seen input.new) (K.seen output.new) (J.seen journal.new) (N.seen link.new) steps.new) }
-    ensures kinds { IfOk result IsUncut }
+    ensures kinds { IfOk result IsDialogueEnd }
     ensures name { Stays (J.seen journal.old).name (J.seen journal.new).name }
     ensures opened { StaysOpen (N.seen link.old) (N.seen link.new) }
 {
