@@ -12,3 +12,5 @@ mod Frames
 mod Entries
 mod Receiving
 mod Edits
+mod Names
+mod Runs

@@ -2,6 +2,7 @@
 
 ghost use Rattle.std.specs.Prelude.{◌≡◌, ◌≤◌, length};
 ghost use Rattle.gd_base.specs.declared.ranges.TheConstants.{SITES};
+ghost use Rattle.gd_node.specs.Configs.{IsConfig};
 
 use gd_outside::{Word, WordList};
 use std::marker::Model;
@@ -10,10 +11,10 @@ use std::marker::Model;
 /// session is, itself too. There are 1 to 16 sites, and its own number is one of theirs, from 1.
 #[derive(Drop)]
 pub struct Config {
-    pub(crate) session: u32,
-    pub(crate) me: u8,
-    pub(crate) journal: Word,
-    pub(crate) addresses: WordList,
+    session: u32,
+    me: u8,
+    journal: Word,
+    addresses: WordList,
 }
 
 impl Model for Config {
@@ -41,9 +42,34 @@ impl Config {
         }
     }
 
+    pub(crate) fn session(&self) -> u32
+        ensures { result ≡ self.now.session }
+    {
+        self.session
+    }
+
+    pub(crate) fn me(&self) -> u8
+        ensures { result ≡ self.now.me }
+    {
+        self.me
+    }
+
+    pub(crate) fn journal(&self) -> &str
+        ensures { result.now ≡ self.now.journal }
+    {
+        self.journal.as_str()
+    }
+
+    pub(crate) fn addresses(&self) -> &WordList
+        ensures { result.now ≡ self.now.addresses }
+    {
+        &self.addresses
+    }
+
     /// How many sites there are.
     pub(crate) fn sites(&self) -> u8
-        ensures { result ≡ length self.now.addresses }
+        ensures count { result ≡ length self.now.addresses }
+        ensures ranges { IsConfig self.now }
     {
         self.addresses.as_slice().len() as u8
     }

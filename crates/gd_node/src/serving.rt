@@ -1,11 +1,19 @@
 //! A node's run.
 
-ghost use Rattle.std.specs.Prelude.{◌≡◌, ◌×◌};
+ghost use Rattle.std.specs.Prelude.{◌≡◌, ℕ, [], IfOk};
+ghost use Rattle.gd_dialogue.specs.Answering.{IsDialogueEnd};
+ghost use Rattle.gd_effects.specs.Done.{Does};
 ghost use Rattle.gd_effects.specs.Endings.{EndsAs};
 ghost use Rattle.gd_effects.specs.Outside.{IsTold, outside};
-ghost use Rattle.gd_node.specs.Serving.{IsNamedBy, IsNodeEnd, served, served_of_part};
+ghost use Rattle.gd_effects.specs.Runs.{RunsAs};
+ghost use Rattle.gd_node.specs.Meeting.{HasLog};
+ghost use Rattle.gd_node.specs.Serving.{HasNameBy, IsNamedBy, IsNodeEnd, begun, begun_site};
+ghost use Rattle.gd_node.specs.Serving.{served, served_of_part};
+ghost use Rattle.gd_outside.specs.Links.{StaysOpen};
+ghost use Rattle.gd_outside.specs.Seen.{SeenSource, SeenLink};
 ghost use Rattle.gd_outside.specs.Told.{told};
 ghost use Rattle.gd_reference.specs.NodeRun.{end_after, node_lines};
+ghost use Rattle.gd_reference.specs.SlowSite.{journal_header};
 
 use crate::config::Config;
 use crate::journalling::start_log;
@@ -56,7 +64,7 @@ pub fn serve<S: Source, K: Sink, J: Journal, N: Link, L: Ledger>(
     ensures untouched { result ≡ Status.LinkFault → (S.seen input.new ≡ S.seen input.old)
         × (K.seen output.new ≡ K.seen output.old) × (J.seen journal.new ≡ J.seen journal.old) }
 {
-    let Ok(()) = link.open(&config.addresses, config.me) else {
+    let Ok(()) = link.open(config.addresses(), config.me()) else {
         return Status::LinkFault;
     };
     ended(serve_opened(alloc, config, input, output, journal, link, steps))
@@ -71,25 +79,50 @@ fn serve_opened<S: Source, K: Sink, J: Journal, N: Link, L: Ledger>(
     journal: &mut J,
     link: &mut N,
     steps: &mut Steps<L>,
-) -> Result<Status, End> {
-    let site = Site::new(alloc, config.me, config.sites(), config.session)?;
+) -> Result<Status, End>
+    ensures runs { RunsAs (served config.now (told (N.seen link.old).entries) (told (S.seen input.old).left))
+        (served_of_part config.now (told (N.seen link.old).entries))
+        (end_after (node_lines (told (S.seen input.old).left))) result
+        (outside (S.seen input.old) (K.seen output.old) (J.seen journal.old) (N.seen link.old) steps.old)
+        (outside (S.seen input.new) (K.seen output.new) (J.seen journal.new) (N.seen link.new) steps.new) }
+    ensures kinds { IfOk result IsDialogueEnd }
+    ensures name { HasNameBy config.now result (K.seen output.old) (K.seen output.new)
+        (J.seen journal.new) }
+    ensures opened { StaysOpen (N.seen link.old) (N.seen link.new) }
+{
+    let site = Site::new(alloc, config.me(), config.sites(), config.session())?;
     let log = begin(config, output, journal)?;
     let backs = TakeBack::new();
     let mut member = Member { site, backs, log };
     answer_lines(&mut member, LINES, input, output, journal, link, steps)
 }
 
-/// Begins the log, and prints that the node is ready.
+/// Begins the log, and prints that the node is ready. `JournalFault` and `WriteFault` where a call on the journal or the output
+/// failed; no other end comes.
 fn begin<K: Sink, J: Journal>(
     config: &Config,
     output: &mut K,
     journal: &mut J,
-) -> Result<LogWriter, End> {
+) -> Result<LogWriter, End>
+    ensures does { (input : SeenSource) (link : SeenLink) (steps : ℕ) → Does result
+        (outside input (K.seen output.old) (J.seen journal.old) link steps) (begun config.now)
+        (outside input (K.seen output.new) (J.seen journal.new) link steps) }
+    ensures log { IfOk result
+        (λ log. HasLog (journal_header (begun_site config.now)) [] log (J.seen journal.new)) }
+    ensures name { HasNameBy config.now result (K.seen output.old) (K.seen output.new)
+        (J.seen journal.new) }
+{
     let n = config.sites();
-    let Some(header) = LogHeader::new(Version::Two, config.session, config.me, n) else {
+    let Some(header) = LogHeader::new(Version::Two, config.session(), config.me(), n) else {
         unreachable!()
     };
-    let log = start_log(journal, config.journal.as_str(), &header)?;
-    say(&Reply::Ready { site: config.me, n }, output)?;
+    let log = start_log(journal, config.journal(), &header)?;
+    say(
+        &Reply::Ready {
+            site: config.me(),
+            n,
+        },
+        output,
+    )?;
     Ok(log)
 }
