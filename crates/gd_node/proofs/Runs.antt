@@ -1,5 +1,5 @@
 -- A node's run, from its parts.
-use Rattle.std.proofs.Common.{◌≡◌, ℕ, List, [], ◌∷◌, length, refl, sym, ◌∙◌, ap, ap₂, arith}
+use Rattle.std.proofs.Common.{◌≡◌, ℕ, List, [], ◌∷◌, length, refl, sym, ◌∙◌, ap, arith}
 use Rattle.std.specs.Prelude.{IsErrAnd, Option, Result, Ok, Err}
 use Rattle.gd_base.specs.declared.version.Version.TheVariants.{Two}
 use Rattle.gd_dialogue.specs.Answering.{cut_effects, input_effects, input_end}
@@ -23,17 +23,15 @@ use Rattle.gd_outside.specs.declared.end.End.TheVariants as early
 use Rattle.gd_outside.specs.declared.status.Status.{Status}
 use Rattle.gd_reference.specs.NodeRun.{end_after, most_node_lines, node_lines, node_manner}
 use Rattle.gd_reference.specs.Said.{says}
-use Rattle.gd_reference.specs.SlowSite.{journal_header}
 
 -- ---- the beginning
 
 -- what is owed for it, in the words of its header and its reply
-pub begun_as : (c : ConfigValue) {header : Header} {session site me n : ℕ} → header ≡ record { version = Two; session = session; site = site; n = n }
-    → session ≡ c.session → site ≡ c.me → me ≡ c.me → n ≡ length c.addresses → begun c ≡ Head (header_bytes drawings header) ∷ says (reply.Ready me n) ∷ []
-begun_as c {header} {me = me} {n = n} is of_session of_site of_me of_n =
-    let same : journal_header (begun_site c) ≡ header = sym (is ∙ (λ i. record { version = Two; session = of_session i; site = of_site i; n = of_n i })) in
-    ap (λ h. Head (header_bytes drawings h) ∷ says (reply.Ready c.me (length c.addresses)) ∷ []) same
-    ∙ ap₂ (λ m k. Head (header_bytes drawings header) ∷ says (reply.Ready m k) ∷ []) (sym of_me) (sym of_n)
+pub begun_as : (c : ConfigValue) {header : Header} {session me n : ℕ} → header ≡ record { version = Two; session = session; site = me; n = n }
+    → session ≡ c.session → me ≡ c.me → n ≡ length c.addresses → begun c ≡ Head (header_bytes drawings header) ∷ says (reply.Ready me n) ∷ []
+begun_as c {header} {session} {me} {n} is of_session of_me of_n =
+    sym (ap (λ h. Head (header_bytes drawings h) ∷ says (reply.Ready me n) ∷ []) is
+    ∙ (λ i. Head (header_bytes drawings (record { version = Two; session = of_session i; site = of_me i; n = of_n i })) ∷ says (reply.Ready (of_me i) (of_n i)) ∷ []))
 
 -- ---- an early end before the first line
 

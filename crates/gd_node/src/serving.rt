@@ -80,7 +80,8 @@ fn serve_opened<S: Source, K: Sink, J: Journal, N: Link, L: Ledger>(
     link: &mut N,
     steps: &mut Steps<L>,
 ) -> Result<Status, End>
-    ensures runs { RunsAs (served config.now (told (N.seen link.old).entries) (told (S.seen input.old).left))
+    ensures runs { RunsAs
+        (served config.now (told (N.seen link.old).entries) (told (S.seen input.old).left))
         (served_of_part config.now (told (N.seen link.old).entries))
         (end_after (node_lines (told (S.seen input.old).left))) result
         (outside (S.seen input.old) (K.seen output.old) (J.seen journal.old) (N.seen link.old) steps.old)
@@ -112,17 +113,12 @@ fn begin<K: Sink, J: Journal>(
     ensures name { HasNameBy config.now result (K.seen output.old) (K.seen output.new)
         (J.seen journal.new) }
 {
+    let me = config.me();
     let n = config.sites();
-    let Some(header) = LogHeader::new(Version::Two, config.session(), config.me(), n) else {
+    let Some(header) = LogHeader::new(Version::Two, config.session(), me, n) else {
         unreachable!()
     };
     let log = start_log(journal, config.journal(), &header)?;
-    say(
-        &Reply::Ready {
-            site: config.me(),
-            n,
-        },
-        output,
-    )?;
+    say(&Reply::Ready { site: me, n }, output)?;
     Ok(log)
 }
