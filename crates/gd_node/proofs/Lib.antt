@@ -12,5 +12,6 @@ mod Frames
 mod Entries
 mod Receiving
 mod Edits
+mod Commands
 mod Names
 mod Runs

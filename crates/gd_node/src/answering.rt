@@ -1,6 +1,7 @@
 //! The answers to lines.
 
 ghost use Rattle.std.specs.Prelude.{◌≡◌};
+ghost use Rattle.gd_lines.specs.Refusals.{line_refusal};
 ghost use Rattle.gd_node.specs.Meeting.{Meets};
 ghost use Rattle.gd_reference.specs.NodeRun.{node_manner};
 ghost use Rattle.gd_reference.specs.SlowSite.{SlowSite};
