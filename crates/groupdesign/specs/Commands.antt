@@ -1,5 +1,5 @@
 -- What holds of the runs of one command alone.
-use Rattle.std.specs.Prelude.{◌≡◌, ℕ, List, ◌⊎◌, Option, Some, None, length}
+use Rattle.std.specs.Prelude.{◌≡◌, ℕ, List, Option, Some, None, length}
 use Rattle.gd_effects.specs.Outside.{Outside}
 use Rattle.gd_grammar.specs.Drawings.{logged}
 use Rattle.gd_node.specs.Serving.{IsNamedBy, IsNodeEnd}
@@ -7,7 +7,7 @@ use Rattle.gd_options.specs.declared.command.Command.{Command}
 use Rattle.gd_options.specs.declared.command.Command.TheVariants.{Node}
 use Rattle.gd_outside.specs.Seen.{Entry}
 use Rattle.gd_outside.specs.declared.status.Status.{Status}
-use Rattle.gd_outside.specs.declared.status.Status.TheVariants.{Done, Usage, BadLog, ReadFault, WriteFault, JournalFault, LinkFault, NoMemory, LineLimit}
+use Rattle.gd_outside.specs.declared.status.Status.TheVariants.{Done, Usage, BadLog, ReadFault, WriteFault, LinkFault, NoMemory}
 use Rattle.gd_reference.specs.NodeRun.{node_after, node_lines}
 use Rattle.gd_reference.specs.SlowSite.{journal_header, new_site}
 

@@ -1,10 +1,9 @@
 //! The program: hands the command line, the standard streams, a file and a socket to `run`.
 #![tactic(auto)]
 
-ghost use Rattle.std.specs.Prelude.{◌≡◌, ◌<◌, ◌⊎◌, None};
+ghost use Rattle.std.specs.Prelude.{◌≡◌, ◌<◌};
 ghost use Rattle.std.specs.Process.{exit_status};
 ghost use Rattle.gd_effects.specs.Outside.{outside};
-ghost use Rattle.gd_outside.specs.Causes.{Rose};
 ghost use Rattle.gd_outside.specs.Statuses.{status_number};
 ghost use Rattle.groupdesign.specs.Exits.{Exits, words_status};
 
@@ -66,8 +65,10 @@ fn ended<S: Source, K: Sink, J: Journal, N: Link, L: Ledger>(
 ) -> ExitCode
     // The exit code is the number of the status of a run with the headline's sentences.
     ensures { Exits words.now (exit_status result)
-        (outside (S.seen input.old) (K.seen output.old) (J.seen journal.old) (N.seen link.old) steps.old)
-        (outside (S.seen input.new) (K.seen output.new) (J.seen journal.new) (N.seen link.new) steps.new) }
+        (outside (S.seen input.old) (K.seen output.old) (J.seen journal.old)
+        (N.seen link.old) steps.old)
+        (outside (S.seen input.new) (K.seen output.new) (J.seen journal.new)
+        (N.seen link.new) steps.new) }
 {
     exit(run(alloc, words, input, output, journal, link, steps))
 }

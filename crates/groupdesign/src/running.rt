@@ -1,10 +1,11 @@
 //! `run`: carries out the command that the words ask for, over any input, output, journal and link.
 
-ghost use Rattle.std.specs.Prelude.{◌≡◌, ◌∷◌, [], Err, Some};
-ghost use Rattle.gd_effects.specs.Effects.{Print};
+ghost use Rattle.std.specs.Prelude.{ℕ, None, Some};
 ghost use Rattle.gd_effects.specs.Outside.{outside};
-ghost use Rattle.gd_effects.specs.Prints.{Prints};
-ghost use Rattle.gd_lines.specs.Replies.{usage_line};
+ghost use Rattle.gd_options.specs.InRange.{IsInRange};
+ghost use Rattle.gd_outside.specs.Seen.{SeenSource, SeenJournal, SeenLink};
+ghost use Rattle.gd_run.specs.Runs.{built};
+ghost use Rattle.groupdesign.specs.Carrying.{Carried};
 ghost use Rattle.groupdesign.specs.Headline.{Headline};
 
 use gd_base::Steps;
@@ -12,7 +13,7 @@ use gd_commands::{Command, CommandFault, read_command};
 use gd_effects::{print, status_of};
 use gd_log::{replay, upgrade};
 use gd_node::{Config, serve};
-use gd_outside::{End, Journal, Link, Sink, Source, Status, WordList};
+use gd_outside::{Journal, Link, Sink, Source, Status, WordList};
 use gd_words::{AsText, Reply};
 use std::alloc::Global;
 use std::sync::ledger::Ledger;
@@ -33,13 +34,15 @@ pub fn run<S: Source, K: Sink, J: Journal, N: Link, L: Ledger>(
     ensures { Headline (record {
       words = words.now;
       status = result;
-      before = outside (S.seen input.old) (K.seen output.old) (J.seen journal.old) (N.seen link.old) steps.old;
-      after = outside (S.seen input.new) (K.seen output.new) (J.seen journal.new) (N.seen link.new) steps.new;
+      before = outside (S.seen input.old) (K.seen output.old) (J.seen journal.old)
+          (N.seen link.old) steps.old;
+      after = outside (S.seen input.new) (K.seen output.new) (J.seen journal.new)
+          (N.seen link.new) steps.new;
     }) }
 {
     match read_command(alloc, words) {
         Ok(command) => carry_out(alloc, command, input, output, journal, link, steps),
-        Err(CommandFault::Usage) => status_of(refuse_words(output), Status::Usage),
+        Err(CommandFault::Usage) => refuse(output),
         Err(CommandFault::NoMemory) => Status::NoMemory,
     }
 }
@@ -53,7 +56,14 @@ fn carry_out<S: Source, K: Sink, J: Journal, N: Link, L: Ledger>(
     journal: &mut J,
     link: &mut N,
     steps: &mut Steps<L>,
-) -> Status {
+) -> Status
+    requires { IsInRange command }
+    ensures { Carried (built (Some command)) result
+        (outside (S.seen input.old) (K.seen output.old) (J.seen journal.old)
+        (N.seen link.old) steps.old)
+        (outside (S.seen input.new) (K.seen output.new) (J.seen journal.new)
+        (N.seen link.new) steps.new) }
+{
     match command {
         Command::Replay { format, counts } => {
             replay(alloc, input, output, format, counts, steps)
@@ -68,17 +78,16 @@ fn carry_out<S: Source, K: Sink, J: Journal, N: Link, L: Ledger>(
             let config = Config::new(session, site, path, addresses);
             serve(alloc, &config, input, output, journal, link, steps)
         }
-        Command::Rehearse { .. } | Command::Churn { .. } => {
-            status_of(refuse_words(output), Status::Usage)
-        }
+        Command::Rehearse { .. } | Command::Churn { .. } => refuse(output),
     }
 }
 
-/// Prints how the program is called. No early end comes but `WriteFault`.
-fn refuse_words<K: Sink>(output: &mut K) -> Result<(), End>
-    ensures does { Prints (K.seen output.old) (Print usage_line ∷ []) result (K.seen output.new) }
-    ensures end { (e : End) → result ≡ Err e → e ≡ End.WriteFault }
+/// Prints how the program is called: `Usage`, or `WriteFault` where a write failed.
+fn refuse<K: Sink>(output: &mut K) -> Status
+    ensures { (input : SeenSource) (journal : SeenJournal) (link : SeenLink) (steps : ℕ)
+        → Carried None result (outside input (K.seen output.old) journal link steps)
+        (outside input (K.seen output.new) journal link steps) }
 {
     let line = Reply::Usage.text();
-    print(output, line.as_slice())
+    status_of(print(output, line.as_slice()), Status::Usage)
 }

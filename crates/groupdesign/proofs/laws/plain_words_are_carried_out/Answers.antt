@@ -1,15 +1,23 @@
-use Rattle.gd_commands.specs.Plain.Plain.{Replay, Upgrade}
-use Rattle.groupdesign.proofs.RunLemmas.{plain-owes}
+use Rattle.std.proofs.Common.{ap}
+use Rattle.gd_commands.proofs.PlainForms.{plain_is_asked}
+use Rattle.gd_commands.specs.Plain.Plain.{Node, Replay, Upgrade}
+use Rattle.gd_run.specs.Runs.{built, effects_of, end_of}
 use Rattle.groupdesign.proofs.laws.plain_words_are_carried_out.Goals as goal
 
 pub returns-clause-effects : goal.returns-clause-effects
-returns-clause-effects c = λ p input is. (plain-owes p input is).0
+returns-clause-effects c = λ p input entries is. ap (λ k. effects_of (built k) input entries) (plain_is_asked p is)
 
 pub returns-clause-end : goal.returns-clause-end
-returns-clause-end c = λ p input is. (plain-owes p input is).1
+returns-clause-end c = λ p input is. ap (λ k. end_of (built k) input) (plain_is_asked p is)
 
 pub returns-clause-replay : goal.returns-clause-replay
-returns-clause-replay c = λ format counts input. (plain-owes (Replay format counts) input tt).0
+returns-clause-replay c = λ format counts input entries. returns-clause-effects c (Replay format counts) input entries tt
 
 pub returns-clause-upgrade : goal.returns-clause-upgrade
-returns-clause-upgrade c = λ input. (plain-owes Upgrade input tt).0
+returns-clause-upgrade c = λ input entries. returns-clause-effects c Upgrade input entries tt
+
+pub returns-clause-node : goal.returns-clause-node
+returns-clause-node c = λ session site journal addresses input entries is. returns-clause-effects c (Node session site journal addresses) input entries is
+
+pub returns-clause-node_end : goal.returns-clause-node_end
+returns-clause-node_end c = λ session site journal addresses input is. returns-clause-end c (Node session site journal addresses) input is

@@ -1,0 +1,197 @@
+-- What the runs of the commands leave, and that the headline follows from it.
+use Rattle.std.proofs.Common.{◌≡◌, ℕ, Bool, List, [], ◌∷◌, ◌⊎◌, inl, inr, refl, sym, ◌∙◌, ap, subst, arith}
+use Rattle.std.specs.Prelude.{length, Option, Some, None, Result, Ok, Err, IsSome, ⊤}
+use Rattle.gd_commands.proofs.PlainForms.{plain_is_asked}
+use Rattle.gd_commands.specs.Commands.{command_of}
+use Rattle.gd_commands.specs.Plain.{plain_command}
+use Rattle.gd_effects.proofs.Doing.{did_nothing, none_fell, was_told}
+use Rattle.gd_effects.proofs.RunEnds.{ends_most, ends_printed, ends_when}
+use Rattle.gd_effects.specs.Done.{Journals}
+use Rattle.gd_effects.specs.Effects.{Print}
+use Rattle.gd_effects.specs.Endings.{EndsAs, IfUnopened, no_effects, early_status, status_of}
+use Rattle.gd_effects.specs.Outside.{IsTold, Outside, outside}
+use Rattle.gd_effects.specs.Prints.{Prints}
+use Rattle.gd_lines.specs.Replies.{usage_line}
+use Rattle.gd_log.specs.Ends.{IsLogEnd}
+use Rattle.gd_node.specs.Configs.{ConfigValue}
+use Rattle.gd_node.specs.Serving.{IsNamedBy, IsNodeEnd, served, served_of_part}
+use Rattle.gd_options.specs.declared.command.Command.{Command}
+use Rattle.gd_options.specs.declared.command.Command.TheVariants.{Replay, Upgrade, Node, Rehearse, Churn}
+use Rattle.gd_options.specs.declared.format.Format.{Format}
+use Rattle.gd_outside.specs.Seen.{Entry, SeenSource, SeenSink, SeenJournal, SeenLink}
+use Rattle.gd_outside.specs.Told.{told}
+use Rattle.gd_outside.specs.declared.end.End.{End}
+use Rattle.gd_outside.specs.declared.end.End.TheVariants as early
+use Rattle.gd_outside.specs.declared.status.Status.{Status}
+use Rattle.gd_outside.specs.declared.status.Status.TheVariants.{Usage, ReadFault, WriteFault, JournalFault, LinkFault, NoMemory}
+use Rattle.gd_protocol.proofs.NodeJournals.{journal_of_node}
+use Rattle.gd_reference.specs.NodeRun.{end_after, node_lines}
+use Rattle.gd_reference.specs.SlowRun.{ended_by, replayed, upgraded_log}
+use Rattle.gd_run.specs.Runs.{built, cut_of, effects_of}
+use Rattle.groupdesign.proofs.Sentences.{completes, did_whole, left_at, unopened_at}
+use Rattle.groupdesign.specs.Carrying.{Carried}
+use Rattle.groupdesign.specs.Commands.{IsEnd, IsLogOf, IsReaderEnd, IsSilentEnd, Named, OpensFirst, Silent, Untouched}
+use Rattle.groupdesign.specs.Headline.{Headline}
+use Rattle.groupdesign.specs.Runs.{Run, asked, asked_of}
+
+-- a node's header begins its journal anew, so nothing counts that stood in it
+log_of : (asked : Option Command) (input : List ℕ) (entries : List Entry) (old new : Option (List ℕ))
+    → Journals old (effects_of asked input entries) new → IsSome new → IsLogOf asked input entries (told new)
+log_of (Some (Node session site journal addresses)) input entries old new h some =
+    h.now some ∙ journal_of_node (record { me = site; sites = length addresses; session = session; entries = entries; lines = node_lines input })
+log_of other input entries old new h some = tt
+
+-- a command that is built isn't refused
+not_refused : (asked : Option Command) → IsSome asked → IsEnd asked Usage → ⊥
+not_refused None some end = let e = some in cc
+not_refused (Some (Node session site journal addresses)) some end = end
+not_refused (Some other) some end = end
+
+pub headline : (run : Run) → Carried (asked run) run.status run.before run.after → Headline run
+headline run h = record {
+  status = λ w. (did_whole run.status h.ends w.0 w.1).1;
+  output = λ w. (did_whole run.status h.ends w.0 w.1).0.output;
+  journal = λ w. (did_whole run.status h.ends w.0 w.1).0.journal;
+  log = λ w some. log_of (asked run) _ _ _ _ (did_whole run.status h.ends w.0 w.1).0.journal some;
+  frames = λ w. (did_whole run.status h.ends w.0 w.1).0.tried;
+  steps = λ w. (did_whole run.status h.ends w.0 w.1).0.steps;
+  memory = λ t is. left_at h.ends NoMemory is t;
+  read = λ t is. (left_at h.ends ReadFault is t).1;
+  write = λ t is. left_at h.ends WriteFault is t;
+  torn = λ t is. left_at h.ends JournalFault is t;
+  unopened = unopened_at h.ends;
+  opens_first = h.opens_first;
+  most_steps = λ t. ends_most run.status _ h.ends t;
+  cause = h.ends.cause;
+  counts = h.ends.counts;
+  complete = completes run.status h.ends;
+  ends = h.kind;
+  plain = λ plain is words some usage.
+      let same : asked run ≡ built (Some (plain_command plain)) = ap asked_of words ∙ ap built (plain_is_asked plain is) in
+      not_refused (asked run) (subst IsSome (sym same) some) (subst (IsEnd (asked run)) usage h.kind);
+  untouched = h.untouched;
+  silent = h.silent;
+  named = h.named;
+}
+
+pub headline_for : (run : Run) {known : Option Command} → command_of run.words ≡ known → Carried (built known) run.status run.before run.after → Headline run
+headline_for run e h = headline run (subst (λ k. Carried (built k) run.status run.before run.after) (sym e) h)
+
+-- ---- memory ran out before anything was done
+
+unmoved : (asked : Option Command) (o : Outside) → IsEnd asked NoMemory × Untouched asked o o × Silent asked NoMemory o o × Named asked NoMemory o o
+unmoved None o = (tt, (refl, refl, refl, refl), (λ s. refl, λ s. refl), tt)
+unmoved (Some (Node session site journal addresses)) o = (tt, tt, tt, inl refl)
+unmoved (Some other) o = (tt, (refl, refl), (λ s. refl, λ s. refl), tt)
+
+pub carried_not : (asked : Option Command) (o : Outside) → Carried asked NoMemory o o
+carried_not asked o =
+    let same = unmoved asked o in
+    record {
+      ends = record { counts = none_fell o; cause = tt; unopened = tt; was = was_told o; leaves = λ t. record { front = []; back = _; split = refl; did = did_nothing o } };
+      kind = same.0;
+      untouched = same.1;
+      silent = same.2;
+      named = same.3;
+      opens_first = tt;
+    }
+
+-- ---- it was said how the program is called
+
+-- its status isn't one of memory, a read or the link
+abbrev IsRefusal : Outside → Outside → Status → Type 0
+IsRefusal a b s = IsEnd None s × ¬ IsSilentEnd s × OpensFirst s a b
+
+is_refusal : (a b : Outside) (r : Result ⊤ End) → ((e : End) → r ≡ Err e → e ≡ early.WriteFault) → IsRefusal a b (status_of r Usage)
+is_refusal a b (Ok x) only = (tt, λ s. s, tt)
+is_refusal a b (Err e) only = subst (λ z. IsRefusal a b (early_status z)) (sym (only e refl)) (tt, λ s. s, tt)
+
+pub carried_refused : {old new : SeenSink} (line : List ℕ) (r : Result ⊤ End) → line ≡ usage_line → ((e : End) → r ≡ Err e → e ≡ early.WriteFault) → Prints old (Print line ∷ []) r new
+    → (input : SeenSource) (journal : SeenJournal) (link : SeenLink) (steps : ℕ) → Carried None (status_of r Usage) (outside input old journal link steps) (outside input new journal link steps)
+carried_refused {old} {new} line r is only p input journal link steps =
+    let kind = is_refusal (outside input old journal link steps) (outside input new journal link steps) r only in
+    record {
+      ends = ends_when (λ t. t) (λ t. (ap (λ (l : List ℕ). Print l ∷ []) (sym is), refl))
+          (ends_printed (cut_of None (told link.entries)) (omega arith) (λ t. t) r Usage tt (λ input journal link. p input journal link steps));
+      kind = kind.0;
+      untouched = (refl, refl, refl, refl);
+      silent = (λ s. absurd (kind.1 s), λ s. refl);
+      named = tt;
+      opens_first = kind.2;
+    }
+
+-- ---- a log was read
+
+silent_by : (s : Status) → IsSilentEnd s → (s ≡ ReadFault) ⊎ (s ≡ NoMemory)
+silent_by ReadFault silent = inl refl
+silent_by NoMemory silent = inr refl
+silent_by other silent = absurd silent
+
+opens_none : (a b : Outside) (s : Status) → IsReaderEnd s → OpensFirst s a b
+opens_none a b LinkFault kind = absurd kind
+opens_none a b other kind = tt
+
+module _ {input input' : SeenSource} {output output' : SeenSink} (journal : SeenJournal) (link : SeenLink) (s : Status) (kind : IsLogEnd s)
+    (silent : (s ≡ ReadFault) ⊎ (s ≡ NoMemory) → output' ≡ output) where
+  pub carried_replay : {steps steps' : ℕ} (format : Format) (counts : Bool) → (s ≡ ReadFault → steps' ≡ steps)
+      → EndsAs (IsSome input'.left) (replayed format counts (told input.left)) no_effects (ended_by (told input.left)) s (outside input output journal link steps) (outside input' output' journal link steps')
+      → Carried (Some (Replay format counts)) s (outside input output journal link steps) (outside input' output' journal link steps')
+  carried_replay format counts unread ends = record {
+    ends = ends;
+    kind = kind;
+    untouched = (refl, refl);
+    silent = (λ q. silent (silent_by s q), unread);
+    named = tt;
+    opens_first = opens_none _ _ s kind;
+  }
+
+  pub carried_upgrade : {steps : ℕ} → EndsAs (IsSome input'.left) (upgraded_log (told input.left)) no_effects (ended_by (told input.left)) s (outside input output journal link steps) (outside input' output' journal link steps)
+      → Carried (Some Upgrade) s (outside input output journal link steps) (outside input' output' journal link steps)
+  carried_upgrade ends = record {
+    ends = ends;
+    kind = kind;
+    untouched = (refl, refl);
+    silent = (λ q. silent (silent_by s q), λ q. refl);
+    named = tt;
+    opens_first = opens_none _ _ s kind;
+  }
+
+-- ---- a node ran
+
+abbrev node_of : ConfigValue → Command
+node_of c = Node c.session c.me c.journal c.addresses
+
+module _ (a b : Outside) where
+  -- where the link wasn't opened, no step was taken either
+  opens_first : (s : Status) → (s ≡ LinkFault → (b.input ≡ a.input) × (b.output ≡ a.output) × (b.journal ≡ a.journal)) → IfUnopened s a b → OpensFirst s a b
+  opens_first LinkFault same h = let kept = same refl in (kept.0, kept.1, kept.2, omega (arith, h.did.steps))
+  opens_first other same h = tt
+
+  pub carried_node : (c : ConfigValue) (s : Status) → IsNodeEnd s → IsNamedBy c s a.output b.output b.journal b.link
+      → (s ≡ LinkFault → (b.input ≡ a.input) × (b.output ≡ a.output) × (b.journal ≡ a.journal))
+      → EndsAs (IsTold b) (served c (told a.link.entries) (told a.input.left)) (served_of_part c (told a.link.entries)) (end_after (node_lines (told a.input.left))) s a b
+      → Carried (Some (node_of c)) s a b
+  carried_node c s kind named untouched ends = record {
+    ends = ends;
+    kind = kind;
+    untouched = tt;
+    silent = tt;
+    named = named;
+    opens_first = opens_first s untouched ends.unopened;
+  }
+
+-- ---- by the command
+
+-- a command in other words
+pub carried_as : {command known : Command} {s : Status} {a b : Outside} → command ≡ known → Carried (built (Some known)) s a b → Carried (built (Some command)) s a b
+carried_as {s = s} {a = a} {b = b} e h = subst (λ (k : Command). Carried (built (Some k)) s a b) (sym e) h
+
+-- the node of a config
+pub named_node : {c : ConfigValue} {command : Command} (session site : ℕ) (journal : List ℕ) (addresses : List (List ℕ)) → command ≡ Node session site journal addresses
+    → c ≡ record { session = session; me = site; journal = journal; addresses = addresses } → command ≡ node_of c
+named_node session site journal addresses e same = e ∙ sym (ap node_of same)
+
+-- the commands that aren't built
+pub unbuilt : {command : Command} → ((sites : ℕ) × (command ≡ Rehearse sites)) ⊎ ((seed : ℕ) × (steps : ℕ) × (command ≡ Churn seed steps)) → built (Some command) ≡ None
+unbuilt (inl (sites, e)) = ap (λ c. built (Some c)) e
+unbuilt (inr (seed, steps, e)) = ap (λ c. built (Some c)) e

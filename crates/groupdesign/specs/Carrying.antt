@@ -1,0 +1,21 @@
+-- What is left where a command was carried out that is built, or where it was said how the program is called: from this the
+-- headline follows.
+use Rattle.std.specs.Prelude.{Option}
+use Rattle.gd_effects.specs.Endings.{EndsAs}
+use Rattle.gd_effects.specs.Outside.{Outside}
+use Rattle.gd_options.specs.declared.command.Command.{Command}
+use Rattle.gd_outside.specs.Told.{told}
+use Rattle.gd_outside.specs.declared.status.Status.{Status}
+use Rattle.gd_run.specs.Runs.{cut_of, effects_of, end_of}
+use Rattle.groupdesign.specs.Commands.{IsEnd, Named, OpensFirst, Silent, Untouched}
+use Rattle.groupdesign.specs.Runs.{IsToldFor}
+
+pub record Carried (asked : Option Command) (status : Status) (before after : Outside) : Type 0 where
+  -- what was done is what is owed, and so is the status, where nothing cuts the run short; a fault has its cause
+  pub ends : EndsAs (IsToldFor asked after) (effects_of asked (told before.input.left) (told before.link.entries))
+      (cut_of asked (told before.link.entries)) (end_of asked (told before.input.left)) status before after
+  pub kind : IsEnd asked status
+  pub untouched : Untouched asked before after
+  pub silent : Silent asked status before after
+  pub named : Named asked status before after
+  pub opens_first : OpensFirst status before after
