@@ -1,5 +1,5 @@
 -- A new own note, and what is said of it.
-use Rattle.std.proofs.Common.{◌≡◌, ℕ, ◌+◌, Bool, true, false, cond, nat_le, [], ◌∷◌, refl, sym, ◌∙◌, ap, List}
+use Rattle.std.proofs.Common.{◌≡◌, ℕ, ◌+◌, Bool, true, false, cond, nat_le, List, [], ◌∷◌, refl, sym, ◌∙◌, ap}
 use Rattle.std.proofs.lemmas.Bool.{cond_both}
 use Rattle.std.specs.Prelude.{Option, Result, Ok, Err}
 use Rattle.gd_base.specs.Stamps.{Stamp}

@@ -21,7 +21,8 @@ use gd_site::{NoteEnd, Site};
 use gd_view::write_text;
 use gd_words::Reply;
 
-/// Gives the own note a new number and this name.
+/// Gives the own note a new number and this name, and prints the number, or that none is left. `WriteFault` where a write
+/// failed.
 pub(crate) fn take_name<K: Sink>(member: &mut Member, name: Name, output: &mut K) -> Result<(), End>
     ensures { (journal : SeenJournal) (link : SeenLink) (steps : ℕ)
         → Carries (for_line (Ok (command.Name name))) result
@@ -31,7 +32,7 @@ pub(crate) fn take_name<K: Sink>(member: &mut Member, name: Name, output: &mut K
     say(&noted_reply(member.site.set_name(name)), output)
 }
 
-/// Gives the own note a new number and this focus.
+/// The same with this focus.
 pub(crate) fn take_focus<K: Sink>(
     member: &mut Member,
     focus: Option<Stamp>,
@@ -57,7 +58,7 @@ fn noted_reply(noted: Result<u16, NoteEnd>) -> Reply
     }
 }
 
-/// Prints the text of the drawing.
+/// Prints the text of the drawing. `NoMemory` where memory ran out, and `WriteFault` where a write failed.
 pub(crate) fn show<K: Sink>(site: &Site, output: &mut K) -> Result<(), End>
     ensures { Tells site.now command.Show (K.seen output.old) result (K.seen output.new) }
 {
@@ -65,7 +66,7 @@ pub(crate) fn show<K: Sink>(site: &Site, output: &mut K) -> Result<(), End>
     write_text(&picture, output)
 }
 
-/// Prints where the site stands.
+/// Prints where the site stands. `WriteFault` where a write failed.
 pub(crate) fn tell_status<K: Sink>(site: &Site, output: &mut K) -> Result<(), End>
     ensures { Tells site.now command.Status (K.seen output.old) result (K.seen output.new) }
 {
@@ -73,7 +74,7 @@ pub(crate) fn tell_status<K: Sink>(site: &Site, output: &mut K) -> Result<(), En
     say(&Reply::Status { status }, output)
 }
 
-/// Prints the notes of all sites that have made one, and how many these are.
+/// Prints the notes of all sites that have made one, and how many these are. `WriteFault` where a write failed.
 pub(crate) fn tell_who<K: Sink>(site: &Site, output: &mut K) -> Result<(), End>
     ensures { Tells site.now command.Who (K.seen output.old) result (K.seen output.new) }
 {
@@ -86,7 +87,7 @@ pub(crate) fn tell_who<K: Sink>(site: &Site, output: &mut K) -> Result<(), End>
     say(&Reply::End { count }, output)
 }
 
-/// Prints the note of a site that has made one, and says whether it has.
+/// Prints the note of a site that has made one, and says whether it has. `WriteFault` where a write failed.
 fn tell_note<K: Sink>(site: &Site, number: u8, output: &mut K) -> Result<bool, End>
     requires { IsTrue (is_site site.now.peers.sites number) }
     ensures prints { (slow : SlowSite) → StandsFor slow site.now

@@ -1,13 +1,13 @@
-use Rattle.std.proofs.Common.{◌≡◌, [], ◌∷◌, refl, sym, ◌∙◌, ap}
+use Rattle.std.proofs.Common.{[], ◌∷◌, refl, sym, ◌∙◌, ap}
 use Rattle.std.specs.Prelude.{Ok, Err}
 use Rattle.gd_dialogue.proofs.Carrying.{carries_prints}
 use Rattle.gd_effects.proofs.Doing.{does_as}
-use Rattle.gd_lines.specs.declared.command.Command.{Command}
+use Rattle.gd_lines.specs.Refusals.{line_refusal}
 use Rattle.gd_lines.specs.declared.command.Command.TheVariants as command
+use Rattle.gd_lines.specs.declared.command.Command.{Command}
 use Rattle.gd_lines.specs.declared.reply.Reply.TheVariants as reply
 use Rattle.gd_node.proofs.Commands.{carries_asking, carries_command, carries_read}
 use Rattle.gd_reference.specs.Said.{says}
-use Rattle.gd_lines.specs.Refusals.{line_refusal}
 use Rattle.gd_node.proofs.answering.MemberAnswerer.answer.Goals as goal
 
 pub take_edit-requires-clause-ranged : goal.take_edit-requires-clause-ranged
