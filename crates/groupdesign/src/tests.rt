@@ -25,7 +25,9 @@ mod versions;
 
 use crate::running::run;
 use gd_base::Steps;
-use gd_outside::{Sink, Source, Status, SureSink, SureSource, Word, WordList};
+use gd_outside::{
+    Journal, Link, Sink, Source, Status, SureJournal, SureLink, SureSink, SureSource, Word, WordList,
+};
 use std::alloc::{AllocError, Global};
 use std::marker::Brand;
 use std::sync::ledger::{Blank, Ledger};
@@ -56,27 +58,44 @@ fn words_of(alloc: Global, texts: &[&str]) -> Result<WordList, AllocError> {
     Ok(words)
 }
 
-fn with_ledger<S: Source, K: Sink, L: Ledger>(
+fn with_ledger<S: Source, K: Sink, J: Journal, N: Link, L: Ledger>(
     blank: Blank,
     alloc: Global,
     words: &WordList,
     input: &mut S,
     output: &mut K,
+    journal: &mut J,
+    link: &mut N,
 ) -> Status
     requires name { blank.name ≡ L.name }
     requires parts { blank.parts ≡ L.parts }
     requires some { 0 < blank.parts }
 {
-    run(alloc, words, input, output, &mut Steps::<L>::new(blank))
+    let mut steps = Steps::<L>::new(blank);
+    run(alloc, words, input, output, journal, link, &mut steps)
 }
 
+fn ran_on<S: Source, K: Sink, J: Journal, N: Link>(
+    alloc: Global,
+    words: &WordList,
+    input: &mut S,
+    output: &mut K,
+    journal: &mut J,
+    link: &mut N,
+) -> Status {
+    with_ledger::<S, K, J, N, Brand>(Blank::new(1), alloc, words, input, output, journal, link)
+}
+
+/// The same, with a journal and a link that keep nothing.
 fn ran<S: Source, K: Sink>(
     alloc: Global,
     words: &WordList,
     input: &mut S,
     output: &mut K,
-) -> Status {
-    with_ledger::<S, K, Brand>(Blank::new(1), alloc, words, input, output)
+) -> Result<Status, AllocError> {
+    let mut journal = SureJournal::new(alloc, 0)?;
+    let mut link = SureLink::new(alloc, 0)?;
+    Ok(ran_on(alloc, words, input, output, &mut journal, &mut link))
 }
 
 /// How a run of these words over these bytes ends, and what it prints.
@@ -94,6 +113,6 @@ fn ran_in(
     let words = words_of(alloc, texts)?;
     let mut input = SureSource::new(alloc, bytes)?;
     let mut output = SureSink::new(alloc, room)?;
-    let status = ran(alloc, &words, &mut input, &mut output);
+    let status = ran(alloc, &words, &mut input, &mut output)?;
     Ok((status, output))
 }

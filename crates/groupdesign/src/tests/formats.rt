@@ -209,7 +209,7 @@ fn replayed(
     }];
     let mut input = MemorySource::new(alloc, &TIE, &reads)?;
     let mut output = MemorySink::new(alloc, ROOM, &writes)?;
-    let status = ran(alloc, &words, &mut input, &mut output);
+    let status = ran(alloc, &words, &mut input, &mut output)?;
     Ok((status, output))
 }
 

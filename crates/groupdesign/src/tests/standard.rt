@@ -65,7 +65,7 @@ fn trickled(alloc: Global, failing: usize) -> Result<(Status, SureSink), AllocEr
     let words = words_of(alloc, &["replay"])?;
     let mut input = StandardInput::new(Trickle { place: 0, failing });
     let mut output = SureSink::new(alloc, ROOM)?;
-    let status = ran(alloc, &words, &mut input, &mut output);
+    let status = ran(alloc, &words, &mut input, &mut output)?;
     Ok((status, output))
 }
 
@@ -83,7 +83,7 @@ fn sipped(alloc: Global, most: usize, is_full: bool) -> Result<(Status, Vec<u8>)
         &words,
         &mut input,
         &mut StandardOutput::new(&mut sips),
-    );
+    )?;
     Ok((status, sips.taken))
 }
 

@@ -8,7 +8,7 @@ const USAGE: &str = "usage: groupdesign COMMAND OPTIONS\n";
 // No command, no form of one, and commands that aren't built.
 #[test]
 fn other_words_are_refused(rt: HostRuntime) -> Result<(), Fail> {
-    let words: [&[&str]; 18] = [
+    let words: [&[&str]; 17] = [
         &[],
         &[""],
         &["paint"],
@@ -31,17 +31,6 @@ fn other_words_are_refused(rt: HostRuntime) -> Result<(), Fail> {
             "7",
             "--site",
             "3",
-            "--journal",
-            "j",
-            "A",
-            "B",
-        ],
-        &[
-            "node",
-            "--session",
-            "7",
-            "--site",
-            "1",
             "--journal",
             "j",
             "A",

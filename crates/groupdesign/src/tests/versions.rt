@@ -92,7 +92,7 @@ fn upgraded(alloc: Global, read: u64, write: u64) -> Result<(Status, MemorySink)
     }];
     let mut input = MemorySource::new(alloc, &TIE, &reads)?;
     let mut output = MemorySink::new(alloc, ROOM, &writes)?;
-    let status = ran(alloc, &words, &mut input, &mut output);
+    let status = ran(alloc, &words, &mut input, &mut output)?;
     Ok((status, output))
 }
 
