@@ -8,7 +8,7 @@ use gd_effects::print;
 use gd_outside::{End, Sink};
 use gd_words::{AsText, Reply};
 
-/// Prints a reply. `WriteFault` where a write failed; no other end comes.
+/// Prints a reply. `WriteFault` where a write failed.
 pub(crate) fn say<K: Sink>(reply: &Reply, output: &mut K) -> Result<(), End>
     ensures { Prints (K.seen output.old) (says reply.now ∷ []) result (K.seen output.new) }
 {
