@@ -1,32 +1,43 @@
-//! Rows worked by hand, cuts and faults, each through `run` over objects in memory; standard input and output over readers and
-//! writers of their own; late events on the history of a drawing;
-//! and how each two operations bear on each other.
+//! Rows worked by hand, cuts and faults, each through `run` over objects in memory; nodes, alone and together, over such objects
+//! too; standard input and output over readers and writers of their own; late events on the history of a drawing; and how each
+//! two operations bear on each other.
 
 ghost use Rattle.std.specs.Prelude.{◌≡◌, ◌<◌};
 
+mod altered;
+mod arrivals;
 mod changes;
 mod counting;
 mod cuts;
 mod deep;
+mod devices;
 mod documents;
 mod faults;
 mod formats;
+mod frames;
 mod groups;
 mod ids;
+mod journals;
 mod labels;
+mod limits;
 mod logs;
+mod nodes;
 mod pairs;
 mod refusing;
 mod rows;
+mod showing;
 mod standard;
 mod texts;
+mod together;
+mod typed;
 mod usage;
 mod versions;
 
 use crate::running::run;
 use gd_base::Steps;
 use gd_outside::{
-    Journal, Link, Sink, Source, Status, SureJournal, SureLink, SureSink, SureSource, Word, WordList,
+    Journal, Link, Sink, Source, Status, SureJournal, SureLink, SureSink, SureSource, Word,
+    WordList,
 };
 use std::alloc::{AllocError, Global};
 use std::marker::Brand;

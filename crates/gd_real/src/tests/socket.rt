@@ -10,6 +10,13 @@ const TRIES: u32 = 1000;
 /// Room for a datagram of the most bytes.
 const MOST: usize = 8192;
 
+/// A frame of site 2 with one event, a rect.
+const FRAME: [u8; 60] = [
+    b'G', b'D', b'O', b'F', 2, 0, 0, 0, 7, 2, 1, 0, 0, 0, 1, 0, 0, 0, 0, 0, 1, 0, 0, 0, 0, 0, 0, 0,
+    0, 0, 0, 1, 0, 0, 0, 0, 0, 1, 2, 0, 1, 1, 1, 0, 0, 0, 0, 0, 0, 0, 0, 0, 0, 0, 10, 0, 0, 0, 10,
+    0,
+];
+
 fn words_of(alloc: Global, texts: &[&str]) -> Result<WordList, AllocError> {
     let mut words = WordList::new(alloc);
     for text in texts {
@@ -49,9 +56,9 @@ fn datagrams_go_over_loopback(rt: HostRuntime) -> Result<(), Fail> {
     let [mut first, mut second] = two_sites(rt)?;
     let mut buf = [0; MOST];
     assert_eq!(rt; first.receive(&mut buf), Received::Nothing);
-    assert_eq!(rt; second.send(1, b"GDOF"), Sent::Out);
-    assert_eq!(rt; next(&mut first, &mut buf), Received::Datagram(4));
-    assert!(rt; buf.starts_with(b"GDOF"));
+    assert_eq!(rt; second.send(1, &FRAME), Sent::Out);
+    assert_eq!(rt; next(&mut first, &mut buf), Received::Datagram(FRAME.len()));
+    assert!(rt; buf.starts_with(&FRAME));
     assert_eq!(rt; first.send(2, &[7; MOST]), Sent::Out);
     assert_eq!(rt; next(&mut second, &mut buf), Received::Datagram(MOST));
     assert!(rt; buf == [7; MOST]);

@@ -1,0 +1,132 @@
+//! Nodes of session 7 over objects in memory: what is handed to one, and what became of it.
+
+use super::{ran_on, words_of};
+use gd_outside::{
+    Fail, MemoryJournal, MemoryLink, MemorySink, MemorySource, Status, Word, WordList,
+};
+use std::alloc::{AllocError, Global};
+use std::str;
+
+/// More than any of these nodes prints, and more than its journal has.
+pub const ROOM: usize = 100_000;
+
+/// More frames than any of these nodes tries.
+const FRAMES: usize = 10_000;
+
+const ADDRESSES: [&str; 3] = ["A", "B", "C"];
+
+/// What became of a node.
+#[derive(Drop)]
+pub struct Node {
+    pub status: Status,
+    pub output: MemorySink,
+    pub journal: MemoryJournal,
+    pub link: MemoryLink,
+}
+
+impl Node {
+    /// What was printed.
+    pub fn text(&self) -> &str {
+        str::from_utf8(self.output.bytes()).unwrap_or("no text")
+    }
+
+    /// Whether these frames were tried, each for that site, and no others.
+    pub fn has_tried(&self, wanted: &[(u8, &[u8])]) -> bool {
+        for (k, frame) in wanted.iter().enumerate() {
+            if self.link.tried(k) != Some(*frame) {
+                return false;
+            }
+        }
+        self.link.tried(wanted.len()).is_none()
+    }
+
+    /// How many frames were tried.
+    pub fn tries(&self) -> usize {
+        for k in 0..FRAMES {
+            if self.link.tried(k).is_none() {
+                return k;
+            }
+        }
+        FRAMES
+    }
+
+    /// The last frame that was tried for that site.
+    pub fn last_frame(&self, to: u8) -> Option<&[u8]> {
+        let mut last = None;
+        for k in 0..FRAMES {
+            let Some((site, frame)) = self.link.tried(k) else {
+                return last;
+            };
+            if site == to {
+                last = Some(frame);
+            }
+        }
+        last
+    }
+}
+
+/// The number of a site, and how many sites there are.
+pub type Seat = (u8, usize);
+
+/// The words of a node at that seat.
+pub fn node_words(alloc: Global, seat: Seat) -> Result<WordList, AllocError> {
+    let site = format!(in alloc; "{}", seat.0)?;
+    let texts = [
+        "node",
+        "--session",
+        "7",
+        "--site",
+        site.as_str(),
+        "--journal",
+        "j",
+    ];
+    let mut words = words_of(alloc, &texts)?;
+    for address in ADDRESSES.iter().take(seat.1) {
+        words.push(Word::new(alloc, address)?)?;
+    }
+    Ok(words)
+}
+
+/// A node to which these lines are typed, with that link.
+pub fn answered(
+    alloc: Global,
+    seat: Seat,
+    lines: &[u8],
+    link: MemoryLink,
+) -> Result<Node, AllocError> {
+    answered_failing(alloc, seat, lines, link, &[])
+}
+
+/// The same, where these calls on the input, the output and the journal fail.
+pub fn answered_failing(
+    alloc: Global,
+    seat: Seat,
+    lines: &[u8],
+    mut link: MemoryLink,
+    fails: &[Fail],
+) -> Result<Node, AllocError> {
+    let words = node_words(alloc, seat)?;
+    let mut input = MemorySource::new(alloc, lines, fails)?;
+    let mut output = MemorySink::new(alloc, ROOM, fails)?;
+    let mut journal = MemoryJournal::new(alloc, ROOM, fails)?;
+    let status = ran_on(
+        alloc,
+        &words,
+        &mut input,
+        &mut output,
+        &mut journal,
+        &mut link,
+    );
+    Ok(Node {
+        status,
+        output,
+        journal,
+        link,
+    })
+}
+
+/// A node that is alone, to which these lines are typed.
+pub fn alone(alloc: Global, lines: &[u8]) -> Result<Node, AllocError> {
+    let link = MemoryLink::new(alloc, ROOM, &[])?;
+    answered(alloc, (1, 1), lines, link)
+}
