@@ -3,6 +3,8 @@ use Rattle.std.specs.Prelude.{⊤}
 use Rattle.std.specs.Char.{encode_utf8}
 use Rattle.std.specs.Fmt.{digits}
 use Rattle.std.specs.Str.{chars, is_utf8}
+use Rattle.rand_core.specs.Pcg32Seed.{pcg32_seed}
+use Rattle.rand_core.specs.Steps.{u32_at, word_bytes}
 use Rattle.gd_base.specs.Stamps.{stamp_cmp}
 use Rattle.gd_base.specs.Insertions.{inserted_by}
 use Rattle.gd_grammar.specs.EventBytes as bytes
@@ -17,7 +19,7 @@ use Rattle.gd_json.specs.EventsJson.{event_json, member_json}
 use Rattle.gd_json.specs.PictureJson.{item_json}
 use Rattle.gd_lines.specs.LineWords.{behind, count_from, without_cr, word}
 use Rattle.gd_lines.specs.Lines as lines
-use Rattle.gd_lines.specs.Replies.{applied_line, arrivals_line, backdated_line, bad_frame_line, done_line, dropped_line, link_fault_line, noted_line, polled_line, ready_line, refused_line, reworked_line, status_line, status_text, who_line}
+use Rattle.gd_lines.specs.Replies.{applied_line, arrivals_line, backdated_line, bad_frame_line, churned_line, delivered_line, done_line, dropped_line, link_fault_line, mail_line, noted_line, polled_line, ready_line, refused_line, reworked_line, site_line, status_line, status_text, who_line}
 use Rattle.gd_lines.specs.ScriptLines.{at_at, deliver_at, mail_at, read_script, script_verb, send_at, site_at, site_command_at}
 use Rattle.gd_lines.specs.Text.{bad_log_line, colour_text, colours_text, end_line, head_text, hex_digit, high_digits, id_text, item_line, look_text, nibble, size_text, width_text}
 use Rattle.gd_lines.specs.WordKinds.{colour, digit, fill, focus, id, kind, label, name, natural_in, number, number_in, numeral}
@@ -34,6 +36,8 @@ use Rattle.gd_reference.specs.SlowSite.{greatest_clock, made_by, resumed}
 use Rattle.gd_reference.specs.TakeBack.{after_edit, after_undo, undo}
 use Rattle.gd_reference.specs.Tally.{tally_from}
 use Rattle.gd_reference.specs.World.{after_from, after_line, happens, with_site}
+use Rattle.gd_worlds.specs.Churn.{churned, line_for, times, with_line}
+use Rattle.gd_worlds.specs.Rehearsal.{rehearsal_lines}
 
 -- events, logs and frames
 unfoldable pub bytes_compute : ⊤
@@ -50,6 +54,11 @@ unfoldable pub sites_compute : ⊤
 unfolding stamp_cmp inserted_by covers independent splice are_apart by_id edit judged targets heard lines_of whole_lines answered end_of_lines state_after node_lines of_received received who_behind all_arrived frame_for offered offers refusal take_frame least_of_others put events_replies of_events tries_behind greatest_clock made_by resumed tally_from after_edit after_undo undo after_from after_line happens with_site
 sites_compute = tt
 
+-- rehearsals and churn
+unfoldable pub worlds_compute : ⊤
+unfolding pcg32_seed u32_at word_bytes churned_line delivered_line mail_line site_line churned line_for times with_line rehearsal_lines
+worlds_compute = tt
+
 unfoldable pub computing : ⊤
-unfolding bytes_compute lines_compute sites_compute
+unfolding bytes_compute lines_compute sites_compute worlds_compute
 computing = tt

@@ -5,3 +5,4 @@ pub mod WorkedEdits
 pub mod WorkedNodes
 pub mod WorkedBacks
 pub mod WorkedInputs
+pub mod WorkedRehearsals

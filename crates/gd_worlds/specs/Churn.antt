@@ -2,7 +2,7 @@
 --
 -- Churn is a rehearsal whose lines are drawn, and of which only numbers are printed, at its end. Each draw is the next word of
 -- 32 bits that the generator PCG32 (XSH RR) gives from the seed, modulo how many values there are. A step draws a site, and
--- then a number below 16, by which that site makes or changes an object, sends a frame, or some mail is delivered (`step_at`).
+-- then a number below 16, by which that site makes or changes an object, sends a frame, or some mail is delivered (`line_for`).
 -- An object that is changed is one of those that were made in the session so far, shown or not, in the order in which they
 -- were made. Where none was made yet the step is idle, and draws no more; so it is where there is no mail to deliver.
 --
@@ -115,8 +115,8 @@ deliver (suc mails) = do
   known (Some (script.Deliver (1 + k)))
 
 -- by a number below 16, where these ids were made and so many mails were sent
-unfoldable pub step_at : List Stamp → ℕ → ℕ → ℕ → Draws (Option ScriptLine)
-step_at made mails site number =
+unfoldable pub line_for : List Stamp → ℕ → ℕ → ℕ → Draws (Option ScriptLine)
+line_for made mails site number =
     if nat_lt number 4 then asks site create
     else if nat_lt number 7 then asks_of made site move
     else if number == 7 then asks_of made site (change wish.Delete)
@@ -131,7 +131,7 @@ abbrev pub step : List Stamp → ℕ → Draws (Option ScriptLine)
 step made mails = do
   site ← below 4
   number ← below 16
-  step_at made mails (1 + site) number
+  line_for made mails (1 + site) number
 
 -- ---- how far a run has come
 
