@@ -6,3 +6,4 @@ pub mod WorkedNodes
 pub mod WorkedBacks
 pub mod WorkedInputs
 pub mod WorkedRehearsals
+pub mod WorkedChurns
