@@ -5,7 +5,7 @@ ghost use Rattle.std.specs.Prelude.{◌≡◌, ◌∷◌, [], Some, codes, slice
 ghost use Rattle.gd_effects.specs.Effects.{Print, Work, printed};
 ghost use Rattle.gd_outside.specs.declared.status.Status.TheVariants.{Done, LineLimit};
 ghost use Rattle.gd_worlds.specs.Rehearsal.{rehearsal_after, rehearsal_effects, rehearsal_end, rehearsal_lines};
-ghost use Rattle.gd_rows.specs.WorkedRehearsals.{answers, behind_blanks, costs, covered, delivered_late, empty_frame, heard_of, hidden, lowered, noted, prints, quitting, quitting_printed, refused_in_order, refused_in_world, regrouped, rehearsed, reworked, reworked_effects, reworked_shown, settled, taken_back, too_far, typed, used};
+ghost use Rattle.gd_rows.specs.WorkedRehearsals.{answers, behind_blanks, costs, covered, delivered_late, empty_frame, heard_of, hidden, lowered, noted, prints, quitting, quitting_printed, refused_in_order, refused_in_world, regrouped, rehearsed, reworked, reworked_effects, reworked_shown, taken_back, too_far, typed, used};
 
 /// A late move that a later one covers is dropped, for no step.
 pub fn a_covered_move()

@@ -2,9 +2,10 @@
 --
 -- Churn is a rehearsal whose lines are drawn, and of which only numbers are printed, at its end. Each draw is the next word of
 -- 32 bits that the generator PCG32 (XSH RR) gives from the seed, modulo how many values there are. A step draws a site, and
--- then a number below 16, by which that site makes or changes an object, sends a frame, or some mail is delivered (`line_for`).
--- An object that is changed is one of those that were made in the session so far, shown or not, in the order in which they
--- were made. Where none was made yet the step is idle, and draws no more; so it is where there is no mail to deliver.
+-- then a number below 16 that says what is done: the site makes an object or changes one, it sends a frame, or some mail is
+-- delivered (`line_for`). What is changed is one of the objects that were made in the session so far, shown or not, in the
+-- order in which they were made. Where none was made yet the step is idle, and draws no more; so it is where there is no mail
+-- to deliver.
 --
 -- Behind the steps come rounds, four and one more for every eight steps. In a round each site sends a frame to each other one,
 -- and that mail is delivered at once. Then seven lines say where each site stands, how often an edit was accepted or refused,
@@ -114,7 +115,7 @@ deliver (suc mails) = do
   k ← below (suc mails)
   known (Some (script.Deliver (1 + k)))
 
--- by a number below 16, where these ids were made and so many mails were sent
+-- the line of a site by a number below 16, where these ids were made and so many mails sent; none where the step is idle
 unfoldable pub line_for : List Stamp → ℕ → ℕ → ℕ → Draws (Option ScriptLine)
 line_for made mails site number =
     if nat_lt number 4 then asks site create
@@ -165,13 +166,14 @@ new_churning seed =
       work = [];
     }
 
--- with what is said once more; an event that is taken is echoed
+-- with one answer more: an event that a site takes from mail is echoed
 abbrev pub with_arrival : Tally → Reply → Tally
 with_arrival t (reply.Applied id) = record t { applied = t.applied + 1 }
 with_arrival t (reply.Dropped id by) = record t { dropped = t.dropped + 1 }
 with_arrival t (reply.Reworked id count) = record t { reworked = t.reworked + 1; undone = t.undone + count }
 with_arrival t other = t
 
+-- the same of all counts: no send and no delivery is refused here, so what is refused is an edit
 abbrev pub with_reply : Counts → Reply → Counts
 with_reply c (reply.Done id) = record c { edits = c.edits + 1 }
 with_reply c (reply.Refused why) = record c { refused = c.refused + 1 }
