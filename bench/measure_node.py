@@ -1,0 +1,184 @@
+#!/usr/bin/env python3
+"""Times a node: edits that are typed at it, and polls of another one that takes them. Prints a table. See README.md."""
+
+import argparse
+import os
+import socket
+import subprocess
+import sys
+import tempfile
+import time
+from pathlib import Path
+from random import Random
+from statistics import median
+
+sys.dont_write_bytecode = True
+sys.path.insert(0, str(Path(__file__).resolve().parent))
+from node_process import Node, add_program, free_addresses, program_of
+
+# In a turn the first site makes as many edits as a frame has, the other one polls, and then the first one does.
+EDITS = 8
+# One shape for so many edits: the others move one of these.
+NEW = 10
+# The bytes of a frame without events and without a note, of a create without a label, and of a move.
+FRAME, CREATE, MOVE = 32, 28, 25
+SEED = 7
+MEMORY = Path("/dev/shm")
+
+
+def edits_of(count):
+    """The lines of so many edits, and the bytes of the event of each."""
+    draw, made = Random(SEED), []
+    for number in range(1, count + 1):
+        x, y = draw.randrange(1000), draw.randrange(1000)
+        if number % NEW == 1:
+            made.append(f"{number}.1")
+            yield f"create rect {x} {y} 10 10", CREATE
+        else:
+            yield f"move {draw.choice(made)} {x} {y}", MOVE
+
+
+def sizes_of(edits):
+    """The bytes of the frame behind each edit: it has the events of its turn so far."""
+    sizes = []
+    for at, (_, size) in enumerate(edits):
+        sizes.append(size + (sizes[-1] if at % EDITS else FRAME))
+    return sizes
+
+
+def timed(work, *given):
+    start = time.perf_counter_ns()
+    answer = work(*given)
+    return answer, time.perf_counter_ns() - start
+
+
+def times_of_nodes(program, edits, room):
+    """What each edit took, each poll of the other site, which takes eight, and each poll of the first one."""
+    addresses = free_addresses(2)
+    first, other = [Node(program, site, addresses, room / f"{site}.log") for site in (1, 2)]
+    typed, taken, heard = [], [], []
+    for at, (line, _) in enumerate(edits, start=1):
+        answer, took = timed(first.ask, line)
+        typed.append(took)
+        if answer != [f"ok {at}.1"]:
+            sys.exit(f"the edit {line!r} was answered by {answer}")
+        if at % EDITS == 0:
+            # An edit is answered before its frame is sent, and the next line is answered behind that.
+            first.ask("status")
+            answer, took = timed(other.ask, "poll")
+            taken.append(took)
+            if len(answer) != EDITS + 1 or not all(line.endswith(" applied") for line in answer[:-1]):
+                sys.exit(f"the other site answered {answer} to a poll")
+            heard.append(timed(first.ask, "poll")[1])
+    if first.ask("show") != other.ask("show"):
+        sys.exit("the two sites show different drawings")
+    for node in (first, other):
+        node.quit()
+    return typed, taken, heard
+
+
+def time_at_once(program, edits, room):
+    """The nanoseconds of all edits where a node that is alone is handed a file of them, from its start to its end."""
+    (room / "lines").write_text("".join(f"{line}\n" for line, _ in edits))
+    words = ["node", "--session", "7", "--site", "1", "--journal", str(room / "alone.log"), *free_addresses(1)]
+    with open(room / "lines", "rb") as given:
+        done, took = timed(lambda: subprocess.run([program, *words], stdin=given, capture_output=True, check=True))
+    if done.stdout.count(b"ok ") != len(edits):
+        sys.exit(f"of {len(edits)} edits at once {done.stdout.count(b'ok ')} were accepted")
+    return took
+
+
+def echo(port):
+    """Sends back what comes, in a process of its own."""
+    with socket.socket(socket.AF_INET, socket.SOCK_DGRAM) as here:
+        here.bind(("127.0.0.1", port))
+        print("ready", flush=True)
+        while True:
+            datagram, sender = here.recvfrom(65_536)
+            here.sendto(datagram, sender)
+
+
+def times_of_echo(sizes):
+    """What a datagram of each of these sizes took to another process and back."""
+    port = int(free_addresses(1)[0].rpartition(":")[2])
+    other = subprocess.Popen([sys.executable, __file__, "--echo", str(port)], stdout=subprocess.PIPE)
+    other.stdout.readline()
+    times = []
+    with socket.socket(socket.AF_INET, socket.SOCK_DGRAM) as here:
+        here.settimeout(5)
+        here.connect(("127.0.0.1", port))
+        for size in sizes:
+            datagram = bytes(size)
+            start = time.perf_counter_ns()
+            here.send(datagram)
+            here.recv(65_536)
+            times.append(time.perf_counter_ns() - start)
+    other.kill()
+    other.wait()
+    return times
+
+
+def times_of_syncs(edits, room):
+    """What the four calls of an append took, as any program makes them: two writes and two syncs of a file."""
+    times = []
+    file = os.open(room / "plain", os.O_CREAT | os.O_RDWR)
+    place = 0
+    for _, size in edits:
+        record = bytes(size + 1)
+        start = time.perf_counter_ns()
+        os.pwrite(file, record, place + 1)
+        os.fsync(file)
+        os.pwrite(file, b"\xC3", place)
+        os.fsync(file)
+        times.append(time.perf_counter_ns() - start)
+        place += size + 1
+    os.close(file)
+    return times
+
+
+def row(name, times, each=1):
+    """The least and the median of the times, in microseconds, and how many there are in a second."""
+    print(f"{name:52}{min(times) / 1e3:11.1f}{median(times) / 1e3:11.1f}{len(times) * each / sum(times) * 1e9:14,.0f}", flush=True)
+
+
+def measure(program, count, where):
+    edits = list(edits_of(count))
+    with tempfile.TemporaryDirectory(dir=where) as room:
+        room = Path(room)
+        print(f"journals in {where}:")
+        print(f"{'':52}{'least us':>11}{'median us':>11}{'a second':>14}")
+        typed, taken, heard = times_of_nodes(program, edits, room)
+        echoes = times_of_echo(sizes_of(edits))
+        syncs = times_of_syncs(edits, room)
+        row("an edit typed at a node, to its answer", typed)
+        row("a poll of the other node, which takes eight edits", taken, EDITS)
+        row("a poll of the first one, which hears of that", heard)
+        row("a datagram of such a size, there and back in Python", echoes)
+        row("two writes and two syncs of a file in Python", syncs)
+        print(f"{'all edits at once, to a node that is alone':74}{count / time_at_once(program, edits, room) * 1e9:14,.0f}")
+        print(f"an edit to its answer takes {median(typed) / median(echoes):.1f} times as long as a datagram there and back")
+        print(f"and {median(typed) / median(syncs):.1f} times as long as the writes and syncs; an edit of a poll of eight "
+              f"{median(taken) / EDITS / median(syncs):.1f} times")
+
+
+def asked():
+    parser = argparse.ArgumentParser(prog="bench/measure_node.py", description=__doc__)
+    add_program(parser)
+    parser.add_argument("--edits", metavar="N", type=int, default=20_000, help="how many edits are typed, rounded down to eights")
+    parser.add_argument("--room", metavar="FOLDER", type=Path, help="where the journals are; otherwise in memory, and then on disk")
+    parser.add_argument("--echo", metavar="PORT", type=int, help=argparse.SUPPRESS)
+    return parser.parse_args()
+
+
+def main():
+    words = asked()
+    if words.echo:
+        return echo(words.echo)
+    program = program_of(words)
+    folders = [words.room] if words.room else [*filter(Path.is_dir, [MEMORY]), Path(tempfile.gettempdir())]
+    for folder in folders:
+        measure(program, words.edits // EDITS * EDITS, folder)
+
+
+if __name__ == "__main__":
+    main()
