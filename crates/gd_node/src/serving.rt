@@ -49,13 +49,16 @@ pub fn serve<S: Source, K: Sink, J: Journal, N: Link, L: Ledger>(
     steps: &mut Steps<L>,
 ) -> Status
     // What was done is the slow run's, and so is the status, where nothing cuts the run short; a fault has its cause.
-    ensures ends { EndsAs (IsTold
-        (outside (S.seen input.new) (K.seen output.new) (J.seen journal.new) (N.seen link.new) steps.new))
-        (served config.now (told (N.seen link.old).entries) (told (S.seen input.old).left))
-        (served_of_part config.now (told (N.seen link.old).entries))
-        (end_after (node_lines (told (S.seen input.old).left))) result
-        (outside (S.seen input.old) (K.seen output.old) (J.seen journal.old) (N.seen link.old) steps.old)
-        (outside (S.seen input.new) (K.seen output.new) (J.seen journal.new) (N.seen link.new) steps.new) }
+    ensures ends { let entries = told (N.seen link.old).entries in
+        let bytes = told (S.seen input.old).left in
+        EndsAs (IsTold (outside (S.seen input.new) (K.seen output.new) (J.seen journal.new)
+        (N.seen link.new) steps.new))
+        (served config.now entries bytes) (served_of_part config.now entries)
+        (end_after (node_lines bytes)) result
+        (outside (S.seen input.old) (K.seen output.old) (J.seen journal.old)
+        (N.seen link.old) steps.old)
+        (outside (S.seen input.new) (K.seen output.new) (J.seen journal.new)
+        (N.seen link.new) steps.new) }
     ensures kinds { IsNodeEnd result }
     // Once it is ready, the journal's name, and the addresses and the own number of the link, are what it was given.
     ensures named { IsNamedBy config.now result (K.seen output.old) (K.seen output.new)
@@ -80,12 +83,14 @@ fn serve_opened<S: Source, K: Sink, J: Journal, N: Link, L: Ledger>(
     link: &mut N,
     steps: &mut Steps<L>,
 ) -> Result<Status, End>
-    ensures runs { RunsAs
-        (served config.now (told (N.seen link.old).entries) (told (S.seen input.old).left))
-        (served_of_part config.now (told (N.seen link.old).entries))
-        (end_after (node_lines (told (S.seen input.old).left))) result
-        (outside (S.seen input.old) (K.seen output.old) (J.seen journal.old) (N.seen link.old) steps.old)
-        (outside (S.seen input.new) (K.seen output.new) (J.seen journal.new) (N.seen link.new) steps.new) }
+    ensures runs { let entries = told (N.seen link.old).entries in
+        let bytes = told (S.seen input.old).left in
+        RunsAs (served config.now entries bytes) (served_of_part config.now entries)
+        (end_after (node_lines bytes)) result
+        (outside (S.seen input.old) (K.seen output.old) (J.seen journal.old)
+        (N.seen link.old) steps.old)
+        (outside (S.seen input.new) (K.seen output.new) (J.seen journal.new)
+        (N.seen link.new) steps.new) }
     ensures kinds { IfOk result IsDialogueEnd }
     ensures name { HasNameBy config.now result (K.seen output.old) (K.seen output.new)
         (J.seen journal.new) }
