@@ -30,16 +30,16 @@ use Rattle.gd_reference.specs.SlowRun.{ended_by, replayed, upgraded_log}
 use Rattle.gd_run.specs.Runs.{built, cut_of, effects_of}
 use Rattle.groupdesign.proofs.Sentences.{completes, did_whole, left_at, unopened_at}
 use Rattle.groupdesign.specs.Carrying.{Carried}
-use Rattle.groupdesign.specs.Commands.{IsEnd, IsLogOf, IsReaderEnd, IsSilentEnd, Named, OpensFirst, Silent, Untouched}
+use Rattle.groupdesign.specs.Commands.{HasLogOf, IsEnd, IsReaderEnd, IsSilentEnd, Named, OpensFirst, Silent, Untouched}
 use Rattle.groupdesign.specs.Headline.{Headline}
 use Rattle.groupdesign.specs.Runs.{Run, asked, asked_of}
 
 -- a node's header begins its journal anew, so nothing counts that stood in it
 log_of : (asked : Option Command) (input : List ℕ) (entries : List Entry) (old new : Option (List ℕ))
-    → Journals old (effects_of asked input entries) new → IsSome new → IsLogOf asked input entries (told new)
+    → Journals old (effects_of asked input entries) new → HasLogOf asked input entries new
 log_of (Some (Node session site journal addresses)) input entries old new h some =
     h.now some ∙ journal_of_node (record { me = site; sites = length addresses; session = session; entries = entries; lines = node_lines input })
-log_of other input entries old new h some = tt
+log_of other input entries old new h = tt
 
 -- a command that is built isn't refused
 not_refused : (asked : Option Command) → IsSome asked → IsEnd asked Usage → ⊥
@@ -52,7 +52,7 @@ headline run h = record {
   status = λ w. (did_whole run.status h.ends w.0 w.1).1;
   output = λ w. (did_whole run.status h.ends w.0 w.1).0.output;
   journal = λ w. (did_whole run.status h.ends w.0 w.1).0.journal;
-  log = λ w some. log_of (asked run) _ _ _ _ (did_whole run.status h.ends w.0 w.1).0.journal some;
+  log = λ w. log_of (asked run) _ _ _ _ (did_whole run.status h.ends w.0 w.1).0.journal;
   frames = λ w. (did_whole run.status h.ends w.0 w.1).0.tried;
   steps = λ w. (did_whole run.status h.ends w.0 w.1).0.steps;
   memory = λ t is. left_at h.ends NoMemory is t;

@@ -12,8 +12,11 @@ use Rattle.groupdesign.specs.Runs.{IsToldFor}
 
 pub record Carried (asked : Option Command) (status : Status) (before after : Outside) : Type 0 where
   -- what was done is what is owed, and so is the status, where nothing cuts the run short; a fault has its cause
-  pub ends : EndsAs (IsToldFor asked after) (effects_of asked (told before.input.left) (told before.link.entries))
-      (cut_of asked (told before.link.entries)) (end_of asked (told before.input.left)) status before after
+  pub ends :
+      let bytes = told before.input.left in
+      let entries = told before.link.entries in
+      EndsAs (IsToldFor asked after) (effects_of asked bytes entries) (cut_of asked entries) (end_of asked bytes)
+      status before after
   pub kind : IsEnd asked status
   pub untouched : Untouched asked before after
   pub silent : Silent asked status before after

@@ -13,7 +13,8 @@ use Rattle.groupdesign.specs.declared.words.WordsFault.TheVariants.{Memory, Call
 pub record Exits (words : List (List ℕ)) (number : ℕ) (before after : Outside) : Type 0 where
   pub status : Status
   pub is : number ≡ status_number status
-  pub headline : Headline (record { words = words; status = status; before = before; after = after })
+  pub headline :
+      Headline (record { words = words; status = status; before = before; after = after })
 
 abbrev pub words_status : WordsFault → ℕ
 words_status Memory = status_number NoMemory

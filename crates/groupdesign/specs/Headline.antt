@@ -5,11 +5,12 @@ use Rattle.gd_effects.specs.Done.{DidFront, DidHalfPrint, DidTornRecord, Journal
 use Rattle.gd_effects.specs.Effects.{cost, printed, tried}
 use Rattle.gd_effects.specs.Endings.{Causes, DidRead, Unopened}
 use Rattle.gd_outside.specs.Causes.{Rose}
-use Rattle.gd_outside.specs.Told.{Grows, told}
+use Rattle.gd_outside.specs.Told.{Grows}
 use Rattle.gd_outside.specs.declared.status.Status.TheVariants.{Usage, ReadFault, WriteFault, JournalFault, LinkFault, NoMemory}
 use Rattle.gd_run.specs.Runs.{built}
-use Rattle.groupdesign.specs.Commands.{IsEnd, IsLogOf, Named, OpensFirst, Silent, Untouched}
-use Rattle.groupdesign.specs.Runs.{Run, Told, Whole, asked, owed, owed_for_part, owed_status}
+use Rattle.groupdesign.specs.Commands.{HasLogOf, IsEnd, Named, OpensFirst, Silent, Untouched}
+use Rattle.groupdesign.specs.Runs.{Run, Told, Whole, asked, entries, input, journal_after, journal_before}
+use Rattle.groupdesign.specs.Runs.{owed, owed_for_part, owed_status}
 
 pub record Headline (run : Run) : Type 0 where
   -- ---- where nothing cut the run short
@@ -19,10 +20,9 @@ pub record Headline (run : Run) : Type 0 where
   -- its printed answers are the slow run's
   pub output : Whole run → Grows run.before.output.bytes (printed (owed run)) run.after.output.bytes
   -- so is its journal
-  pub journal : Whole run → Journals run.before.journal.contents (owed run) run.after.journal.contents
+  pub journal : Whole run → Journals (journal_before run) (owed run) (journal_after run)
   -- which is, for a node, the log of what the slow site holds after its lines
-  pub log : Whole run → IsSome run.after.journal.contents
-      → IsLogOf (asked run) (told run.before.input.left) (told run.before.link.entries) (told run.after.journal.contents)
+  pub log : Whole run → HasLogOf (asked run) (input run) (entries run) (journal_after run)
   -- so are the frames that it sends, or tries to
   pub frames : Whole run → Grows run.before.link.tried (tried (owed run)) run.after.link.tried
   -- it takes as many steps as the slow run's events cost

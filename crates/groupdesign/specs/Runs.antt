@@ -6,6 +6,7 @@ use Rattle.gd_effects.specs.Endings.{IsUncut}
 use Rattle.gd_effects.specs.Outside.{IsTold, Outside}
 use Rattle.gd_options.specs.declared.command.Command.{Command}
 use Rattle.gd_options.specs.declared.command.Command.TheVariants.{Node}
+use Rattle.gd_outside.specs.Seen.{Entry}
 use Rattle.gd_outside.specs.Told.{told}
 use Rattle.gd_outside.specs.declared.status.Status.{Status}
 use Rattle.gd_run.specs.Runs.{built, cut_of, effects_of, end_of}
@@ -24,15 +25,28 @@ asked_of words = built (command_of words)
 abbrev pub asked : Run → Option Command
 asked run = asked_of run.words
 
+-- the bytes of its input, the entries of its link, and its journal before and after, where they are told
+abbrev pub input : Run → List ℕ
+input run = told run.before.input.left
+
+abbrev pub entries : Run → List Entry
+entries run = told run.before.link.entries
+
+abbrev pub journal_before : Run → Option (List ℕ)
+journal_before run = run.before.journal.contents
+
+abbrev pub journal_after : Run → Option (List ℕ)
+journal_after run = run.after.journal.contents
+
 -- what the slow run owes for it, how that ends, and what is owed for a part of the input
 abbrev pub owed : Run → List Effect
-owed run = effects_of (asked run) (told run.before.input.left) (told run.before.link.entries)
+owed run = effects_of (asked run) (input run) (entries run)
 
 abbrev pub owed_status : Run → Status
-owed_status run = end_of (asked run) (told run.before.input.left)
+owed_status run = end_of (asked run) (input run)
 
 abbrev pub owed_for_part : Run → List ℕ → List Effect
-owed_for_part run taken = cut_of (asked run) (told run.before.link.entries) taken
+owed_for_part run taken = cut_of (asked run) (entries run) taken
 
 -- what a command depends on: a node on what its input and its link hand out, another command on its input
 abbrev pub IsToldFor : Option Command → Outside → Type 0
