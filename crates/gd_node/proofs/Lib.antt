@@ -3,11 +3,7 @@ mod Carrying
 mod SlowFrames
 mod Noted
 mod Who
-mod Undone
-mod SlowEvents
 mod Logs
-mod Arrivals
-mod Turns
 mod Frames
 mod Entries
 mod Receiving

@@ -1,7 +1,5 @@
 -- What becomes of an edit of a node's user, and of an undo.
-use Rattle.std.specs.Prelude.{◌≡◌, List, [], ◌∷◌, ◌++◌, Option, None, Some, Result, Err, OnOk, option_map}
-use Rattle.gd_base.specs.declared.refusal.EditRefusal.{EditRefusal}
-use Rattle.gd_base.specs.declared.refusal.EditRefusal.TheVariants as refusal
+use Rattle.std.specs.Prelude.{◌≡◌, List, [], ◌∷◌, ◌++◌, Option, None, Some, Result, Err, OnOk}
 use Rattle.gd_base.specs.declared.refusal.Refusal.{Refusal}
 use Rattle.gd_dialogue.specs.Owing.{beside}
 use Rattle.gd_effects.specs.Done.{Does}
@@ -23,33 +21,9 @@ use Rattle.gd_reference.specs.Judging.{with_event}
 use Rattle.gd_reference.specs.Said.{says}
 use Rattle.gd_reference.specs.SiteEffects.{tries}
 use Rattle.gd_reference.specs.SlowSite.{SlowSite, journal_header}
-use Rattle.gd_reference.specs.TakeBack.{BackRefusal, IsFar, NotTakeable, NothingBack, Refused}
 use Rattle.gd_site.specs.Sites.{StandsFor}
-use Rattle.gd_site.specs.declared.answers.EditFault.{EditFault}
-use Rattle.gd_site.specs.declared.answers.EditFault.TheVariants as fault
-use Rattle.gd_takeback.specs.declared.take_back.BackFault.{BackFault}
-use Rattle.gd_takeback.specs.declared.take_back.BackFault.TheVariants as back
 
 -- ---- refusals
-
--- Why the reference site refuses an edit that came to this fault. For want of memory it refuses none.
-abbrev pub refused_edit : EditFault → Option EditRefusal
-refused_edit fault.ClockEnd = Some refusal.ClockEnd
-refused_edit (fault.SessionFull count) = Some refusal.SessionFull
-refused_edit fault.NoObject = Some refusal.NoObject
-refused_edit fault.NotShape = Some refusal.NotShape
-refused_edit fault.NotGroup = Some refusal.NotGroup
-refused_edit fault.SameMember = Some refusal.SameMember
-refused_edit fault.NotTop = Some refusal.NotTop
-refused_edit fault.TooFar = Some refusal.TooFar
-refused_edit fault.NoMemory = None
-
--- the same of an undo
-abbrev pub refused_undo : BackFault → Option BackRefusal
-refused_undo back.Nothing = Some NothingBack
-refused_undo back.Never = Some NotTakeable
-refused_undo back.Far = Some IsFar
-refused_undo (back.Edit why) = option_map Refused (refused_edit why)
 
 -- That a call printed this refusal. Where there is none, it printed nothing, and memory had run out.
 abbrev pub Refuses : Option Refusal → SeenSink → Result (Unit {0}) End → SeenSink → Type 0

@@ -1,10 +1,9 @@
 pub mod Meeting
 pub mod Calls
 pub mod Owing
-pub mod Arriving
+pub mod Recording
 pub mod Polling
 pub mod Editing
-pub mod Noting
 pub mod Telling
 pub mod Configs
 pub mod Serving

@@ -1,7 +1,5 @@
 //! The answers to lines.
 
-ghost use Rattle.std.specs.Prelude.{◌≡◌};
-ghost use Rattle.gd_lines.specs.Refusals.{line_refusal};
 ghost use Rattle.gd_node.specs.Meeting.{Meets};
 ghost use Rattle.gd_reference.specs.NodeRun.{node_manner};
 ghost use Rattle.gd_reference.specs.SlowSite.{SlowSite};
@@ -9,9 +7,9 @@ ghost use Rattle.gd_reference.specs.SlowSite.{SlowSite};
 use crate::editing::{take_back, take_edit};
 use crate::member::Member;
 use crate::polling::poll;
-use crate::saying::say;
 use crate::telling::{show, take_focus, take_name, tell_status, tell_who};
-use gd_base::{LineFault, Refusal, Steps};
+use gd_answers::{line_refusal, say};
+use gd_base::{LineFault, Steps};
 use gd_dialogue::Answerer;
 use gd_outside::{End, Journal, Link, Sink};
 use gd_words::{Command, Reply, what_is_read_is_in_range};
@@ -54,21 +52,5 @@ impl Answerer for Member {
                 say(&Reply::Refused { why }, output)
             }
         }
-    }
-}
-
-/// Why bytes are no line, as it is printed.
-fn line_refusal(fault: LineFault) -> Refusal
-    ensures { result ≡ line_refusal fault }
-{
-    match fault {
-        LineFault::LongLine => Refusal::LongLine,
-        LineFault::UnknownCommand => Refusal::UnknownCommand,
-        LineFault::WrongCount => Refusal::WrongCount,
-        LineFault::BadKind => Refusal::BadKind,
-        LineFault::BadNumber => Refusal::BadNumber,
-        LineFault::BadId => Refusal::BadId,
-        LineFault::BadColour => Refusal::BadColour,
-        LineFault::BadLabel => Refusal::BadLabel,
     }
 }

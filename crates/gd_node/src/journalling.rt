@@ -17,7 +17,7 @@ ghost use Rattle.gd_outside.specs.Seen.{SeenSource, SeenLink};
 ghost use Rattle.gd_outside.specs.Told.{told, Stays};
 ghost use Rattle.gd_reference.specs.Said.{says};
 
-use crate::saying::say;
+use gd_answers::say;
 use gd_events::Event;
 use gd_logs::LogWriter;
 use gd_outside::{End, Journal, Sink};

@@ -8,7 +8,7 @@ mod editing;
 mod journalling;
 mod member;
 mod polling;
-mod saying;
+mod recording;
 mod sending;
 mod serving;
 mod telling;

@@ -18,7 +18,7 @@ ghost use Rattle.gd_reference.specs.SlowSite.{journal_header};
 use crate::config::Config;
 use crate::journalling::start_log;
 use crate::member::Member;
-use crate::saying::say;
+use gd_answers::say;
 use gd_base::{Steps, Version};
 use gd_dialogue::answer_lines;
 use gd_effects::ended;

@@ -10,7 +10,7 @@ use Rattle.gd_events.specs.Ordered.{ordered}
 use Rattle.gd_history.specs.Entries.{stamp_of}
 use Rattle.gd_history.specs.Histories.{arrival_of}
 use Rattle.gd_model.specs.Arrivals.{all_drawn, are_independent, drawn, is_covered, outcome_of}
-use Rattle.gd_node.specs.Arriving.{IsShort}
+use Rattle.gd_answers.specs.Arriving.{IsShort}
 use Rattle.gd_protocol.specs.Sites.{IsWell}
 use Rattle.gd_reference.specs.SlowSite.{SlowSite}
 use Rattle.gd_repair.specs.Repair.{Stamped, closure, closure_from, is_free, outcome_by}
