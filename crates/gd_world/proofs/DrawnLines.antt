@@ -1,0 +1,74 @@
+-- The line of a churn's step by the number that was drawn for it.
+use Rattle.std.proofs.Common.{◌≡◌, ℕ, ◌<◌, ◌≤◌, List, [], ◌∷◌, length, sym, ◌∙◌, ap, arith}
+use Rattle.std.proofs.lemmas.Bool.Decides.{nat_tests}
+use Rattle.std.specs.Prelude.{None}
+use Rattle.rand_pcg.specs.Lcg.{Lcg}
+use Rattle.gd_base.specs.Stamps.{Stamp}
+use Rattle.gd_base.specs.declared.edit.Edit.{Edit}
+use Rattle.gd_base.specs.declared.edit.Edit.TheVariants as wish
+use Rattle.gd_worlds.specs.Churn.{Draws, asks, asks_of, change, create, deliver, group, known, line_for, move, send, stroke}
+use Rattle.gd_world.specs.Drawn.{IsOfOne, edit_at}
+
+-- ---- what number stands for what
+
+module _ (made : List Stamp) (mails site number : ℕ) where
+  pub line_creates : number < 4 → line_for made mails site number ≡ asks site create
+  unfolding line_for
+  line_creates h = grind (arith, nat_tests)
+
+  pub line_moves : 4 ≤ number → number < 7 → line_for made mails site number ≡ asks_of made site move
+  unfolding line_for
+  line_moves h k = grind (arith, nat_tests)
+
+  pub line_deletes : number ≡ 7 → line_for made mails site number ≡ asks_of made site (change wish.Delete)
+  unfolding line_for
+  line_deletes e = rw e
+
+  pub line_raises : number ≡ 8 → line_for made mails site number ≡ asks_of made site (change wish.Raise)
+  unfolding line_for
+  line_raises e = rw e
+
+  pub line_groups : number ≡ 9 → line_for made mails site number ≡ asks_of made site group
+  unfolding line_for
+  line_groups e = rw e
+
+  pub line_ungroups : number ≡ 10 → line_for made mails site number ≡ asks_of made site (change wish.Ungroup)
+  unfolding line_for
+  line_ungroups e = rw e
+
+  pub line_strokes : number ≡ 11 → line_for made mails site number ≡ asks_of made site stroke
+  unfolding line_for
+  line_strokes e = rw e
+
+  pub line_sends : 12 ≤ number → number < 14 → line_for made mails site number ≡ send site
+  unfolding line_for
+  line_sends h k = grind (arith, nat_tests)
+
+  pub line_delivers : 14 ≤ number → line_for made mails site number ≡ deliver mails
+  unfolding line_for
+  line_delivers h = grind (arith, nat_tests)
+
+pub line_idles : (mails site number : ℕ) → 4 ≤ number → number < 12 → line_for [] mails site number ≡ known None
+unfolding line_for
+line_idles mails site number h k = grind (arith, nat_tests)
+
+-- ---- edits of what was picked
+
+pub line_idles_at : (made : List Stamp) (mails site number : ℕ) (g : Lcg) → length made ≡ 0 → 4 ≤ number → number < 12 → (None, g) ≡ line_for made mails site number g
+line_idles_at [] mails site number g none h k = sym (ap (λ d. d g) (line_idles mails site number h k))
+line_idles_at (first ∷ rest) mails site number g none h k = absurd (omega arith)
+
+module _ (g g' : Lcg) where
+  -- an edit of what a pick gives
+  pub changed : (edit : Stamp → Edit) (made : List Stamp) (id : Stamp) → IsOfOne (λ picked. picked) made id g g' → IsOfOne (change edit) made (edit id) g g'
+  changed edit [] id h = absurd h
+  changed edit (first ∷ rest) id h = ap (λ (p : Stamp × Lcg). (edit p.0, p.1)) h
+
+  -- a site is asked for an edit that was drawn so
+  asked : (site : ℕ) (draw : Draws Stamp → Draws Edit) (made : List Stamp) (edit : Edit) → IsOfOne draw made edit g g' → (edit_at site edit, g') ≡ asks_of made site draw g
+  asked site draw [] edit h = absurd h
+  asked site draw (first ∷ rest) edit h = ap (λ (p : Edit × Lcg). (edit_at site p.0, p.1)) h
+
+  pub line_of_one : (made : List Stamp) (mails site number : ℕ) (draw : Draws Stamp → Draws Edit) (edit : Edit)
+      → line_for made mails site number ≡ asks_of made site draw → IsOfOne draw made edit g g' → (edit_at site edit, g') ≡ line_for made mails site number g
+  line_of_one made mails site number draw edit e h = asked site draw made edit h ∙ sym (ap (λ d. d g) e)

@@ -1,0 +1,183 @@
+-- What a member says of each command, what that costs, and what the member stands for then.
+use Rattle.std.proofs.Common.{◌≡◌, ℕ, ◌+◌, ◌⊎◌, inl, inr, List, [], ◌∷◌, refl, sym, ◌∙◌, ap, subst, arith}
+use Rattle.std.proofs.lemmas.Bool.{cond_both}
+use Rattle.std.specs.List.{filter}
+use Rattle.std.specs.Prelude.{Option, None, Some, Result, Ok, Err, IfOk, OnErr, nat_le, option_map}
+use Rattle.gd_answers.proofs.Refused.{IsErrAs, edit_as, undo_as}
+use Rattle.gd_answers.proofs.Said.{next_said}
+use Rattle.gd_answers.specs.Noting.{noted_reply}
+use Rattle.gd_answers.specs.Refusals.{refused_edit, refused_undo}
+use Rattle.gd_base.specs.Stamps.{Stamp}
+use Rattle.gd_base.specs.declared.edit.Edit.{Edit}
+use Rattle.gd_base.specs.declared.note.Note.{Note}
+use Rattle.gd_base.specs.declared.refusal.EditRefusal.{EditRefusal}
+use Rattle.gd_base.specs.declared.refusal.Refusal.{Refusal}
+use Rattle.gd_base.specs.declared.site_status.SiteStatus.{SiteStatus}
+use Rattle.gd_effects.specs.Effects.{Work, cost}
+use Rattle.gd_events.specs.Events.{Event}
+use Rattle.gd_lines.specs.Refusals.{edit_refusal}
+use Rattle.gd_lines.specs.declared.command.Command.{Command}
+use Rattle.gd_lines.specs.declared.command.Command.TheVariants as command
+use Rattle.gd_lines.specs.declared.reply.Reply.{Reply}
+use Rattle.gd_lines.specs.declared.reply.Reply.TheVariants as reply
+use Rattle.gd_reference.specs.Judging.{edit, with_own}
+use Rattle.gd_reference.specs.NodeRun.{command_replies}
+use Rattle.gd_reference.specs.SiteEffects.{edit_reply, note_reply, of_own, of_taken_back, undo_reply}
+use Rattle.gd_reference.specs.SlowSite.{SlowSite, status}
+use Rattle.gd_reference.specs.TakeBack.{BackRefusal, after_edit, after_undo, back, back_refusal, backs_with, backs_without, undo}
+use Rattle.gd_reference.specs.World.{Focuses, Names, Prints, after_line, most_notes, noted, refocused, renamed}
+use Rattle.gd_site.specs.Answers.{EditIs, next_note}
+use Rattle.gd_site.specs.Sites.{StandsFor}
+use Rattle.gd_site.specs.declared.answers.EditFault.{EditFault}
+use Rattle.gd_site.specs.declared.answers.NoteEnd as site
+use Rattle.gd_takeback.specs.Answers.{UndoIs}
+use Rattle.gd_takeback.specs.Standing.{StandsWith}
+use Rattle.gd_takeback.specs.declared.take_back.BackFault.{BackFault}
+use Rattle.gd_world.proofs.Paying.{pays_all, pays_none}
+use Rattle.gd_world.proofs.Works.{none_polled, none_said, one_made}
+use Rattle.gd_world.specs.Telling.{Tells, work_of}
+use Rattle.gd_world.specs.declared.fault.WorldFault.{WorldFault}
+use Rattle.gd_world.specs.declared.fault.WorldFault.TheVariants.{NoSite, NoMail, NoMemory}
+use Rattle.gd_world.specs.declared.member.Member.{Member}
+use Rattle.gd_worlds.specs.Rehearsal.{is_work, told_by}
+
+-- ---- any command
+
+-- a command that is that one
+pub tells_read : (slow : SlowSite) (r : Result (List Reply) WorldFault) (before after : ℕ) (member : Member) (given asked : Command) → given ≡ asked → Tells slow asked r before member after → Tells slow given r before member after
+tells_read slow r before after member given asked is tells = subst (λ c. Tells slow c r before member after) (sym is) tells
+
+-- one that takes no step
+idle : (slow : SlowSite) (asked : Command) {before after : ℕ} → work_of slow asked ≡ [] → after ≡ before → after ≡ before + cost (work_of slow asked)
+idle slow asked none same = omega (arith, same, ap cost none)
+
+module _ (slow : SlowSite) (asked : Command) (before : ℕ) {after : ℕ} {member : Member} where
+  -- all is said, and memory may run out for that alone
+  tells_all : (r : Result (List Reply) WorldFault) → IfOk r (λ rs. rs ≡ command_replies slow asked) → OnErr r (r ≡ Err NoMemory)
+      → StandsWith (after_line slow (told_by asked)) member.site member.backs → after ≡ before + cost (work_of slow asked) → Tells slow asked r before member after
+  tells_all (Ok rs) is none stands paid = (is, stands, paid)
+  tells_all (Err NoMemory) is none stands paid = pays_all (work_of slow asked) paid
+  tells_all (Err NoSite) is none stands paid = let e = none in cc
+  tells_all (Err NoMail) is none stands paid = let e = none in cc
+
+  -- one reply is said
+  tells_one : (r : Result (List Reply) WorldFault) (said : Reply) → command_replies slow asked ≡ said ∷ [] → IfOk r (λ rs. rs ≡ said ∷ []) → OnErr r (r ≡ Err NoMemory)
+      → StandsWith (after_line slow (told_by asked)) member.site member.backs → after ≡ before + cost (work_of slow asked) → Tells slow asked r before member after
+  tells_one r said is says = tells_all r (go r says)
+    where
+      go : (r : Result (List Reply) WorldFault) → IfOk r (λ rs. rs ≡ said ∷ []) → IfOk r (λ rs. rs ≡ command_replies slow asked)
+      go (Ok rs) same = same ∙ sym is
+      go (Err why) same = tt
+
+-- ---- a command that only asks
+
+module _ (slow : SlowSite) {before after : ℕ} {member : Member} (stands : StandsWith slow member.site member.backs) (same : after ≡ before) where
+  tells_asked : (asked : Command) → told_by asked ≡ Prints → work_of slow asked ≡ [] → (r : Result (List Reply) WorldFault) → IfOk r (λ rs. rs ≡ command_replies slow asked) → OnErr r (r ≡ Err NoMemory)
+      → Tells slow asked r before member after
+  unfolding after_line
+  tells_asked asked told none r is fails =
+      tells_all slow asked before r is fails (subst (λ l. StandsWith (after_line slow l) member.site member.backs) (sym told) stands) (idle slow asked none same)
+
+  pub tells_show : (r : Result (List Reply) WorldFault) → IfOk r (λ rs. rs ≡ command_replies slow command.Show) → OnErr r (r ≡ Err NoMemory) → Tells slow command.Show r before member after
+  tells_show = tells_asked command.Show refl (none_said (command_replies slow command.Show))
+
+  pub tells_who : (r : Result (List Reply) WorldFault) → IfOk r (λ rs. rs ≡ command_replies slow command.Who) → OnErr r (r ≡ Err NoMemory) → Tells slow command.Who r before member after
+  tells_who = tells_asked command.Who refl (none_said (command_replies slow command.Who))
+
+  pub tells_status : (at : SiteStatus) → at ≡ status slow → (r : Result (List Reply) WorldFault) → IfOk r (λ rs. rs ≡ reply.Status at ∷ []) → OnErr r (r ≡ Err NoMemory) → Tells slow command.Status r before member after
+  tells_status at is r says = tells_asked command.Status refl refl r (subst (λ s. IfOk r (λ rs. rs ≡ reply.Status s ∷ [])) is says)
+
+  -- commands of which nothing is said
+  pub tells_nothing : (given : Command) → (given ≡ command.Blank) ⊎ (given ≡ command.Poll) ⊎ (given ≡ command.Quit) → (replies : List Reply) → replies ≡ [] → Tells slow given (Ok replies) before member after
+  tells_nothing given this replies none = go this
+    where
+      read : (asked : Command) → given ≡ asked → told_by asked ≡ Prints → work_of slow asked ≡ [] → command_replies slow asked ≡ [] → Tells slow given (Ok replies) before member after
+      read asked is told idle says = tells_read slow (Ok replies) before after member given asked is (tells_asked asked told idle (Ok replies) (none ∙ sym says) tt)
+
+      go : (given ≡ command.Blank) ⊎ (given ≡ command.Poll) ⊎ (given ≡ command.Quit) → Tells slow given (Ok replies) before member after
+      go (inl is) = read command.Blank is refl refl refl
+      go (inr (inl is)) = read command.Poll is refl (none_polled slow) refl
+      go (inr (inr is)) = read command.Quit is refl refl refl
+
+-- ---- the own note
+
+-- the reply to the next note
+noted_is : (slow : SlowSite) (answer : Result ℕ site.NoteEnd) (said : Reply) → answer ≡ next_note (slow.notes slow.me).number → said ≡ noted_reply answer → note_reply slow ∷ [] ≡ said ∷ []
+noted_is slow answer said is says = ap (λ z. z ∷ []) (sym (says ∙ ap noted_reply is ∙ next_said slow))
+
+backs_stay : (slow : SlowSite) (note : Note) → slow.backs ≡ (noted slow note).backs
+backs_stay slow note = cond_both (nat_le most_notes (slow.notes slow.me).number) _ _ (λ (s : SlowSite). slow.backs ≡ s.backs) (λ full. refl) (λ room. refl)
+
+-- a new note keeps what takes edits back
+stands_noted : (slow : SlowSite) (note : Note) {old new : Member} → StandsWith slow old.site old.backs → StandsFor (noted slow note) new.site → new.backs ≡ old.backs → StandsWith (noted slow note) new.site new.backs
+stands_noted slow note stands site same = record { site = site; backs_are = same ∙ stands.backs_are ∙ backs_stay slow note }
+
+module _ (slow : SlowSite) {before after : ℕ} {old new : Member} (stands : StandsWith slow old.site old.backs) (kept : new.backs ≡ old.backs) (same : after ≡ before) (answer : Result ℕ site.NoteEnd) (said : Reply) (is : answer ≡ next_note (slow.notes slow.me).number) (says : said ≡ noted_reply answer) (r : Result (List Reply) WorldFault) (ok : IfOk r (λ rs. rs ≡ said ∷ [])) (fails : OnErr r (r ≡ Err NoMemory)) where
+  pub tells_name : (name : List ℕ) → StandsFor (after_line slow (Names name)) new.site → Tells slow (command.Name name) r before new after
+  unfolding after_line
+  tells_name name site =
+      tells_one slow (command.Name name) before r said (noted_is slow answer said is says) ok fails (stands_noted slow (renamed (slow.notes slow.me) name) stands site kept) (idle slow (command.Name name) refl same)
+
+  pub tells_focus : (focus : Option Stamp) → StandsFor (after_line slow (Focuses focus)) new.site → Tells slow (command.Focus focus) r before new after
+  unfolding after_line
+  tells_focus focus site =
+      tells_one slow (command.Focus focus) before r said (noted_is slow answer said is says) ok fails (stands_noted slow (refocused (slow.notes slow.me) focus) stands site kept) (idle slow (command.Focus focus) refl same)
+
+-- ---- an own event
+
+-- the reference site makes this event of the command
+abbrev pub Makes : SlowSite → Command → Event → Type 0
+Makes slow asked e = (command_replies slow asked ≡ reply.Done e.stamp ∷ []) × (work_of slow asked ≡ Work 1 ∷ [])
+
+pub edit_makes : (slow : SlowSite) (wanted : Edit) (e : Event) → edit slow wanted ≡ Ok e → Makes slow (command.Edit wanted) e
+edit_makes slow wanted e is = (ap (λ r. edit_reply r ∷ []) is, ap (λ r. filter is_work (of_own slow r)) is ∙ one_made slow e)
+
+pub undo_makes : (slow : SlowSite) (e : Event) → undo slow ≡ Ok e → Makes slow command.Undo e
+undo_makes slow e is = (ap (λ r. undo_reply r ∷ []) is, ap (λ r. filter is_work (of_taken_back slow r)) is ∙ one_made slow e)
+
+module _ (slow : SlowSite) (asked : Command) (before : ℕ) {after : ℕ} {member : Member} (r : Result (List Reply) WorldFault) where
+  pub tells_made : (e : Event) → Makes slow asked e → (id : Stamp) → id ≡ e.stamp → IfOk r (λ rs. rs ≡ reply.Done id ∷ []) → OnErr r (r ≡ Err NoMemory)
+      → StandsWith (after_line slow (told_by asked)) member.site member.backs → after ≡ before + 1 → Tells slow asked r before member after
+  tells_made e makes id is says none stands paid =
+      tells_one slow asked before r (reply.Done id) (makes.0 ∙ ap (λ i. reply.Done i ∷ []) (sym is)) says none stands (omega (arith, paid, ap cost makes.1))
+
+-- ---- a refusal
+
+-- the reference site refuses the command so; where memory ran out nothing is said of it
+abbrev pub Refuses : Option Refusal → SlowSite → Command → Type 0
+Refuses None slow asked = Unit {0}
+Refuses (Some why) slow asked = (command_replies slow asked ≡ reply.Refused why ∷ []) × (after_line slow (told_by asked) ≡ slow) × (work_of slow asked ≡ [])
+
+pub edit_refuses : (slow : SlowSite) (wanted : Edit) (why : EditFault) → EditIs (edit slow wanted) (Err why) → Refuses (option_map edit_refusal (refused_edit why)) slow (command.Edit wanted)
+unfolding after_edit after_line
+edit_refuses slow wanted why is = go (refused_edit why) (edit_as (edit slow wanted) why is)
+  where
+    go : (w : Option EditRefusal) → IsErrAs w (edit slow wanted) → Refuses (option_map edit_refusal w) slow (command.Edit wanted)
+    go None k = tt
+    go (Some refusal) k = (
+      ap (λ r. edit_reply r ∷ []) k,
+      ap (λ r. record (with_own slow r) { backs = backs_with (back slow wanted) slow.backs r }) k,
+      ap (λ r. filter is_work (of_own slow r)) k,
+    )
+
+pub undo_refuses : (slow : SlowSite) (why : BackFault) → UndoIs (undo slow) (Err why) → Refuses (option_map back_refusal (refused_undo why)) slow command.Undo
+unfolding after_undo after_line
+undo_refuses slow why is = go (refused_undo why) (undo_as (undo slow) why is)
+  where
+    go : (w : Option BackRefusal) → IsErrAs w (undo slow) → Refuses (option_map back_refusal w) slow command.Undo
+    go None k = tt
+    go (Some refusal) k = (
+      ap (λ r. undo_reply r ∷ []) k,
+      ap (λ r. record (with_own slow r) { backs = backs_without slow.backs r }) k,
+      ap (λ r. filter is_work (of_taken_back slow r)) k,
+    )
+
+module _ (slow : SlowSite) (asked : Command) {before after : ℕ} {member : Member} (why : Option Refusal) (owes : Refuses why slow asked) where
+  pub tells_refused : (r : Result (List Reply) WorldFault) → IfOk r (λ rs. (reason : Refusal) × (why ≡ Some reason) × (rs ≡ reply.Refused reason ∷ [])) → OnErr r (r ≡ Err NoMemory)
+      → StandsWith slow member.site member.backs → after ≡ before → Tells slow asked r before member after
+  tells_refused (Ok rs) says none stands same =
+      let k : Refuses (Some says.0) slow asked = subst (λ w. Refuses w slow asked) says.1 owes in
+      (says.2 ∙ sym k.0, subst (λ s. StandsWith s member.site member.backs) (sym k.1) stands, idle slow asked k.2 same)
+  tells_refused (Err NoMemory) says none stands same = pays_none (work_of slow asked) same
+  tells_refused (Err NoSite) says none stands same = let e = none in cc
+  tells_refused (Err NoMail) says none stands same = let e = none in cc

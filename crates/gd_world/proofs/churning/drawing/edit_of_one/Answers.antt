@@ -1,0 +1,29 @@
+use Rattle.std.proofs.Common.{arith}
+use Rattle.gd_base.specs.declared.edit.Edit.TheVariants as wish
+use Rattle.gd_world.proofs.DrawnLines.{changed, line_deletes, line_groups, line_moves, line_of_one, line_raises, line_strokes, line_ungroups}
+use Rattle.gd_worlds.specs.Churn.{change, group, move, stroke}
+use Rattle.gd_world.proofs.churning.drawing.edit_of_one.Goals as goal
+
+pub returns-in-7-clause-drawn : goal.returns-in-7-clause-drawn
+returns-in-7-clause-drawn c mails site =
+    line_of_one _ _ _ mails site _ (change wish.Delete) _ (line_deletes _ mails site _ c.in-7.is) (changed _ _ wish.Delete _ _ c.pick.ensures.drawn)
+
+pub returns-in-8-clause-drawn : goal.returns-in-8-clause-drawn
+returns-in-8-clause-drawn c mails site =
+    line_of_one _ _ _ mails site _ (change wish.Raise) _ (line_raises _ mails site _ c.in-8.is) (changed _ _ wish.Raise _ _ c.pick-in-8.ensures.drawn)
+
+pub returns-in-9-clause-drawn : goal.returns-in-9-clause-drawn
+returns-in-9-clause-drawn c mails site =
+    line_of_one _ _ _ mails site _ group _ (line_groups _ mails site _ c.in-9.is) c.group.ensures.drawn
+
+pub returns-in-10-clause-drawn : goal.returns-in-10-clause-drawn
+returns-in-10-clause-drawn c mails site =
+    line_of_one _ _ _ mails site _ (change wish.Ungroup) _ (line_ungroups _ mails site _ c.in-10.is) (changed _ _ wish.Ungroup _ _ c.pick-in-10.ensures.drawn)
+
+pub returns-in-11-clause-drawn : goal.returns-in-11-clause-drawn
+returns-in-11-clause-drawn c mails site =
+    line_of_one _ _ _ mails site _ stroke _ (line_strokes _ mails site _ c.in-11.is) c.stroke.ensures.drawn
+
+pub returns-in_default-clause-drawn : goal.returns-in_default-clause-drawn
+returns-in_default-clause-drawn c mails site =
+    line_of_one _ _ _ mails site _ move _ (line_moves _ mails site _ c.requires.from (omega arith)) c.move_to.ensures.drawn

@@ -1,0 +1,72 @@
+use Rattle.std.proofs.Common.{ℕ, List, refl, sym, ◌∙◌, ap}
+use Rattle.std.specs.Prelude.{option_map}
+use Rattle.gd_answers.specs.Refusals.{refused_edit, refused_undo}
+use Rattle.gd_lines.specs.Refusals.{edit_refusal}
+use Rattle.gd_lines.specs.declared.command.Command.TheVariants as command
+use Rattle.gd_reference.specs.TakeBack.{back_refusal}
+use Rattle.gd_reference.specs.World.{after_line}
+use Rattle.gd_world.proofs.Tells.{edit_makes, edit_refuses, tells_focus, tells_made, tells_name, tells_nothing, tells_read, tells_refused, tells_show, tells_status, tells_who, undo_makes, undo_refuses}
+use Rattle.gd_world.proofs.telling.tell.Goals as goal
+
+pub returns-in-Ok : goal.returns-in-Ok
+unfolding after_line
+returns-in-Ok g c slow stands =
+    let wanted = c.in-Edit.edit in
+    let made = c.in-Ok.ensures in
+    tells_read _ _ _ _ _ _ (command.Edit wanted) c.in-Edit.is
+    (tells_made slow (command.Edit wanted) _ _ c.in-Ok.event (edit_makes slow wanted c.in-Ok.event (made.answer slow stands)) _ c.stamp.ensures c.only.ensures.ok c.only.ensures.err
+    (made.stands slow stands) made.steps)
+
+pub returns-in-Err : goal.returns-in-Err
+returns-in-Err g c slow stands =
+    let wanted = c.in-Edit.edit in
+    let fell = c.in-Err.ensures in
+    let says = rw c.edit_refusal.ensures at c.refused.ensures in
+    tells_read _ _ _ _ _ _ (command.Edit wanted) c.in-Edit.is
+    (tells_refused slow (command.Edit wanted) (option_map edit_refusal (refused_edit c.in-Err.fault)) (edit_refuses slow wanted c.in-Err.fault (fell.answer slow stands)) _ says.ok says.err
+    (fell.err_stands slow stands) fell.err_steps)
+
+pub returns-in-Ok-undo : goal.returns-in-Ok-undo
+unfolding after_line
+returns-in-Ok-undo g c slow stands =
+    let made = c.in-Ok-undo.ensures in
+    tells_read _ _ _ _ _ _ command.Undo c.in-Undo.is
+    (tells_made slow command.Undo _ _ c.in-Ok-undo.event (undo_makes slow c.in-Ok-undo.event (made.answer slow stands)) _ c.stamp-in-Ok-undo.ensures c.only-in-Ok-undo.ensures.ok c.only-in-Ok-undo.ensures.err
+    (made.stands slow stands) made.steps)
+
+pub returns-in-Err-undo : goal.returns-in-Err-undo
+returns-in-Err-undo g c slow stands =
+    let fell = c.in-Err-undo.ensures in
+    let says = rw c.back_refusal.ensures at c.refused-in-Err-undo.ensures in
+    tells_read _ _ _ _ _ _ command.Undo c.in-Undo.is
+    (tells_refused slow command.Undo (option_map back_refusal (refused_undo c.in-Err-undo.fault)) (undo_refuses slow c.in-Err-undo.fault (fell.answer slow stands)) _ says.ok says.err
+    (fell.err_stands slow stands) fell.err_steps)
+
+pub returns-in-Name : goal.returns-in-Name
+returns-in-Name g c slow stands =
+    let name = c.copy.result in
+    tells_read _ _ _ _ _ _ (command.Name name) (c.in-Name.is ∙ ap (λ (n : List ℕ). command.Name n) (sym c.copy.ensures))
+    (tells_name slow stands refl refl _ _ (c.set_name.ensures.answer slow stands.site) c.noted_reply.ensures _ c.only-in-Name.ensures.ok c.only-in-Name.ensures.err
+    name (c.set_name.ensures.stands slow stands.site))
+
+pub returns-in-Focus : goal.returns-in-Focus
+returns-in-Focus g c slow stands =
+    tells_read _ _ _ _ _ _ (command.Focus c.in-Focus.focus) c.in-Focus.is
+    (tells_focus slow stands refl refl _ _ (c.set_focus.ensures.answer slow stands.site) c.noted_reply-in-Focus.ensures _ c.only-in-Focus.ensures.ok c.only-in-Focus.ensures.err
+    c.in-Focus.focus (c.set_focus.ensures.stands slow stands.site))
+
+pub returns-in-Show : goal.returns-in-Show
+returns-in-Show g c slow stands =
+    tells_read _ _ _ _ _ _ command.Show c.in-Show.is (tells_show slow stands refl _ (c.show.ensures.ok slow stands.site) c.show.ensures.err)
+
+pub returns-in-Status : goal.returns-in-Status
+returns-in-Status g c slow stands =
+    tells_read _ _ _ _ _ _ command.Status c.in-Status.is
+    (tells_status slow stands refl _ (c.status-status.ensures slow stands.site) _ c.only-in-Status.ensures.ok c.only-in-Status.ensures.err)
+
+pub returns-in-Who : goal.returns-in-Who
+returns-in-Who g c slow stands =
+    tells_read _ _ _ _ _ _ command.Who c.in-Who.is (tells_who slow stands refl _ (c.who.ensures.ok slow stands.site) c.who.ensures.err)
+
+pub returns-in-Blank : goal.returns-in-Blank
+returns-in-Blank g c slow stands = tells_nothing slow stands refl _ c.in-Blank.is _ c.new.ensures

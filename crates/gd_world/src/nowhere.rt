@@ -1,0 +1,42 @@
+//! What stands for the journal and the link of a world, which has neither.
+
+ghost use Rattle.std.specs.Prelude.{Some, None, []};
+
+use gd_outside::{Failed, Journal, Link, Received, Sent, WordList};
+
+/// Takes all that it is given, keeps nothing and hands out nothing. No call on it fails.
+#[derive(Drop)]
+pub(crate) struct Nowhere {}
+
+impl Journal for Nowhere {
+    ghost seen = { λ n. record { contents = None; name = None; faults = 0 } };
+
+    fn create(&mut self, _name: &str) -> Result<(), Failed> {
+        Ok(())
+    }
+
+    fn write_at(&mut self, _pos: u64, _piece: &[u8]) -> Result<(), Failed> {
+        Ok(())
+    }
+
+    fn sync(&mut self) -> Result<(), Failed> {
+        Ok(())
+    }
+}
+
+/// It has no entries.
+impl Link for Nowhere {
+    ghost seen = { λ n. record { entries = Some []; tried = None; addresses = None; me = None; faults = 0 } };
+
+    fn open(&mut self, _addresses: &WordList, _me: u8) -> Result<(), Failed> {
+        Ok(())
+    }
+
+    fn receive(&mut self, _buf: &mut [u8]) -> Received {
+        Received::Nothing
+    }
+
+    fn send(&mut self, _to: u8, _frame: &[u8]) -> Sent {
+        Sent::Out
+    }
+}
