@@ -17,7 +17,7 @@ use Rattle.gd_grammar.specs.HeaderBytes.{Header}
 use Rattle.gd_grammar.specs.LogBytes.{LogMisread}
 use Rattle.gd_effects.specs.Effects.{Effect, Print, Work}
 use Rattle.gd_options.specs.declared.command.Command.{Command}
-use Rattle.gd_options.specs.declared.command.Command.TheVariants.{Replay, Rehearse}
+use Rattle.gd_options.specs.declared.command.Command.TheVariants.{Replay}
 use Rattle.gd_options.specs.declared.format.Format.{Format}
 use Rattle.gd_options.specs.declared.format.Format.TheVariants.{Text}
 use Rattle.gd_reference.specs.Tally.{Tally}
@@ -250,9 +250,6 @@ replays format counts = Some (Replay format counts)
 -- a replay as text, without counts
 abbrev pub replay : Option Command
 replay = replays Text false
-
-abbrev pub rehearsal : Option Command
-rehearsal = Some (Rehearse 2)
 
 abbrev pub counted : ℕ → ℕ → ℕ → ℕ → Tally
 counted a d r u = record { applied = a; dropped = d; reworked = r; undone = u }

@@ -2,7 +2,7 @@
 #![tactic(auto, unfolding(crate::proofs::Computing::computing))]
 
 ghost use Rattle.std.specs.List.{AllByRecursion};
-ghost use Rattle.std.specs.Prelude.{◌≡◌, ◌++◌, ◌∷◌, [], None, Ok, Err, false, true, length, pos, take};
+ghost use Rattle.std.specs.Prelude.{◌≡◌, ◌++◌, ◌∷◌, [], None, Ok, Err, Some, codes, false, true, length, pos, take};
 ghost use Rattle.gd_outside.specs.declared.status.Status.TheVariants as status;
 ghost use Rattle.gd_model.specs.declared.before.Before.TheVariants.{Place};
 ghost use Rattle.gd_repair.specs.Repair.Outcome.{applied, dropped, reworked};
@@ -12,12 +12,14 @@ ghost use Rattle.gd_model.specs.Drawing.{picture};
 ghost use Rattle.gd_model.specs.Splices.{splice};
 ghost use Rattle.gd_model.specs.Arrivals.{drawn, all_drawn, outcome_of, costs};
 ghost use Rattle.gd_reference.specs.DrawingText.{text};
-ghost use Rattle.gd_run.specs.Runs.{built, effects_of, end_of};
+ghost use Rattle.gd_run.specs.Runs.{cut_of, effects_of, end_of};
 ghost use Rattle.gd_reference.specs.Tally.{tally};
 ghost use Rattle.gd_json.specs.Worked.{tie_picture_json, tie_events_json};
+ghost use Rattle.gd_options.specs.declared.command.Command.TheVariants.{Churn, Rehearse};
 ghost use Rattle.gd_options.specs.declared.format.Format.TheVariants.{Json, Events};
 ghost use Rattle.gd_lines.specs.Replies.{usage_line};
-ghost use Rattle.gd_rows.specs.Worked.{header, header_two, header_bytes, empty_log, tie_log, tie_events, tie_text, rank_events, ellipse_lowered, rank_text, effect_before_cause, end_alone, replay, replays, rehearsal, counted, tie_counts, prints_of, works_of, cut_text, moved_log, moved_events, moved_text, styled_log, styled_events, styled_text, grouped_log, grouped_events, regrouped_events, regrouped_text, nested_events, nested_text, frame_row, frame_value, at_stamp, moves_held, late_move, late_delete, tied_held, late_group, undone_by_the_group, log_faults, lowered_log, lowered_events, frame_faults, last_move};
+ghost use Rattle.gd_rows.specs.Worked.{header, header_two, header_bytes, empty_log, tie_log, tie_events, tie_text, rank_events, ellipse_lowered, rank_text, effect_before_cause, end_alone, replay, replays, counted, tie_counts, prints_of, works_of, cut_text, moved_log, moved_events, moved_text, styled_log, styled_events, styled_text, grouped_log, grouped_events, regrouped_events, regrouped_text, nested_events, nested_text, frame_row, frame_value, at_stamp, moves_held, late_move, late_delete, tied_held, late_group, undone_by_the_group, log_faults, lowered_log, lowered_events, frame_faults, last_move};
+ghost use Rattle.gd_rows.specs.WorkedChurns.{nothing_printed};
 
 /// A log without events prints no object, with its closed gate and without.
 pub fn an_empty_log_prints_its_end()
@@ -135,13 +137,26 @@ pub fn what_is_no_log_is_refused()
     ensures end { end_of replay (take 32 tie_log) ≡ status.BadLog }
 {}
 
-/// Where there is no command, it is said how the program is called, whatever the input is. So it is where the command isn't
-/// built.
+/// Where there is no command, it is said how the program is called, whatever the input is.
 pub fn what_is_no_command_is_refused()
     ensures printed { effects_of None tie_log [] ≡ prints_of (usage_line ∷ []) }
     ensures end { end_of None tie_log ≡ status.Usage }
-    ensures unbuilt { built rehearsal ≡ None }
-    ensures built { built replay ≡ replay }
+{}
+
+/// A rehearsal is one of so many sites. Where no more of its input can be read, the whole lines in it are answered.
+pub fn a_rehearsal_is_run()
+    ensures printed { effects_of (Some (Rehearse 2)) (codes "send 1 2\nsend 1 3") []
+        ≡ prints_of (codes "mail 1\n" ∷ codes "refused: NoSite\n" ∷ []) }
+    ensures end { end_of (Some (Rehearse 2)) (codes "send 1 2\nsend 1 3") ≡ status.Done }
+    ensures cut { cut_of (Some (Rehearse 2)) [] (codes "send 1 2\nsend 1 3")
+        ≡ prints_of (codes "mail 1\n" ∷ []) }
+{}
+
+/// A churn does the same whatever the input is.
+pub fn a_churn_is_run()
+    ensures printed { effects_of (Some (Churn 1 0)) tie_log [] ≡ prints_of nothing_printed }
+    ensures end { end_of (Some (Churn 1 0)) tie_log ≡ status.Done }
+    ensures cut { cut_of (Some (Churn 1 0)) [] tie_log ≡ [] }
 {}
 
 /// A frame is read from its bytes, and written as them.
