@@ -23,29 +23,34 @@ use Rattle.gd_outside.specs.Told.{told}
 use Rattle.gd_outside.specs.declared.end.End.{End}
 use Rattle.gd_outside.specs.declared.end.End.TheVariants as early
 use Rattle.gd_outside.specs.declared.status.Status.{Status}
-use Rattle.gd_outside.specs.declared.status.Status.TheVariants.{Usage, ReadFault, WriteFault, JournalFault, LinkFault, NoMemory}
+use Rattle.gd_outside.specs.declared.status.Status.TheVariants.{Done, Usage, ReadFault, WriteFault, JournalFault, LinkFault, NoMemory}
 use Rattle.gd_protocol.proofs.NodeJournals.{journal_of_node}
+use Rattle.gd_reference.specs.InputLines.{whole_lines}
 use Rattle.gd_reference.specs.NodeRun.{end_after, node_lines}
 use Rattle.gd_reference.specs.SlowRun.{ended_by, replayed, upgraded_log}
-use Rattle.gd_run.specs.Runs.{built, cut_of, effects_of}
+use Rattle.gd_run.specs.Runs.{cut_of, effects_of}
+use Rattle.gd_world.specs.Rehearsing.{IsChurnEnd, IsRehearsalEnd}
+use Rattle.gd_worlds.specs.Churn.{churn_effects}
+use Rattle.gd_worlds.specs.Rehearsal.{rehearsal_effects, rehearsal_end, rehearsal_lines}
 use Rattle.groupdesign.proofs.Sentences.{completes, did_whole, left_at, unopened_at}
 use Rattle.groupdesign.specs.Carrying.{Carried}
 use Rattle.groupdesign.specs.Commands.{HasLogOf, IsEnd, IsReaderEnd, IsSilentEnd, Named, OpensFirst, Silent, Untouched}
 use Rattle.groupdesign.specs.Headline.{Headline}
-use Rattle.groupdesign.specs.Runs.{Run, asked, asked_of}
+use Rattle.groupdesign.specs.Runs.{Run, asked}
 
 -- a node's header begins its journal anew, so nothing counts that stood in it
 log_of : (asked : Option Command) (input : List ℕ) (entries : List Entry) (old new : Option (List ℕ))
     → Journals old (effects_of asked input entries) new → HasLogOf asked input entries new
-log_of (Some (Node session site journal addresses)) input entries old new h some =
-    h.now some ∙ journal_of_node (record { me = site; sites = length addresses; session = session; entries = entries; lines = node_lines input })
+log_of (Some (Node session site journal addresses)) input entries old new h =
+    λ some. h.now some ∙ journal_of_node (record { me = site; sites = length addresses; session = session; entries = entries; lines = node_lines input })
 log_of other input entries old new h = tt
 
--- a command that is built isn't refused
-not_refused : (asked : Option Command) → IsSome asked → IsEnd asked Usage → ⊥
-not_refused None some end = let e = some in cc
-not_refused (Some (Node session site journal addresses)) some end = end
-not_refused (Some other) some end = end
+-- a command isn't refused
+not_refused : (command : Command) → IsEnd (Some command) Usage → ⊥
+not_refused (Node session site journal addresses) end = end
+not_refused (Rehearse sites) end = end
+not_refused (Churn seed steps) end = end
+not_refused other end = end
 
 pub headline : (run : Run) → Carried (asked run) run.status run.before run.after → Headline run
 headline run h = record {
@@ -66,22 +71,24 @@ headline run h = record {
   counts = h.ends.counts;
   complete = completes run.status h.ends;
   ends = h.kind;
-  plain = λ plain is words some usage.
-      let same : asked run ≡ built (Some (plain_command plain)) = ap asked_of words ∙ ap built (plain_is_asked plain is) in
-      not_refused (asked run) (subst IsSome (sym same) some) (subst (IsEnd (asked run)) usage h.kind);
+  plain = λ plain is words usage.
+      let same : asked run ≡ Some (plain_command plain) = ap command_of words ∙ plain_is_asked plain is in
+      not_refused (plain_command plain) (subst (λ k. IsEnd k Usage) same (subst (IsEnd (asked run)) usage h.kind));
   untouched = h.untouched;
   silent = h.silent;
   named = h.named;
 }
 
-pub headline_for : (run : Run) {known : Option Command} → command_of run.words ≡ known → Carried (built known) run.status run.before run.after → Headline run
-headline_for run e h = headline run (subst (λ k. Carried (built k) run.status run.before run.after) (sym e) h)
+pub headline_for : (run : Run) {known : Option Command} → command_of run.words ≡ known → Carried known run.status run.before run.after → Headline run
+headline_for run e h = headline run (subst (λ k. Carried k run.status run.before run.after) (sym e) h)
 
 -- ---- memory ran out before anything was done
 
 unmoved : (asked : Option Command) (o : Outside) → IsEnd asked NoMemory × Untouched asked o o × Silent asked NoMemory o o × Named asked NoMemory o o
 unmoved None o = (tt, (refl, refl, refl, refl), (λ s. refl, λ s. refl), tt)
 unmoved (Some (Node session site journal addresses)) o = (tt, tt, tt, inl refl)
+unmoved (Some (Rehearse sites)) o = (tt, (refl, refl), tt, tt)
+unmoved (Some (Churn seed steps)) o = (tt, (refl, refl, refl), (λ s. refl, λ s. refl), tt)
 unmoved (Some other) o = (tt, (refl, refl), (λ s. refl, λ s. refl), tt)
 
 pub carried_not : (asked : Option Command) (o : Outside) → Carried asked NoMemory o o
@@ -127,9 +134,9 @@ silent_by ReadFault silent = inl refl
 silent_by NoMemory silent = inr refl
 silent_by other silent = absurd silent
 
-opens_none : (a b : Outside) (s : Status) → IsReaderEnd s → OpensFirst s a b
-opens_none a b LinkFault kind = absurd kind
-opens_none a b other kind = tt
+opens_none : (a b : Outside) (s : Status) → ¬ (s ≡ LinkFault) → OpensFirst s a b
+opens_none a b LinkFault not = absurd (not refl)
+opens_none a b other not = tt
 
 module _ {input input' : SeenSource} {output output' : SeenSink} (journal : SeenJournal) (link : SeenLink) (s : Status) (kind : IsLogEnd s)
     (silent : (s ≡ ReadFault) ⊎ (s ≡ NoMemory) → output' ≡ output) where
@@ -142,7 +149,7 @@ module _ {input input' : SeenSource} {output output' : SeenSink} (journal : Seen
     untouched = (refl, refl);
     silent = (λ q. silent (silent_by s q), unread);
     named = tt;
-    opens_first = opens_none _ _ s kind;
+    opens_first = opens_none _ _ s (λ e. subst IsReaderEnd e kind);
   }
 
   pub carried_upgrade : {steps : ℕ} → EndsAs (IsSome input'.left) (upgraded_log (told input.left)) no_effects (ended_by (told input.left)) s (outside input output journal link steps) (outside input' output' journal link steps)
@@ -153,7 +160,7 @@ module _ {input input' : SeenSource} {output output' : SeenSink} (journal : Seen
     untouched = (refl, refl);
     silent = (λ q. silent (silent_by s q), λ q. refl);
     named = tt;
-    opens_first = opens_none _ _ s kind;
+    opens_first = opens_none _ _ s (λ e. subst IsReaderEnd e kind);
   }
 
 -- ---- a node ran
@@ -180,18 +187,51 @@ module _ (a b : Outside) where
     opens_first = opens_first s untouched ends.unopened;
   }
 
+-- ---- a session was played
+
+-- a churn reads nothing
+unread : (s : Status) → IsChurnEnd s → ¬ (s ≡ ReadFault)
+unread s kind e = subst IsChurnEnd e kind
+
+churn_silent : (s : Status) → IsChurnEnd s → IsSilentEnd s → s ≡ NoMemory
+churn_silent ReadFault kind silent = absurd kind
+churn_silent NoMemory kind silent = refl
+churn_silent other kind silent = absurd silent
+
+module _ {input input' : SeenSource} {output output' : SeenSink} (journal : SeenJournal) (link : SeenLink) {steps steps' : ℕ} (s : Status) where
+  pub carried_rehearse : (sites : ℕ) → IsRehearsalEnd s
+      → EndsAs (IsSome input'.left) (rehearsal_effects sites (rehearsal_lines (told input.left))) (λ taken. rehearsal_effects sites (rehearsal_lines (whole_lines taken)))
+      (rehearsal_end (rehearsal_lines (told input.left))) s (outside input output journal link steps) (outside input' output' journal link steps')
+      → Carried (Some (Rehearse sites)) s (outside input output journal link steps) (outside input' output' journal link steps')
+  carried_rehearse sites kind ends = record {
+    ends = ends;
+    kind = kind;
+    untouched = (refl, refl);
+    silent = tt;
+    named = tt;
+    opens_first = opens_none _ _ s (λ e. subst IsRehearsalEnd e kind);
+  }
+
+module _ (input : SeenSource) {output output' : SeenSink} (journal : SeenJournal) (link : SeenLink) {steps steps' : ℕ} (s : Status) where
+  pub carried_churn : (seed count : ℕ) → IsChurnEnd s → (s ≡ NoMemory → output' ≡ output)
+      → EndsAs (Unit {0}) (churn_effects seed count) no_effects Done s (outside input output journal link steps) (outside input output' journal link steps')
+      → Carried (Some (Churn seed count)) s (outside input output journal link steps) (outside input output' journal link steps')
+  carried_churn seed count kind silent ends = record {
+    ends = ends;
+    kind = kind;
+    untouched = (refl, refl, refl);
+    silent = (λ q. silent (churn_silent s kind q), λ q. absurd (unread s kind q));
+    named = tt;
+    opens_first = opens_none _ _ s (λ e. subst IsChurnEnd e kind);
+  }
+
 -- ---- by the command
 
 -- a command in other words
-pub carried_as : {command known : Command} {s : Status} {a b : Outside} → command ≡ known → Carried (built (Some known)) s a b → Carried (built (Some command)) s a b
-carried_as {s = s} {a = a} {b = b} e h = subst (λ (k : Command). Carried (built (Some k)) s a b) (sym e) h
+pub carried_as : {command known : Command} {s : Status} {a b : Outside} → command ≡ known → Carried (Some known) s a b → Carried (Some command) s a b
+carried_as {s = s} {a = a} {b = b} e h = subst (λ (k : Command). Carried (Some k) s a b) (sym e) h
 
 -- the node of a config
 pub named_node : {c : ConfigValue} {command : Command} (session site : ℕ) (journal : List ℕ) (addresses : List (List ℕ)) → command ≡ Node session site journal addresses
     → c ≡ record { session = session; me = site; journal = journal; addresses = addresses } → command ≡ node_of c
 named_node session site journal addresses e same = e ∙ sym (ap node_of same)
-
--- the commands that aren't built
-pub unbuilt : {command : Command} → ((sites : ℕ) × (command ≡ Rehearse sites)) ⊎ ((seed : ℕ) × (steps : ℕ) × (command ≡ Churn seed steps)) → built (Some command) ≡ None
-unbuilt (inl (sites, e)) = ap (λ c. built (Some c)) e
-unbuilt (inr (seed, steps, e)) = ap (λ c. built (Some c)) e

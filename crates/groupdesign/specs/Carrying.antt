@@ -1,5 +1,5 @@
--- What is left where a command was carried out that is built, or where it was said how the program is called: from this the
--- headline follows.
+-- What is left where a command was carried out, or where it was said how the program is called: from this the headline
+-- follows.
 use Rattle.std.specs.Prelude.{Option}
 use Rattle.gd_effects.specs.Endings.{EndsAs}
 use Rattle.gd_effects.specs.Outside.{Outside}

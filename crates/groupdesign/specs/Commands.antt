@@ -4,15 +4,16 @@ use Rattle.gd_effects.specs.Outside.{Outside}
 use Rattle.gd_grammar.specs.Drawings.{logged}
 use Rattle.gd_node.specs.Serving.{IsNamedBy, IsNodeEnd}
 use Rattle.gd_options.specs.declared.command.Command.{Command}
-use Rattle.gd_options.specs.declared.command.Command.TheVariants.{Node}
+use Rattle.gd_options.specs.declared.command.Command.TheVariants.{Node, Rehearse, Churn}
 use Rattle.gd_outside.specs.Seen.{Entry}
 use Rattle.gd_outside.specs.Told.{told}
 use Rattle.gd_outside.specs.declared.status.Status.{Status}
 use Rattle.gd_outside.specs.declared.status.Status.TheVariants.{Done, Usage, BadLog, ReadFault, WriteFault, LinkFault, NoMemory}
 use Rattle.gd_reference.specs.NodeRun.{node_after, node_lines}
 use Rattle.gd_reference.specs.SlowSite.{journal_header, new_site}
+use Rattle.gd_world.specs.Rehearsing.{IsChurnEnd, IsRehearsalEnd}
 
--- where words ask for no command that is built, the statuses of the line that says how the program is called
+-- where words ask for no command, the statuses of the line that says how the program is called
 abbrev pub IsUsageEnd : Status → Type 0
 IsUsageEnd Usage = Unit {0}
 IsUsageEnd WriteFault = Unit {0}
@@ -32,9 +33,11 @@ IsReaderEnd other = ⊥
 abbrev pub IsEnd : Option Command → Status → Type 0
 IsEnd None status = IsUsageEnd status
 IsEnd (Some (Node session site journal addresses)) status = IsNodeEnd status
+IsEnd (Some (Rehearse sites)) status = IsRehearsalEnd status
+IsEnd (Some (Churn seed steps)) status = IsChurnEnd status
 IsEnd (Some other) status = IsReaderEnd status
 
--- only a node touches the journal and the link, and words that ask for nothing that is built touch no input
+-- only a node touches the journal and the link; a churn, and words that ask for no command, touch no input
 abbrev pub Untouched : Option Command → Outside → Outside → Type 0
 Untouched None before after =
     (after.input ≡ before.input)
@@ -42,9 +45,13 @@ Untouched None before after =
     × (after.link ≡ before.link)
     × (after.steps ≡ before.steps)
 Untouched (Some (Node session site journal addresses)) before after = Unit {0}
+Untouched (Some (Churn seed steps)) before after =
+    (after.input ≡ before.input)
+    × (after.journal ≡ before.journal)
+    × (after.link ≡ before.link)
 Untouched (Some other) before after = (after.journal ≡ before.journal) × (after.link ≡ before.link)
 
--- a command that reads all of its input before it does anything, which failed at that, or had no memory
+-- a command that does all of its work before it prints anything, which failed at reading, or had no memory
 abbrev pub IsSilentEnd : Status → Type 0
 IsSilentEnd ReadFault = Unit {0}
 IsSilentEnd NoMemory = Unit {0}
@@ -53,6 +60,7 @@ IsSilentEnd other = ⊥
 -- printed nothing then, and took no steps after a failed read
 abbrev pub Silent : Option Command → Status → Outside → Outside → Type 0
 Silent (Some (Node session site journal addresses)) status before after = Unit {0}
+Silent (Some (Rehearse sites)) status before after = Unit {0}
 Silent other status before after =
     (IsSilentEnd status → after.output ≡ before.output)
     × (status ≡ ReadFault → after.steps ≡ before.steps)

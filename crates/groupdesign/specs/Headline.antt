@@ -1,13 +1,12 @@
 -- The headline, sentence by sentence: whatever lines and datagrams the program is handed, what it leaves is the slow run's.
-use Rattle.std.specs.Prelude.{◌≡◌, ◌+◌, ◌≤◌, ◌⊎◌, IsSome, Some}
-use Rattle.gd_commands.specs.Plain.{IsPlain, Plain, plain_command, plain_words}
+use Rattle.std.specs.Prelude.{◌≡◌, ◌+◌, ◌≤◌, ◌⊎◌}
+use Rattle.gd_commands.specs.Plain.{IsPlain, Plain, plain_words}
 use Rattle.gd_effects.specs.Done.{DidFront, DidHalfPrint, DidTornRecord, Journals, NoneFell}
 use Rattle.gd_effects.specs.Effects.{cost, printed, tried}
 use Rattle.gd_effects.specs.Endings.{Causes, DidRead, Unopened}
 use Rattle.gd_outside.specs.Causes.{Rose}
 use Rattle.gd_outside.specs.Told.{Grows}
 use Rattle.gd_outside.specs.declared.status.Status.TheVariants.{Usage, ReadFault, WriteFault, JournalFault, LinkFault, NoMemory}
-use Rattle.gd_run.specs.Runs.{built}
 use Rattle.groupdesign.specs.Commands.{HasLogOf, IsEnd, Named, OpensFirst, Silent, Untouched}
 use Rattle.groupdesign.specs.Runs.{Run, Told, Whole, asked, entries, input, journal_after, journal_before}
 use Rattle.groupdesign.specs.Runs.{owed, owed_for_part, owed_status}
@@ -55,11 +54,10 @@ pub record Headline (run : Run) : Type 0 where
       → (run.status ≡ owed_status run) ⊎ (run.status ≡ NoMemory)
   -- ---- by the command
 
-  -- each command has its own statuses; words that ask for none that is built are refused, and only these
+  -- each command has its own statuses; words that ask for none are refused, and only these
   pub ends : IsEnd (asked run) run.status
-  -- words in the plain form of a command that is built are taken
-  pub plain : (plain : Plain) → IsPlain plain → run.words ≡ plain_words plain
-      → IsSome (built (Some (plain_command plain))) → ¬ (run.status ≡ Usage)
+  -- words in a command's plain form are taken
+  pub plain : (plain : Plain) → IsPlain plain → run.words ≡ plain_words plain → ¬ (run.status ≡ Usage)
   -- what a command has nothing to do with stays as it was
   pub untouched : Untouched (asked run) run.before run.after
   -- a command that reads a log printed nothing where it couldn't read it, or had no memory for it

@@ -5,11 +5,11 @@ use Rattle.gd_effects.specs.Effects.{Effect}
 use Rattle.gd_effects.specs.Endings.{IsUncut}
 use Rattle.gd_effects.specs.Outside.{IsTold, Outside}
 use Rattle.gd_options.specs.declared.command.Command.{Command}
-use Rattle.gd_options.specs.declared.command.Command.TheVariants.{Node}
+use Rattle.gd_options.specs.declared.command.Command.TheVariants.{Node, Churn}
 use Rattle.gd_outside.specs.Seen.{Entry}
 use Rattle.gd_outside.specs.Told.{told}
 use Rattle.gd_outside.specs.declared.status.Status.{Status}
-use Rattle.gd_run.specs.Runs.{built, cut_of, effects_of, end_of}
+use Rattle.gd_run.specs.Runs.{cut_of, effects_of, end_of}
 
 -- the words after the program's name, how the run of them ended, and what was outside before and after it
 pub record Run : Type 0 where
@@ -18,12 +18,9 @@ pub record Run : Type 0 where
   pub before : Outside
   pub after : Outside
 
--- the command that the words ask for, if they ask for one that is built
-abbrev pub asked_of : List (List ℕ) → Option Command
-asked_of words = built (command_of words)
-
+-- the command that the words ask for, if they ask for one
 abbrev pub asked : Run → Option Command
-asked run = asked_of run.words
+asked run = command_of run.words
 
 -- the bytes of its input, the entries of its link, and its journal before and after, where they are told
 abbrev pub input : Run → List ℕ
@@ -48,10 +45,11 @@ owed_status run = end_of (asked run) (input run)
 abbrev pub owed_for_part : Run → List ℕ → List Effect
 owed_for_part run taken = cut_of (asked run) (entries run) taken
 
--- what a command depends on: a node on what its input and its link hand out, another command on its input
+-- what a command depends on: a node on what its input and its link hand out, a churn on nothing, another command on its input
 abbrev pub IsToldFor : Option Command → Outside → Type 0
 IsToldFor None o = Unit {0}
 IsToldFor (Some (Node session site journal addresses)) o = IsTold o
+IsToldFor (Some (Churn seed steps)) o = Unit {0}
 IsToldFor (Some other) o = IsSome o.input.left
 
 -- the run was told what it depends on

@@ -4,7 +4,6 @@ ghost use Rattle.std.specs.Prelude.{ℕ, None, Some};
 ghost use Rattle.gd_effects.specs.Outside.{outside};
 ghost use Rattle.gd_options.specs.InRange.{IsInRange};
 ghost use Rattle.gd_outside.specs.Seen.{SeenSource, SeenJournal, SeenLink};
-ghost use Rattle.gd_run.specs.Runs.{built};
 ghost use Rattle.groupdesign.specs.Carrying.{Carried};
 ghost use Rattle.groupdesign.specs.Headline.{Headline};
 
@@ -15,10 +14,11 @@ use gd_log::{replay, upgrade};
 use gd_node::{Config, serve};
 use gd_outside::{Journal, Link, Sink, Source, Status, WordList};
 use gd_words::{AsText, Reply};
+use gd_world::{churn, rehearse};
 use std::alloc::Global;
 use std::sync::ledger::Ledger;
 
-/// Carries out the command that the words ask for: `replay`, `upgrade` or `node`, the ones that are built.
+/// Carries out the command that the words ask for: `replay`, `upgrade`, `node`, `rehearse` or `churn`.
 ///
 /// `Usage` after the usage line, where the words ask for none of these; `NoMemory` where memory ran out; else what the command
 /// returns. The steps rise by what the arrivals of events cost.
@@ -47,7 +47,7 @@ pub fn run<S: Source, K: Sink, J: Journal, N: Link, L: Ledger>(
     }
 }
 
-/// Carries out the command, if it is built.
+/// Carries out the command.
 fn carry_out<S: Source, K: Sink, J: Journal, N: Link, L: Ledger>(
     alloc: Global,
     command: Command,
@@ -58,7 +58,7 @@ fn carry_out<S: Source, K: Sink, J: Journal, N: Link, L: Ledger>(
     steps: &mut Steps<L>,
 ) -> Status
     requires { IsInRange command }
-    ensures { Carried (built (Some command)) result
+    ensures { Carried (Some command) result
         (outside (S.seen input.old) (K.seen output.old) (J.seen journal.old)
         (N.seen link.old) steps.old)
         (outside (S.seen input.new) (K.seen output.new) (J.seen journal.new)
@@ -78,7 +78,8 @@ fn carry_out<S: Source, K: Sink, J: Journal, N: Link, L: Ledger>(
             let config = Config::new(session, site, path, addresses);
             serve(alloc, &config, input, output, journal, link, steps)
         }
-        Command::Rehearse { .. } | Command::Churn { .. } => refuse(output),
+        Command::Rehearse { sites } => rehearse(alloc, sites, input, output, steps),
+        Command::Churn { seed, steps: count } => churn(alloc, seed, count, output, steps),
     }
 }
 

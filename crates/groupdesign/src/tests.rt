@@ -1,12 +1,13 @@
-//! Rows worked by hand, cuts and faults, each through `run` over objects in memory; nodes, alone and together, over such objects
-//! too; standard input and output over readers and writers of their own; late events on the history of a drawing; and how each
-//! two operations bear on each other.
+//! Rows worked by hand, cuts and faults, each through `run` over objects in memory; nodes, alone and together, rehearsals and
+//! churns over such objects too; standard input and output over readers and writers of their own; late events on the history of
+//! a drawing; and how each two operations bear on each other.
 
 ghost use Rattle.std.specs.Prelude.{◌≡◌, ◌<◌};
 
 mod altered;
 mod arrivals;
 mod changes;
+mod churns;
 mod counting;
 mod cuts;
 mod deep;
@@ -24,6 +25,7 @@ mod logs;
 mod nodes;
 mod pairs;
 mod refusing;
+mod rehearsals;
 mod rows;
 mod showing;
 mod standard;

@@ -28,7 +28,7 @@ fn printed(alloc: Global, lines: &[u8]) -> Result<(Status, SureSink), AllocError
 }
 
 /// The byte so often, and then these bytes.
-fn repeated(alloc: Global, byte: u8, count: usize, end: &[u8]) -> Result<Vec<u8>, AllocError> {
+pub fn repeated(alloc: Global, byte: u8, count: usize, end: &[u8]) -> Result<Vec<u8>, AllocError> {
     let mut bytes = Vec::with_capacity(alloc, count)?;
     for _ in 0..count {
         bytes.push(byte)?;

@@ -1,5 +1,6 @@
-//! Words that ask for a replay or a node in other spellings, and words that are refused.
+//! Words that ask for a command in other spellings, and words that are refused.
 
+use super::churns::NOTHING;
 use super::{ROOM, TIE, TIE_TEXT, ran, ran_over};
 use gd_outside::{Status, SureSink, SureSource, Word, WordList};
 use std::alloc::{AllocError, Global};
@@ -7,10 +8,10 @@ use std::test::Fail;
 
 const USAGE: &str = "usage: groupdesign COMMAND OPTIONS\n";
 
-// No command, no form of one, and commands that aren't built.
+// No command, and no form of one.
 #[test]
 fn other_words_are_refused(rt: HostRuntime) -> Result<(), Fail> {
-    let words: [&[&str]; 17] = [
+    let words: [&[&str]; 14] = [
         &[],
         &[""],
         &["paint"],
@@ -24,9 +25,6 @@ fn other_words_are_refused(rt: HostRuntime) -> Result<(), Fail> {
         &["replay", "--format", "text", "--format", "json"],
         &["upgrade", "replay"],
         &["upgrade", "--counts"],
-        &["rehearse", "--sites", "17"],
-        &["rehearse", "--sites", "2"],
-        &["churn", "--seed", "1", "--steps", "0"],
         &[
             "node",
             "--session",
@@ -110,6 +108,46 @@ fn other_spellings_of_a_node_are_taken(rt: HostRuntime) -> Result<(), Fail> {
         let (status, output) = ran_by(rt.alloc(), text)?;
         assert_eq!(rt; status, Status::Done, "{text}");
         assert!(rt; output.bytes().starts_with(b"ready 1 of "), "{text}");
+    }
+    Ok(())
+}
+
+#[test]
+fn other_forms_of_rehearsals_and_churns_are_refused(rt: HostRuntime) -> Result<(), Fail> {
+    for text in [
+        "rehearse",
+        "rehearse 2",
+        "rehearse --sites 0",
+        "rehearse --sites 17",
+        "rehearse --sites +2",
+        "rehearse --sites 2 --sites 2",
+        "churn",
+        "churn --seed 1",
+        "churn --steps 1",
+        "churn --seed 1 --steps 10001",
+        "churn --seed 18446744073709551616 --steps 1",
+        "churn --seed -1 --steps 1",
+    ] {
+        let (status, output) = ran_by(rt.alloc(), text)?;
+        assert_eq!(rt; status, Status::Usage, "{text}");
+        assert_eq!(rt; output.bytes(), USAGE.as_bytes(), "{text}");
+    }
+    Ok(())
+}
+
+#[test]
+fn other_spellings_of_rehearsals_and_churns_are_taken(rt: HostRuntime) -> Result<(), Fail> {
+    for (text, printed) in [
+        ("rehearse --sites 1", ""),
+        ("rehearse --sites 16", ""),
+        ("rehearse --sites=003", ""),
+        ("churn --seed 0 --steps 0", NOTHING),
+        ("churn --steps 0 --seed 18446744073709551615", NOTHING),
+        ("churn --seed=00000000000000000001 --steps=00", NOTHING),
+    ] {
+        let (status, output) = ran_by(rt.alloc(), text)?;
+        assert_eq!(rt; status, Status::Done, "{text}");
+        assert_eq!(rt; output.bytes(), printed.as_bytes(), "{text}");
     }
     Ok(())
 }

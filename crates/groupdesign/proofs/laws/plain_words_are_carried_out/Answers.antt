@@ -1,14 +1,14 @@
 use Rattle.std.proofs.Common.{ap}
 use Rattle.gd_commands.proofs.PlainForms.{plain_is_asked}
-use Rattle.gd_commands.specs.Plain.Plain.{Node, Replay, Upgrade}
-use Rattle.gd_run.specs.Runs.{built, effects_of, end_of}
+use Rattle.gd_commands.specs.Plain.Plain.{Churn, Node, Rehearse, Replay, Upgrade}
+use Rattle.gd_run.specs.Runs.{effects_of, end_of}
 use Rattle.groupdesign.proofs.laws.plain_words_are_carried_out.Goals as goal
 
 pub returns-clause-effects : goal.returns-clause-effects
-returns-clause-effects c = λ p input entries is. ap (λ k. effects_of (built k) input entries) (plain_is_asked p is)
+returns-clause-effects c = λ p input entries is. ap (λ k. effects_of k input entries) (plain_is_asked p is)
 
 pub returns-clause-end : goal.returns-clause-end
-returns-clause-end c = λ p input is. ap (λ k. end_of (built k) input) (plain_is_asked p is)
+returns-clause-end c = λ p input is. ap (λ k. end_of k input) (plain_is_asked p is)
 
 pub returns-clause-replay : goal.returns-clause-replay
 returns-clause-replay c = λ format counts input entries. returns-clause-effects c (Replay format counts) input entries tt
@@ -21,3 +21,9 @@ returns-clause-node c = λ session site journal addresses input entries is. retu
 
 pub returns-clause-node_end : goal.returns-clause-node_end
 returns-clause-node_end c = λ session site journal addresses input is. returns-clause-end c (Node session site journal addresses) input is
+
+pub returns-clause-rehearse : goal.returns-clause-rehearse
+returns-clause-rehearse c = λ sites input entries is. returns-clause-effects c (Rehearse sites) input entries is
+
+pub returns-clause-churn : goal.returns-clause-churn
+returns-clause-churn c = λ seed steps input entries is. returns-clause-effects c (Churn seed steps) input entries is

@@ -1,4 +1,4 @@
-use Rattle.groupdesign.proofs.Carried.{carried_as, carried_node, carried_replay, carried_upgrade, named_node, unbuilt}
+use Rattle.groupdesign.proofs.Carried.{carried_as, carried_churn, carried_node, carried_rehearse, carried_replay, carried_upgrade, named_node}
 use Rattle.groupdesign.proofs.running.carry_out.Goals as goal
 
 pub returns-in-Replay : goal.returns-in-Replay
@@ -15,4 +15,9 @@ returns-in-Node g c =
     (carried_node _ _ _ c.serve.result c.serve.ensures.kinds c.serve.ensures.named c.serve.ensures.untouched c.serve.ensures.ends)
 
 pub returns-in-Rehearse : goal.returns-in-Rehearse
-returns-in-Rehearse g c = rw (unbuilt c.in-Rehearse.is) (c.refuse.ensures _ _ _ _)
+returns-in-Rehearse g c =
+    carried_as c.in-Rehearse.is (carried_rehearse _ _ c.rehearse.result _ c.rehearse.ensures.kinds (c.rehearse.ensures.ends _ _))
+
+pub returns-in-Churn : goal.returns-in-Churn
+returns-in-Churn g c =
+    carried_as c.in-Churn.is (carried_churn _ _ _ c.churn.result _ _ c.churn.ensures.kinds c.churn.ensures.silent (c.churn.ensures.ends _ _ _))
