@@ -1,10 +1,12 @@
 pub mod Told
 pub mod Causes
+pub mod Disk
 pub mod Seen
 pub mod Called
 pub mod Statuses
 pub mod Fails
 pub mod Journals
+pub mod Records
 pub mod Memory
 pub mod Links
 pub mod Texts
