@@ -11,7 +11,7 @@ use Rattle.gd_base.specs.declared.fault.WireFault.{WireFault}
 use Rattle.gd_base.specs.declared.note.Note.{Note}
 use Rattle.gd_base.specs.declared.site_status.SiteStatus.{SiteStatus}
 use Rattle.gd_lines.specs.declared.reply.Reply.{Reply}
-use Rattle.gd_lines.specs.declared.reply.Reply.TheVariants.{Ready, Done, Refused, Item, End, Status, Noted, Who, Applied, Dropped, Reworked, Backdated, BadFrame, NotTaken, LongFrame, Polled, LinkFault, Mail, Delivered, BadLog, Usage, LineLimit, Arrivals, SiteLine, Churned, Same}
+use Rattle.gd_lines.specs.declared.reply.Reply.TheVariants.{Ready, Done, Refused, Item, End, Status, Noted, Who, Applied, Dropped, Reworked, Backdated, BadFrame, NotTaken, LongFrame, Polled, LinkFault, Mail, Delivered, BadLog, Usage, LineLimit, OtherJournal, Arrivals, SiteLine, Churned, Same}
 use Rattle.gd_lines.specs.Text.{id_text, parent_text, item_line, end_line, bad_log_line}
 
 -- why a line is refused
@@ -137,6 +137,9 @@ usage_line = codes "usage: groupdesign COMMAND OPTIONS\n"
 abbrev pub line_limit_line : List ℕ
 line_limit_line = codes "line limit\n"
 
+abbrev pub other_journal_line : List ℕ
+other_journal_line = codes "other journal\n"
+
 unfoldable pub arrivals_line : ℕ → ℕ → ℕ → ℕ → List ℕ
 arrivals_line applied dropped reworked undone =
     codes "arrivals applied " ++ decimal applied ++ codes " dropped " ++ decimal dropped
@@ -176,6 +179,7 @@ reply_text (Delivered number) = delivered_line number
 reply_text (BadLog at why) = bad_log_line at why
 reply_text Usage = usage_line
 reply_text LineLimit = line_limit_line
+reply_text OtherJournal = other_journal_line
 reply_text (Arrivals applied dropped reworked undone) =
     arrivals_line applied dropped reworked undone
 reply_text (SiteLine site status) = site_line site status

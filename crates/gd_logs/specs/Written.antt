@@ -1,11 +1,14 @@
 -- Logs as they are written.
-use Rattle.std.specs.Prelude.{◌≡◌, ℕ, ◌+◌, ◌-◌, ◌<◌, ◌^◌, List, [], ◌∷◌, ◌++◌, length, take, true, Some, None, ◌⊎◌}
+use Rattle.std.specs.Prelude.{◌≡◌, ℕ, ◌<◌, ◌^◌, List, [], ◌∷◌, ◌++◌, true, Some, None}
 use Rattle.gd_base.specs.declared.fault.LogWhy.{LogWhy}
 use Rattle.gd_base.specs.Stamps.{Stamp}
+use Rattle.gd_effects.specs.Crashes.{Adds, AddsTorn, Stands}
 use Rattle.gd_events.specs.Events.{EventValue}
+use Rattle.gd_grammar.specs.Closing.{gate_place}
 use Rattle.gd_grammar.specs.Kinds.{LogKind, FitsIn}
 use Rattle.gd_grammar.specs.HeaderBytes.{Header, IsHeader, has_version}
-use Rattle.gd_grammar.specs.LogBytes.{LogMisread, gate, left_of, log, turn_fault, logged}
+use Rattle.gd_grammar.specs.LogBytes.{LogMisread, left_of, turn_fault}
+use Rattle.gd_outside.specs.Seen.{SeenJournal}
 
 -- each event is sound, can be spelled in the header's version, and is the next one behind these and those before it
 unfoldable pub AreNext : {O : Type 0} → (Stamp → O → Type 0) → LogKind O → Header → List (EventValue O) → List (EventValue O) → Type 0
@@ -29,22 +32,17 @@ pub record BreaksRule {O : Type 0} (IsOp : Stamp → O → Type 0) (kind : LogKi
 abbrev pub refusal : LogWhy → ℕ → LogMisread
 refusal why left = record { why = why; left = left_of why left }
 
--- these are the bytes of a log of that header and those events, which obey the log's rules
-pub record IsLogOf {O : Type 0} (IsOp : Stamp → O → Type 0) (kind : LogKind O) (h : Header) (events : List (EventValue O)) (contents : List ℕ) : Type 0 where
-  pub ruled : IsRuled IsOp kind h events
-  pub is : contents ≡ logged kind h events
+-- a log of some header and events stands in the journal, and its closing gate at that place
+abbrev pub IsStanding : {O : Type 0} → LogKind O → ℕ → SeenJournal → Type 0
+IsStanding {O} kind place journal =
+    (h : Header) × (events : List (EventValue O)) × Stands kind h events journal × (place ≡ gate_place kind events)
 
--- these are the bytes of some header and events, and the closed gate stands at this place
-abbrev pub IsLogAt : {O : Type 0} → LogKind O → ℕ → List ℕ → Type 0
-IsLogAt {O} kind place contents =
-    (h : Header) × (events : List (EventValue O)) × (contents ≡ logged kind h events) × (length contents ≡ place + 1)
+-- The event was added to whatever log of this kind stood in the journal before, where it obeys that log's rules.
+abbrev pub AddsEvent : {O : Type 0} → (Stamp → O → Type 0) → LogKind O → EventValue O → SeenJournal → SeenJournal → Type 0
+AddsEvent {O} IsOp kind e old new = (h : Header) (events : List (EventValue O))
+    → IsRuled IsOp kind h (events ++ e ∷ []) → Stands kind h events old → Adds kind h events (e ∷ []) old new
 
--- a log with one more record of these bytes, where its closed gate is the last of its bytes: behind an open gate in that place,
--- and with a closed gate behind it
-abbrev pub with_record : List ℕ → List ℕ → List ℕ
-with_record contents bytes = take (length contents - 1) contents ++ gate ∷ bytes ++ 0 ∷ []
-
--- what a failed append left reads as the log before it, with the record of these bytes or without
-abbrev pub IsWithOrWithout : {O : Type 0} → LogKind O → List ℕ → List ℕ → List ℕ → Type 0
-IsWithOrWithout kind before bytes after =
-    (log kind after ≡ log kind before) ⊎ (log kind after ≡ log kind (with_record before bytes))
+-- The same, but it may have been added or not.
+abbrev pub MayAddEvent : {O : Type 0} → (Stamp → O → Type 0) → LogKind O → EventValue O → SeenJournal → SeenJournal → Type 0
+MayAddEvent {O} IsOp kind e old new = (h : Header) (events : List (EventValue O))
+    → IsRuled IsOp kind h (events ++ e ∷ []) → Stands kind h events old → AddsTorn kind h events [] (e ∷ []) old new

@@ -13,7 +13,7 @@ mod tests;
 mod turns;
 mod writer;
 
-pub use log::{ReadError, read_log, read_log_of};
+pub use log::{ReadError, WholeLog, read_log, read_log_of, read_whole_of};
 pub use pieces::{CLOSED, gated_of};
 pub use reader::{KindReader, LogReader};
 pub use stopped::{LogFault, Stopped};

@@ -1,16 +1,20 @@
 -- The ranges of what a command is asked with.
-use Rattle.std.specs.Prelude.{ℕ, ◌≤◌, ◌<◌, ◌^◌, length}
+use Rattle.std.specs.Prelude.{ℕ, ◌≤◌, ◌<◌, ◌^◌, List, length}
 use Rattle.gd_base.specs.Sites.{IsSite}
 use Rattle.gd_base.specs.declared.ranges.TheConstants.{SITES}
 use Rattle.gd_options.specs.declared.command.TheConstants.{CHURN_STEPS}
 use Rattle.gd_options.specs.declared.command.Command.{Command}
-use Rattle.gd_options.specs.declared.command.Command.TheVariants.{Replay, Upgrade, Node, Rehearse, Churn}
+use Rattle.gd_options.specs.declared.command.Command.TheVariants.{Replay, Upgrade, Node, Rejoin, Rehearse, Churn}
 
--- A node is one of 1 to 16 sites, each of which has an address.
+-- the own site is one of 1 to 16, each of which has an address
+abbrev pub IsMember : ℕ → ℕ → List (List ℕ) → Type 0
+IsMember session site addresses =
+    (session < 2 ^ 32) × (1 ≤ site) × (site ≤ length addresses) × (length addresses ≤ SITES)
+
 abbrev pub IsInRange : Command → Type 0
 IsInRange (Replay format counts) = Unit {0}
 IsInRange Upgrade = Unit {0}
-IsInRange (Node session site journal addresses) =
-    (session < 2 ^ 32) × (1 ≤ site) × (site ≤ length addresses) × (length addresses ≤ SITES)
+IsInRange (Node session site journal addresses) = IsMember session site addresses
+IsInRange (Rejoin session site journal addresses) = IsMember session site addresses
 IsInRange (Rehearse sites) = IsSite sites
 IsInRange (Churn seed steps) = (seed < 2 ^ 64) × (steps ≤ CHURN_STEPS)

@@ -25,6 +25,16 @@ pub enum Command {
         /// Where each site of the session is, this one too: 1 to 16 of them.
         addresses: WordList,
     },
+    /// Be that site again: go on from the journal, which it kept before.
+    Rejoin {
+        session: u32,
+        /// From 1 to the number of addresses.
+        site: u8,
+        /// The path of the journal.
+        journal: Word,
+        /// Where each site of the session is, this one too: 1 to 16 of them.
+        addresses: WordList,
+    },
     /// Play a session of so many sites, 1 to 16, in one process, as the lines say.
     Rehearse {
         sites: u8,

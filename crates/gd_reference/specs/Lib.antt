@@ -11,5 +11,6 @@ pub mod TakeBack
 pub mod World
 pub mod SiteEffects
 pub mod NodeRun
+pub mod Rejoin
 pub mod Tally
 pub mod SlowRun

@@ -13,7 +13,7 @@ use Rattle.gd_grammar.specs.Reading.{many_at}
 use Rattle.gd_grammar.specs.FieldBytes.{each_bytes}
 use Rattle.gd_grammar.specs.FrameBytes.{event_count_at, focus_at, frame, frame_at, frame_magic_at, frame_version_at, half_at, head_at, name_at, name_text_at, next_event_at, note_at, six_at}
 use Rattle.gd_grammar.specs.Kinds as kinds
-use Rattle.gd_grammar.specs.LogBytes.{events_at, log, record_at, step_at, turn_fault}
+use Rattle.gd_grammar.specs.LogBytes.{events_at, gated_bytes, log, record_at, step_at, turn_fault}
 use Rattle.gd_grammar.specs.HeaderBytes.{header_at, magic_at, sites_at, version_at}
 use Rattle.gd_json.specs.EventsJson.{event_json, member_json}
 use Rattle.gd_json.specs.PictureJson.{item_json}
@@ -31,6 +31,7 @@ use Rattle.gd_reference.specs.Judging.{are_apart, by_id, edit, judged, targets}
 use Rattle.gd_reference.specs.NodeRun.{node_lines, of_received, received, who_behind}
 use Rattle.gd_reference.specs.Offers.{all_arrived, frame_for, offered, offers, refusal, take_frame}
 use Rattle.gd_reference.specs.PerSite.{least_of_others, put}
+use Rattle.gd_reference.specs.Rejoin.{found}
 use Rattle.gd_reference.specs.SiteEffects.{events_replies, of_events, tries_behind}
 use Rattle.gd_reference.specs.SlowSite.{greatest_clock, made_by, resumed}
 use Rattle.gd_reference.specs.TakeBack.{after_edit, after_undo, undo}
@@ -41,7 +42,7 @@ use Rattle.gd_worlds.specs.Rehearsal.{rehearsal_lines}
 
 -- events, logs and frames
 unfoldable pub bytes_compute : ⊤
-unfolding chars is_utf8 fields.byte_at fields.clock_at bytes.colour_at bytes.create_at bytes.lone_at kinds.event_at bytes.fill_at bytes.fill_style_at bytes.group_at bytes.label_at fields.id_at fields.label_within bytes.member_at bytes.member_count_at bytes.member_id_at bytes.move_at fields.number_at bytes.op_at bytes.resize_at bytes.restyle_at bytes.retext_at bytes.shape_at fields.signed_at fields.site_at fields.stamp_at bytes.stroke_style_at bytes.style_at bytes.width_at bytes.width_style_at fields.word_at event_count_at each_bytes focus_at frame frame_at many_at frame_magic_at frame_version_at half_at head_at name_at name_text_at next_event_at note_at six_at events_at header_at log magic_at record_at sites_at step_at turn_fault version_at
+unfolding chars is_utf8 fields.byte_at fields.clock_at bytes.colour_at bytes.create_at bytes.lone_at kinds.event_at bytes.fill_at bytes.fill_style_at bytes.group_at bytes.label_at fields.id_at fields.label_within bytes.member_at bytes.member_count_at bytes.member_id_at bytes.move_at fields.number_at bytes.op_at bytes.resize_at bytes.restyle_at bytes.retext_at bytes.shape_at fields.signed_at fields.site_at fields.stamp_at bytes.stroke_style_at bytes.style_at bytes.width_at bytes.width_style_at fields.word_at event_count_at each_bytes focus_at frame frame_at many_at frame_magic_at frame_version_at half_at head_at name_at name_text_at next_event_at note_at six_at events_at gated_bytes header_at log magic_at record_at sites_at step_at turn_fault version_at
 bytes_compute = tt
 
 -- lines that are typed, and lines that are printed
@@ -51,7 +52,7 @@ lines_compute = tt
 
 -- drawings, sites, worlds and runs
 unfoldable pub sites_compute : ⊤
-unfolding stamp_cmp inserted_by covers independent splice are_apart by_id edit judged targets heard lines_of whole_lines answered end_of_lines state_after node_lines of_received received who_behind all_arrived frame_for offered offers refusal take_frame least_of_others put events_replies of_events tries_behind greatest_clock made_by resumed tally_from after_edit after_undo undo after_from after_line happens with_site
+unfolding stamp_cmp inserted_by covers independent splice are_apart by_id edit judged targets heard lines_of whole_lines answered end_of_lines state_after node_lines of_received received who_behind all_arrived frame_for offered offers refusal take_frame least_of_others put events_replies of_events tries_behind greatest_clock made_by resumed found tally_from after_edit after_undo undo after_from after_line happens with_site
 sites_compute = tt
 
 -- rehearsals and churn

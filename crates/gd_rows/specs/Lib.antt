@@ -7,3 +7,4 @@ pub mod WorkedBacks
 pub mod WorkedInputs
 pub mod WorkedRehearsals
 pub mod WorkedChurns
+pub mod WorkedRejoins

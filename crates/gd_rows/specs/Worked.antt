@@ -351,6 +351,9 @@ record_row =
     0 ∷ 0 ∷ 0 ∷ 0 ∷ 0 ∷ 1 ∷ 2 ∷ 0 ∷ 1 ∷ 1 ∷ 1
     ∷ 0 ∷ 0 ∷ 0 ∷ 0 ∷ 0 ∷ 0 ∷ 0 ∷ 0 ∷ 0 ∷ 0 ∷ 0 ∷ 10 ∷ 0 ∷ 0 ∷ 0 ∷ 10 ∷ 0 ∷ []
 
+abbrev pub record_event : Event
+record_event = event 1 2 1 (square (pos 0))
+
 -- the frame of that site for another, of which it holds nothing
 abbrev pub frame_row_to : ℕ → List ℕ
 frame_row_to to =
@@ -365,7 +368,7 @@ frame_value =
     record {
       head = record { session = 7; from = 2; to = 1; ack = 0; count = 1; clock = 1 };
       note = record { number = 0; name = None; focus = None };
-      events = event 1 2 1 (square (pos 0)) ∷ [];
+      events = record_event ∷ [];
     }
 
 -- why bytes are no frame, and how many of them stand from the fault's place on

@@ -4,13 +4,15 @@ use Rattle.std.specs.List.{concat}
 use Rattle.gd_base.specs.declared.edit.Edit.TheVariants as wish
 use Rattle.gd_base.specs.declared.refusal.LineFault.TheVariants.{UnknownCommand}
 use Rattle.gd_effects.specs.Effects.{Effect, Head, Print, Record, Try, Work}
+use Rattle.gd_events.specs.declared.op.Op.TheVariants.{Delete}
+use Rattle.gd_events.specs.Events.{Event}
 use Rattle.gd_grammar.specs.FrameBytes.{frame_bytes}
 use Rattle.gd_lines.specs.declared.command.Command.{Command}
 use Rattle.gd_lines.specs.declared.command.Command.TheVariants as command
 use Rattle.gd_outside.specs.Seen.{Entry, Packet, Pause, Failure}
 use Rattle.gd_reference.specs.InputLines.{Read}
 use Rattle.gd_reference.specs.NodeRun.{HeardLine, node_effects}
-use Rattle.gd_rows.specs.Worked.{at_stamp, frame_row, frame_row_to, header_two_bytes, record_row}
+use Rattle.gd_rows.specs.Worked.{at_stamp, event, frame_row, frame_row_to, header_two_bytes, record_event, record_row}
 use Rattle.gd_rows.specs.WorkedWorlds.{new_rect, ahead_move, ahead_first, ahead_gap, ahead_rest, frame_of, sure_frame, sure_late_frame}
 
 -- lines that ask for these
@@ -19,12 +21,15 @@ asked commands = map (λ c. Read (Ok c)) commands
 
 -- ---- site 2 of 3
 
--- its header, and an edit: a step, the record, the line, and a frame for each other site
+abbrev pub second_header : List ℕ
+second_header = 71 ∷ 68 ∷ 79 ∷ 76 ∷ 2 ∷ 0 ∷ 0 ∷ 0 ∷ 7 ∷ 2 ∷ 3 ∷ []
+
+-- its header, and an edit: a step, the record behind the header's 11 bytes, the line, and a frame for each other site
 abbrev pub created_effects : List Effect
 created_effects =
-    Head (71 ∷ 68 ∷ 79 ∷ 76 ∷ 2 ∷ 0 ∷ 0 ∷ 0 ∷ 7 ∷ 2 ∷ 3 ∷ [])
+    Head second_header
     ∷ Print (codes "ready 2 of 3\n")
-    ∷ Work 1 ∷ Record record_row ∷ Print (codes "ok 1.2\n")
+    ∷ Work 1 ∷ Record 11 record_event ∷ Print (codes "ok 1.2\n")
     ∷ Try 1 (frame_row_to 1) ∷ Try 3 (frame_row_to 3)
     ∷ []
 
@@ -32,20 +37,28 @@ created_effects =
 abbrev pub delete_row : List ℕ
 delete_row = 0 ∷ 0 ∷ 0 ∷ 0 ∷ 0 ∷ 2 ∷ 2 ∷ 0 ∷ 2 ∷ 2 ∷ 0 ∷ 0 ∷ 0 ∷ 0 ∷ 0 ∷ 1 ∷ 2 ∷ []
 
+abbrev pub delete_event : Event
+delete_event = event 2 2 2 (Delete (at_stamp 1 2))
+
 -- the frame with both events
 abbrev pub undone_row_to : ℕ → List ℕ
 undone_row_to to =
     71 ∷ 68 ∷ 79 ∷ 70 ∷ 2 ∷ 0 ∷ 0 ∷ 0 ∷ 7 ∷ 2 ∷ to ∷ 0 ∷ 0 ∷ 0 ∷ 2 ∷ 0 ∷ 0 ∷ 0 ∷ 0 ∷ 0 ∷ 2
     ∷ 0 ∷ 0 ∷ 0 ∷ 0 ∷ 0 ∷ 0 ∷ 0 ∷ 0 ∷ 0 ∷ 0 ∷ 2 ∷ record_row ++ delete_row
 
--- the edit and two undos: the first is an event like any other, and the second is refused
+-- the edit and two undos: the first is an event like any other, behind the 29 bytes of the edit's gate and record, and the
+-- second is refused
 abbrev pub undone_effects : List Effect
 undone_effects =
     created_effects
-    ++ Work 1 ∷ Record delete_row ∷ Print (codes "ok 2.2\n")
+    ++ Work 1 ∷ Record 40 delete_event ∷ Print (codes "ok 2.2\n")
     ∷ Try 1 (undone_row_to 1) ∷ Try 3 (undone_row_to 3)
     ∷ Print (codes "refused: NothingBack\n")
     ∷ []
+
+-- the header, both events and a closed gate
+abbrev pub undone_journal : List ℕ
+undone_journal = second_header ++ 195 ∷ record_row ++ 195 ∷ delete_row ++ 0 ∷ []
 
 -- ---- a site alone
 
@@ -93,7 +106,7 @@ repeat_effects =
     Head header_two_bytes
     ∷ Print (codes "ready 1 of 2\n")
     ∷ Work 1
-    ∷ Record record_row
+    ∷ Record 11 record_event
     ∷ Print (codes "echo 1.2 applied\n")
     ∷ Try 2 answer_row
     ∷ Print (codes "polled 3\n")

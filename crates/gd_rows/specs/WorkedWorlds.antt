@@ -15,7 +15,6 @@ use Rattle.gd_grammar.specs.declared.frame.Head.{Head}
 use Rattle.gd_reference.specs.Offers.{take_frame}
 use Rattle.gd_base.specs.Notes.{no_note}
 use Rattle.gd_reference.specs.SlowSite.{SlowSite, new_site}
-use Rattle.gd_grammar.specs.Drawings.{spelling}
 use Rattle.gd_reference.specs.World.{World, Step, Edits, Names, Focuses, At, Send, Deliver, Restart, Editing, Taking, after}
 use Rattle.gd_rows.specs.Worked.{at_stamp, event, member}
 
@@ -78,8 +77,9 @@ cover_frame =
       events = covered_move ∷ [];
     }
 
+-- its record lies behind the header, a create of 29 bytes with its gate, and two moves of 26
 abbrev pub cover_effects : List Effect
-cover_effects = Work 0 ∷ Record (spelling covered_move) ∷ Print (codes "echo 2.2 dropped by 3.1\n") ∷ []
+cover_effects = Work 0 ∷ Record 92 covered_move ∷ Print (codes "echo 2.2 dropped by 3.1\n") ∷ []
 
 abbrev pub cover_text : List (List ℕ)
 cover_text = codes "rect 1.1 in - at 60 60 size 10 10 stroke 000000 fill none width 1\n" ∷ codes "end 1\n" ∷ []
@@ -202,14 +202,14 @@ closure_frame =
     }
 
 -- The create bears on nothing behind it. The group takes a member that the group 4.1 took, so that one and its move are
--- redone.
+-- redone. With their gates the records in front have 29, 29, 18, 42 and 26 bytes, and that of the create has 29.
 abbrev pub closure_effects : List Effect
 closure_effects =
     Work 1
-    ∷ Record (spelling other_create)
+    ∷ Record 155 other_create
     ∷ Print (codes "echo 1.2 applied\n")
     ∷ Work 5
-    ∷ Record (spelling late_group)
+    ∷ Record 184 late_group
     ∷ Print (codes "echo 3.2 reworked 2\n")
     ∷ []
 

@@ -8,5 +8,6 @@ pub mod input_rows;
 pub mod line_rows;
 pub mod node_rows;
 pub mod rehearsal_rows;
+pub mod rejoin_rows;
 pub mod rows;
 pub mod world_rows;

@@ -23,38 +23,38 @@ ghost use Rattle.gd_rows.specs.WorkedChurns.{nothing_printed};
 
 /// A log without events prints no object, with its closed gate and without.
 pub fn an_empty_log_prints_its_end()
-    ensures gate { effects_of replay empty_log [] ≡ prints_of end_alone }
-    ensures no_gate { effects_of replay header_bytes [] ≡ prints_of end_alone }
+    ensures gate { effects_of replay [] empty_log [] ≡ prints_of end_alone }
+    ensures no_gate { effects_of replay [] header_bytes [] ≡ prints_of end_alone }
 {}
 
 /// Events of one clock are ordered by their sites.
 pub fn a_tie_of_clocks_goes_by_sites()
     ensures read { log tie_log ≡ Ok (header, tie_events) }
-    ensures printed { effects_of replay tie_log []
+    ensures printed { effects_of replay [] tie_log []
         ≡ works_of (1 ∷ 1 ∷ []) ++ prints_of tie_text }
-    ensures end { end_of replay tie_log ≡ status.Done }
+    ensures end { end_of replay [] tie_log ≡ status.Done }
 {}
 
 /// The same as one line of JSON, of the drawing and of the events, and then with the line of the counts.
 pub fn a_tie_as_json()
-    ensures picture { effects_of (replays Json false) tie_log []
+    ensures picture { effects_of (replays Json false) [] tie_log []
         ≡ works_of (1 ∷ 1 ∷ []) ++ prints_of (tie_picture_json ∷ []) }
-    ensures events { effects_of (replays Events true) tie_log []
+    ensures events { effects_of (replays Events true) [] tie_log []
         ≡ works_of (1 ∷ 1 ∷ []) ++ prints_of (tie_events_json ∷ tie_counts ∷ []) }
-    ensures end { end_of (replays Events true) tie_log ≡ status.Done }
+    ensures end { end_of (replays Events true) [] tie_log ≡ status.Done }
 {}
 
 /// A move puts an object at another place, and a label is printed behind all else.
 pub fn a_move_and_a_label_are_shown()
     ensures read { log moved_log ≡ Ok (header, moved_events) }
-    ensures printed { effects_of replay moved_log []
+    ensures printed { effects_of replay [] moved_log []
         ≡ works_of (1 ∷ 1 ∷ []) ++ prints_of moved_text }
 {}
 
 /// A size, both colours, the width and a label are those that were set last, and what is set of no object changes nothing.
 pub fn a_look_is_set()
     ensures read { log styled_log ≡ Ok (header, styled_events) }
-    ensures printed { effects_of replay styled_log []
+    ensures printed { effects_of replay [] styled_log []
         ≡ works_of (1 ∷ 1 ∷ 1 ∷ 1 ∷ 1 ∷ 1 ∷ 1 ∷ []) ++ prints_of styled_text }
 {}
 
@@ -133,30 +133,30 @@ pub fn a_fault_has_its_place()
 
 /// Bytes that are no log are refused with the place and the reason of the first fault.
 pub fn what_is_no_log_is_refused()
-    ensures printed { effects_of replay (take 32 tie_log) [] ≡ prints_of cut_text }
-    ensures end { end_of replay (take 32 tie_log) ≡ status.BadLog }
+    ensures printed { effects_of replay [] (take 32 tie_log) [] ≡ prints_of cut_text }
+    ensures end { end_of replay [] (take 32 tie_log) ≡ status.BadLog }
 {}
 
 /// Where there is no command, it is said how the program is called, whatever the input is.
 pub fn what_is_no_command_is_refused()
-    ensures printed { effects_of None tie_log [] ≡ prints_of (usage_line ∷ []) }
-    ensures end { end_of None tie_log ≡ status.Usage }
+    ensures printed { effects_of None [] tie_log [] ≡ prints_of (usage_line ∷ []) }
+    ensures end { end_of None [] tie_log ≡ status.Usage }
 {}
 
 /// A rehearsal is one of so many sites. Where no more of its input can be read, the whole lines in it are answered.
 pub fn a_rehearsal_is_run()
-    ensures printed { effects_of (Some (Rehearse 2)) (codes "send 1 2\nsend 1 3") []
+    ensures printed { effects_of (Some (Rehearse 2)) [] (codes "send 1 2\nsend 1 3") []
         ≡ prints_of (codes "mail 1\n" ∷ codes "refused: NoSite\n" ∷ []) }
-    ensures end { end_of (Some (Rehearse 2)) (codes "send 1 2\nsend 1 3") ≡ status.Done }
-    ensures cut { cut_of (Some (Rehearse 2)) [] (codes "send 1 2\nsend 1 3")
+    ensures end { end_of (Some (Rehearse 2)) [] (codes "send 1 2\nsend 1 3") ≡ status.Done }
+    ensures cut { cut_of (Some (Rehearse 2)) [] [] (codes "send 1 2\nsend 1 3")
         ≡ prints_of (codes "mail 1\n" ∷ []) }
 {}
 
 /// A churn does the same whatever the input is.
 pub fn a_churn_is_run()
-    ensures printed { effects_of (Some (Churn 1 0)) tie_log [] ≡ prints_of nothing_printed }
-    ensures end { end_of (Some (Churn 1 0)) tie_log ≡ status.Done }
-    ensures cut { cut_of (Some (Churn 1 0)) [] tie_log ≡ [] }
+    ensures printed { effects_of (Some (Churn 1 0)) [] tie_log [] ≡ prints_of nothing_printed }
+    ensures end { end_of (Some (Churn 1 0)) [] tie_log ≡ status.Done }
+    ensures cut { cut_of (Some (Churn 1 0)) [] [] tie_log ≡ [] }
 {}
 
 /// A frame is read from its bytes, and written as them.

@@ -1,0 +1,168 @@
+-- Worked rows of going on from a journal: what there is to go on from, and what the node does then.
+use Rattle.std.specs.Prelude.{ℕ, pos, List, [], ◌∷◌, ◌++◌, replicate, take, set, codes, Option, Some}
+use Rattle.gd_base.specs.declared.fault.LogWhy.TheVariants.{Short, NoSite, Turn}
+use Rattle.gd_effects.specs.Effects.{Effect, Head, Print, Record, Try, Work}
+use Rattle.gd_events.specs.Events.{Event}
+use Rattle.gd_options.specs.declared.command.Command.{Command}
+use Rattle.gd_options.specs.declared.command.Command.TheVariants.{Node, Rejoin}
+use Rattle.gd_reference.specs.Rejoin.{Found, Events, Faulty, Other}
+use Rattle.gd_rows.specs.Worked.{event, header, header_two, header_two_bytes, prints_of, square, tie_events, tie_log, works_of}
+use Rattle.gd_rows.specs.WorkedNodes.{answer_row}
+
+-- ---- what there is to go on from
+
+-- the log of the tie in version two: its records begin at the bytes 11 and 40, and its closing gate is byte 69, the last
+abbrev pub tie_journal : List ℕ
+tie_journal = set tie_log 4 2
+
+-- what a longer log may have left behind that
+abbrev pub remains : List ℕ
+remains = replicate 29 238 ++ 195 ∷ 1 ∷ 2 ∷ []
+
+-- with another closing gate
+abbrev pub worn_journal : List ℕ
+worn_journal = set tie_journal 69 255 ++ remains
+
+abbrev pub whole_journals : List (List ℕ × Found)
+whole_journals =
+    (tie_journal, Events tie_events)
+    ∷ (tie_journal ++ remains, Events tie_events)
+    ∷ (set tie_journal 69 255, Events tie_events)
+    ∷ (worn_journal, Events tie_events)
+    -- without events
+    ∷ (header_two_bytes ++ 0 ∷ [], Events [])
+    ∷ []
+
+abbrev pub cut_journals : List (List ℕ × Found)
+cut_journals =
+    -- in the header
+    ([], Faulty 0 Short)
+    ∷ (take 10 tie_journal, Faulty 10 Short)
+    -- in a record, and in front of one
+    ∷ (take 32 tie_journal, Faulty 32 Short)
+    ∷ (take 41 tie_journal, Faulty 41 Short)
+    -- in the closing gate's place, which lies behind the header, or behind a record
+    ∷ (take 11 tie_journal, Faulty 11 Short)
+    ∷ (take 40 tie_journal, Faulty 40 Short)
+    ∷ (take 69 tie_journal, Faulty 69 Short)
+    ∷ []
+
+abbrev pub session_eight : List ℕ
+session_eight = set tie_journal 8 8
+
+abbrev pub other_journals : List (List ℕ × Found)
+other_journals =
+    (session_eight, Other (record header_two { session = 8 }))
+    ∷ (set tie_journal 9 2, Other (record header_two { site = 2 }))
+    ∷ (set tie_journal 10 3, Other (record header_two { n = 3 }))
+    ∷ (tie_log, Other header)
+    ∷ []
+
+abbrev pub faulty_journals : List (List ℕ × Found)
+faulty_journals =
+    -- an event of site 3
+    (set tie_journal 18 3, Faulty 18 NoSite)
+    -- in another session, a number that isn't next, and no closing gate
+    ∷ (set session_eight 20 2, Faulty 19 Turn)
+    ∷ (take 69 session_eight, Faulty 69 Short)
+    ∷ []
+
+-- ---- node 1 of 2
+
+-- one that goes on in that session, and one that begins anew in session 7
+abbrev pub rejoins : ℕ → Option Command
+rejoins session = Some (Rejoin session 1 (codes "j") (codes "A" ∷ codes "B" ∷ []))
+
+abbrev pub begins : Option Command
+begins = Some (Node 7 1 (codes "j") (codes "A" ∷ codes "B" ∷ []))
+
+-- behind one event of site 2
+abbrev pub held_effects : List Effect
+held_effects =
+    works_of (1 ∷ []) ++ prints_of (codes "ready 1 of 2\n" ∷ codes "held 1 kept 0 line 1 clock 1\n" ∷ [])
+
+abbrev pub new_effects : List Effect
+new_effects =
+    Head header_two_bytes
+    ∷ prints_of (codes "ready 1 of 2\n" ∷ codes "held 0 kept 0 line 0 clock 0\n" ∷ [])
+
+-- that event comes in a poll again
+abbrev pub again_effects : List Effect
+again_effects =
+    Work 1 ∷ Print (codes "ready 1 of 2\n") ∷ Try 2 answer_row ∷ Print (codes "polled 3\n") ∷ []
+
+-- Behind seven events, of which the last redid two others. Site 2 made that one, at clock 3, and two events of site 1 have
+-- greater clocks.
+abbrev pub closure_rejoined : List Effect
+closure_rejoined =
+    works_of (1 ∷ 1 ∷ 1 ∷ 1 ∷ 1 ∷ 1 ∷ 5 ∷ [])
+    ++ prints_of (codes "ready 1 of 2\n" ∷ codes "held 7 kept 2 line 3 clock 5\n" ∷ [])
+
+-- ---- an edit behind what was found
+
+abbrev pub edit_input : List ℕ
+edit_input = codes "create rect 0 0 10 10\n"
+
+-- its event, the second of site 1, and the record of that
+abbrev pub edit_event : Event
+edit_event = event 2 1 2 (square (pos 0))
+
+abbrev pub edit_row : List ℕ
+edit_row =
+    0 ∷ 0 ∷ 0 ∷ 0 ∷ 0 ∷ 2 ∷ 1 ∷ 0 ∷ 2 ∷ 1 ∷ 1
+    ∷ 0 ∷ 0 ∷ 0 ∷ 0 ∷ 0 ∷ 0 ∷ 0 ∷ 0 ∷ 0 ∷ 0 ∷ 0 ∷ 10 ∷ 0 ∷ 0 ∷ 0 ∷ 10 ∷ 0 ∷ []
+
+-- the record of the ellipse, the first of site 1
+abbrev pub ellipse_row : List ℕ
+ellipse_row =
+    0 ∷ 0 ∷ 0 ∷ 0 ∷ 0 ∷ 1 ∷ 1 ∷ 0 ∷ 1 ∷ 1 ∷ 2
+    ∷ 0 ∷ 0 ∷ 0 ∷ 0 ∷ 0 ∷ 0 ∷ 0 ∷ 0 ∷ 0 ∷ 0 ∷ 0 ∷ 20 ∷ 0 ∷ 0 ∷ 0 ∷ 20 ∷ 0 ∷ []
+
+-- the frame for site 2: one event of it is held, and of the two own ones it has acknowledged none
+abbrev pub edit_frame : List ℕ
+edit_frame =
+    71 ∷ 68 ∷ 79 ∷ 70 ∷ 2 ∷ 0 ∷ 0 ∷ 0 ∷ 7 ∷ 1 ∷ 2 ∷ 0 ∷ 1 ∷ 0 ∷ 2 ∷ 0 ∷ 0 ∷ 0 ∷ 0 ∷ 0 ∷ 2
+    ∷ 0 ∷ 0 ∷ 0 ∷ 0 ∷ 0 ∷ 0 ∷ 0 ∷ 0 ∷ 0 ∷ 0 ∷ 2 ∷ ellipse_row ++ edit_row
+
+abbrev pub edit_effects : List Effect
+edit_effects =
+    works_of (1 ∷ 1 ∷ [])
+    ++ Print (codes "ready 1 of 2\n")
+    ∷ Work 1 ∷ Record 69 edit_event ∷ Print (codes "ok 2.1\n")
+    ∷ Try 2 edit_frame
+    ∷ []
+
+-- The gate, the record and a closed gate are 30 bytes. They stand over the old gate and 29 bytes behind it.
+abbrev pub edited_journal : List ℕ
+edited_journal = take 69 tie_journal ++ 195 ∷ edit_row ++ 0 ∷ 195 ∷ 1 ∷ 2 ∷ []
+
+abbrev pub edited_events : List Event
+edited_events = tie_events ++ edit_event ∷ []
+
+-- ---- a note and an edit, and then going on
+
+abbrev pub noting_input : List ℕ
+noting_input = codes "name Ann\ncreate rect 0 0 10 10\n"
+
+abbrev pub noting_printed : List ℕ
+noting_printed = codes "ready 1 of 2\nnoted 1\nok 1.1\n"
+
+abbrev pub noting_journal : List ℕ
+noting_journal =
+    header_two_bytes
+    ++ 195 ∷ 0 ∷ 0 ∷ 0 ∷ 0 ∷ 0 ∷ 1 ∷ 1 ∷ 0 ∷ 1 ∷ 1 ∷ 1
+    ∷ 0 ∷ 0 ∷ 0 ∷ 0 ∷ 0 ∷ 0 ∷ 0 ∷ 0 ∷ 0 ∷ 0 ∷ 0 ∷ 10 ∷ 0 ∷ 0 ∷ 0 ∷ 10 ∷ 0 ∷ 0 ∷ []
+
+-- two notes of a node that goes on
+abbrev pub notes_input : List ℕ
+notes_input = codes "name Bob\nfocus 1.1\nwho\n"
+
+abbrev pub notes_printed : List ℕ
+notes_printed = codes "ready 1 of 2\nnoted 1\nnoted 2\nwho 1 Bob focus 1.1\nend 1\n"
+
+-- an undo in front of an edit, and two behind it
+abbrev pub undos_input : List ℕ
+undos_input = codes "undo\ncreate rect 0 0 10 10\nundo\nundo\n"
+
+abbrev pub undos_printed : List ℕ
+undos_printed = codes "ready 1 of 2\nrefused: NothingBack\nok 2.1\nok 3.1\nrefused: NothingBack\n"
