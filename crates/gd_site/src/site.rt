@@ -22,6 +22,7 @@ mod arriving;
 mod edits;
 mod frames;
 mod notes;
+mod resuming;
 
 /// A site of a session, in memory. Contracts see the numbers that it stores, its history, what it keeps of the other sites,
 /// its outbox and the notes. There is always a reference site for which it stands: one that holds the same events, keeps no

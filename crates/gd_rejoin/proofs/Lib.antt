@@ -1,0 +1,4 @@
+pub mod CallLemmas
+pub mod FoundLemmas
+pub mod ReadLemmas
+pub mod ResumeLemmas

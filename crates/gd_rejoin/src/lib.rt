@@ -1,0 +1,12 @@
+//! Going on from a journal: the site that holds the events of its log, and a writer that stands at the log's closing gate.
+#![tactic(auto)]
+
+mod contents;
+mod fault;
+mod logs;
+mod resuming;
+#[cfg(test)]
+mod tests;
+
+pub use fault::ResumeFault;
+pub use resuming::resume;
