@@ -10,7 +10,11 @@ use Rattle.gd_base.specs.declared.offer.Offer.TheVariants.{Next, Repeat, Gap, Ba
 use Rattle.gd_effects.specs.Effects.{Effect, Record, Work}
 use Rattle.gd_events.specs.Events.{Event}
 use Rattle.gd_events.specs.declared.op.Op.{Op}
-use Rattle.gd_grammar.specs.Drawings.{spelling}
+use Rattle.gd_events.specs.Sound.{IsOp}
+use Rattle.gd_grammar.specs.Drawings.{drawings}
+use Rattle.gd_logs.specs.Written.{IsRuled}
+use Rattle.gd_protocol.proofs.Journals.{well_ruled}
+use Rattle.gd_protocol.specs.Sites.{IsWell}
 use Rattle.gd_grammar.specs.HeaderBytes.{Header}
 use Rattle.gd_history.specs.Entries.{stamp_of}
 use Rattle.gd_history.specs.Histories.{arrival_of}
@@ -22,7 +26,7 @@ use Rattle.gd_outside.specs.declared.end.End.{End}
 use Rattle.gd_reference.specs.Offers.{after_offer, arrived, offer}
 use Rattle.gd_reference.specs.Said.{all_said, says}
 use Rattle.gd_reference.specs.SiteEffects.{echo, of_event, of_offer, offer_replies}
-use Rattle.gd_reference.specs.SlowSite.{SlowSite, journal_header}
+use Rattle.gd_reference.specs.SlowSite.{SlowSite, journal_header, log_end}
 use Rattle.gd_repair.specs.Repair.{Stamped, Outcome, applied, dropped, reworked}
 use Rattle.gd_site.specs.Answers.{steps_by, taken_by}
 use Rattle.gd_site.specs.Sites.{SiteValue, StandsFor}
@@ -104,15 +108,15 @@ on_ok_map (Err e) f p = tt
 
 module _ {A : Type 0} {does : Doing A} (laws : AreDone does) (slow : SlowSite) (e : Event) where
   -- the steps, and then the record and what is said
-  pub done_arrival : {reply : Reply} {new : SiteValue} (r : Result (Unit {0}) End) {a b : A} {k l : ℕ} → Arrives slow e reply new k l → does (Record (spelling e) ∷ says reply ∷ []) (reply ∷ []) r a l b l
+  pub done_arrival : {reply : Reply} {new : SiteValue} (r : Result (Unit {0}) End) {a b : A} {k l : ℕ} → Arrives slow e reply new k l → does (Record (log_end slow) e ∷ says reply ∷ []) (reply ∷ []) r a l b l
       → does (of_event slow e) (offer_replies slow.held e (offer slow e)) r a k b l
   done_arrival {reply} r {a} {b} {k} {l} arrives h =
       let cost = cost_of slow.held e in
       let paid : does (Work cost ∷ []) [] (Ok tt) a k a l = subst (λ z. does (Work cost ∷ []) [] (Ok tt) a k a z) (sym arrives.paid) (laws.works cost a k) in
       done_as does
-      (ap (of_offer slow e) arrives.next ∙ ap (λ z. Work cost ∷ Record (spelling e) ∷ says z ∷ []) (sym arrives.said))
+      (ap (of_offer slow e) arrives.next ∙ ap (λ z. Work cost ∷ Record (log_end slow) e ∷ says z ∷ []) (sym arrives.said))
       (ap (offer_replies slow.held e) arrives.next ∙ ap (λ z. z ∷ []) (sym arrives.said))
-      (laws.behind (Work cost ∷ []) (Record (spelling e) ∷ says reply ∷ []) [] (reply ∷ []) r a a b k l l paid h)
+      (laws.behind (Work cost ∷ []) (Record (log_end slow) e ∷ says reply ∷ []) [] (reply ∷ []) r a a b k l l paid h)
 
   -- no steps, and what is said
   pub done_left : {replies : List Reply} (r : Result (Unit {0}) End) {a b : A} {k l : ℕ} → LeavesIt slow e replies (offer slow e) → l ≡ k + steps_by (offer slow e) slow e → does (all_said replies) replies r a k b k
@@ -123,16 +127,21 @@ module _ {A : Type 0} {does : Doing A} (laws : AreDone does) (slow : SlowSite) (
 
 -- ---- what the reference site has come to
 
+-- the log of what is held obeys the rules with the event that was taken
+pub ruled_more : (slow : SlowSite) (e : Event) → offer slow e ≡ Next → IsWell (arrived slow e) → IsRuled IsOp drawings (journal_header slow) (slow.held ++ e ∷ [])
+ruled_more slow e next well =
+    subst (λ (o : Offer). IsRuled IsOp drawings (journal_header (after_offer o slow e)) (after_offer o slow e).held) next (well_ruled (arrived slow e) well)
+
 module _ {A : Type 0} (has : Header → List Event → A → Type 0) (e : Event) {old new : SiteValue} (a b : A) where
   -- the event was taken
   pub hears_taken : (r : Result (Unit {0}) End) → ((slow : SlowSite) → StandsFor slow old → (offer slow e ≡ Next) × StandsFor (arrived slow e) new)
-      → OnOk r ((header : Header) (events : List Event) → has header events a → has header (events ++ e ∷ []) b)
+      → OnOk r ((header : Header) (events : List Event) → IsRuled IsOp drawings header (events ++ e ∷ []) → has header events a → has header (events ++ e ∷ []) b)
       → OnOk r ((slow : SlowSite) → Hears has slow old a → Hears has (arrived slow e) new b)
   hears_taken r site = on_ok_map r (λ more slow h.
       let is = site slow h.stands in
       record {
         stands = is.1;
-        holds = subst (λ s. has (journal_header s) s.held b) (sym (ap (λ (o : Offer). after_offer o slow e) is.0)) (more (journal_header slow) slow.held h.holds);
+        holds = subst (λ s. has (journal_header s) s.held b) (sym (ap (λ (o : Offer). after_offer o slow e) is.0)) (more (journal_header slow) slow.held (ruled_more slow e is.0 is.1.well) h.holds);
       })
 
   -- it wasn't

@@ -1,5 +1,5 @@
 -- Words in the plain form ask for the command that their values give.
-use Rattle.std.proofs.Common.{◌≡◌, option_map, ◌≢◌, ◌∙◌, ◌≤◌, ◌-◌, ◌^◌, ℕ, Bool, true, false, refl, ap, ap₂, arith, List, [], ◌∷◌, length, Option, Some, None, cond, sym, le-leb, le-ltb, nat_le, nat_lt, ◌&&◌, true≢false}
+use Rattle.std.proofs.Common.{◌≡◌, option_map, ◌≢◌, ◌∙◌, ◌≤◌, ◌-◌, ◌^◌, ℕ, Bool, true, false, refl, ap, ap₂, arith, List, [], ◌∷◌, ◌++◌, codes, length, Option, Some, None, cond, sym, le-leb, le-ltb, nat_le, nat_lt, ◌&&◌, true≢false}
 use Rattle.std.specs.List.{list_all}
 use Rattle.std.specs.Str.Parse.{digits_value}
 use Rattle.std.proofs.lemmas.Bool.{leb-true}
@@ -13,13 +13,13 @@ use Rattle.gd_options.specs.declared.format.Format.{Format}
 use Rattle.gd_options.specs.declared.format.Format.TheVariants as format
 use Rattle.gd_commands.specs.Numbers.{is_digit, is_number, number_from}
 use Rattle.gd_commands.specs.Forms.{app, asked_by}
-use Rattle.gd_commands.specs.Node.{both as both_of, node_form}
+use Rattle.gd_commands.specs.Node.{both as both_of, node_command, node_form, node_numbers}
 use Rattle.gd_commands.specs.Rehearse.{rehearse_form}
 use Rattle.gd_commands.specs.Churn.{churn_form}
 use Rattle.gd_commands.specs.Commands.{command_of}
-use Rattle.gd_commands.specs.Plain.{IsNumberFrom, IsPlain, IsPlainWord, Node, Plain, Rehearse, Replay, Churn, Upgrade, plain_command, plain_words}
+use Rattle.gd_commands.specs.Plain.{IsNumberFrom, IsPlain, IsPlainMember, IsPlainWord, Node, Plain, Rehearse, Rejoin, Replay, Churn, Upgrade, member_words, plain_command, plain_words}
 use Rattle.gd_commands.proofs.Asked.{asked_where_taken}
-use Rattle.gd_commands.proofs.NodeWords.{node_rows, node_taken}
+use Rattle.gd_commands.proofs.NodeWords.{all_rows, flag_words, node_rows, node_taken}
 use Rattle.gd_commands.proofs.PairWords.{churn_rows, churn_taken, rehearse_rows, rehearse_taken}
 
 -- ---- numbers
@@ -75,21 +75,32 @@ churn_asked seed steps (seeds, most) =
     asked_where_taken churn_form (app churn_form) _ _ refl (churn_taken seed steps plain_seed plain_steps) (sym (churn_rows seed steps plain_seed plain_steps))
     ∙ ap₂ (λ a b. option_map (λ n. command.Churn n.0 n.1) (both_of a b)) (number_is_taken 0 (2 ^ 64 - 1) seed seeds) (number_is_taken 0 CHURN_STEPS steps most)
 
-node_asked : (session site journal : Text) (addresses : List Text) → IsPlain (Node session site journal addresses)
-    → command_of (plain_words (Node session site journal addresses)) ≡ Some (plain_command (Node session site journal addresses))
+-- what the values of `node` ask for, where its flag is there or not
+node_meant : (resume : Bool) (session site journal : Text) (addresses : List Text)
+    → node_form.asks (all_rows resume session site journal addresses)
+    ≡ option_map (λ n. node_command resume n.0 n.1 journal addresses) (node_numbers session site (length addresses))
+node_meant true session site journal addresses = refl
+node_meant false session site journal addresses = refl
+
+member_asked : (resume : Bool) (session site journal : Text) (addresses : List Text) → IsPlainMember session site journal addresses
+    → command_of (codes "node" ∷ (flag_words resume ++ member_words session site journal addresses))
+    ≡ Some (node_command resume (digits_value 10 session) (digits_value 10 site) journal addresses)
 unfolding command_of
-node_asked session site journal [] (sessions, range, plain, all, most) = absurd (omega (arith, range.1, range.2))
-node_asked session site journal (a ∷ rest) (sessions, range, plain, all, most) =
+member_asked resume session site journal [] (sessions, range, plain, all, most) = absurd (omega (arith, range.1, range.2))
+member_asked resume session site journal (a ∷ rest) (sessions, range, plain, all, most) =
     let n = number_is_plain session sessions.0 in
     let s = number_is_plain site range.0 in
     let few : nat_lt SITES (length (a ∷ rest)) ≡ false = le-ltb _ _ most in
-    asked_where_taken node_form (app node_form) _ _ refl (node_taken session site journal a rest n s plain all most) (sym (node_rows session site journal a rest n s plain all))
-    ∙ (λ i. option_map (λ m. command.Node m.0 m.1 journal (a ∷ rest)) (cond (few i) None
+    asked_where_taken node_form (app node_form) _ _ refl (node_taken resume session site journal a rest n s plain all most)
+    (sym (node_rows resume session site journal a rest n s plain all))
+    ∙ node_meant resume session site journal (a ∷ rest)
+    ∙ (λ i. option_map (λ m. node_command resume m.0 m.1 journal (a ∷ rest)) (cond (few i) None
     (both_of (number_is_taken 0 (2 ^ 32 - 1) session sessions i) (number_is_taken 1 (length (a ∷ rest)) site range i))))
 
 pub plain_is_asked : (plain : Plain) → IsPlain plain → command_of (plain_words plain) ≡ Some (plain_command plain)
 plain_is_asked (Replay f counts) range = replay_asked f counts
 plain_is_asked Upgrade range = upgrade_asked
-plain_is_asked (Node session site journal addresses) range = node_asked session site journal addresses range
+plain_is_asked (Node session site journal addresses) range = member_asked false session site journal addresses range
+plain_is_asked (Rejoin session site journal addresses) range = member_asked true session site journal addresses range
 plain_is_asked (Rehearse sites) range = rehearse_asked sites range
 plain_is_asked (Churn seed steps) range = churn_asked seed steps range

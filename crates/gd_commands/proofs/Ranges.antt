@@ -4,16 +4,16 @@ use Rattle.std.proofs.lemmas.Bool.{leb-true, ltb-false}
 use Rattle.clap.specs.Words.{Row, Text, all_of, first_of, matches_of}
 use Rattle.clap.proofs.WalkLemmas.{both}
 use Rattle.gd_base.specs.declared.ranges.TheConstants.{SITES}
-use Rattle.gd_options.specs.InRange.{IsInRange}
+use Rattle.gd_options.specs.InRange.{IsInRange, IsMember}
 use Rattle.gd_options.specs.declared.command.TheConstants.{CHURN_STEPS}
 use Rattle.gd_options.specs.declared.command.Command.{Command}
 use Rattle.gd_options.specs.declared.command.Command.TheVariants as command
 use Rattle.gd_options.specs.declared.format.Format.{Format}
 use Rattle.gd_commands.specs.declared.fault.CommandFault.{CommandFault}
 use Rattle.gd_commands.specs.Numbers.{number_from, number_in, ranged}
-use Rattle.gd_commands.specs.Forms.{Form, app, asked_by, takes_words}
-use Rattle.gd_commands.specs.Replay.{format_or_text, is_set}
-use Rattle.gd_commands.specs.Node.{both as both_of, node_by}
+use Rattle.gd_commands.specs.Forms.{Form, app, asked_by, is_set, takes_words}
+use Rattle.gd_commands.specs.Replay.{format_or_text}
+use Rattle.gd_commands.specs.Node.{both as both_of, node_by, node_command}
 use Rattle.gd_commands.specs.Rehearse.{rehearse_by}
 use Rattle.gd_commands.specs.Churn.{churn_by}
 use Rattle.gd_commands.specs.Commands.{asked_by_one, command_of, forms}
@@ -78,33 +78,38 @@ churn_ranged (Some seed) (Some steps) c h =
     churn_with (number_from 0 (2 ^ 64 - 1) seed) (number_from 0 CHURN_STEPS steps)
     (number_ranged 0 (2 ^ 64 - 1) seed) (number_ranged 0 CHURN_STEPS steps) c h
 
-node_with : (journal : Text) (addresses : List Text) → length addresses ≤ SITES → (m n : Option ℕ)
+member_ranged : (resume : Bool) (session site : ℕ) (journal : Text) (addresses : List Text) → IsMember session site addresses
+    → IsInRange (node_command resume session site journal addresses)
+member_ranged true session site journal addresses member = member
+member_ranged false session site journal addresses member = member
+
+node_with : (resume : Bool) (journal : Text) (addresses : List Text) → length addresses ≤ SITES → (m n : Option ℕ)
     → ((k : ℕ) → m ≡ Some k → (0 ≤ k) × (k ≤ 2 ^ 32 - 1)) → ((k : ℕ) → n ≡ Some k → (1 ≤ k) × (k ≤ length addresses))
-    → IsRanged (option_map (λ k. command.Node k.0 k.1 journal addresses) (both_of m n))
-node_with journal addresses few None n sessions sites c h = let e = h in cc
-node_with journal addresses few (Some k) None sessions sites c h = let e = h in cc
-node_with journal addresses few (Some k) (Some l) sessions sites c h =
-    let same : command.Node k l journal addresses ≡ c = (let e = h in cc) in
+    → IsRanged (option_map (λ k. node_command resume k.0 k.1 journal addresses) (both_of m n))
+node_with resume journal addresses few None n sessions sites c h = let e = h in cc
+node_with resume journal addresses few (Some k) None sessions sites c h = let e = h in cc
+node_with resume journal addresses few (Some k) (Some l) sessions sites c h =
+    let same : node_command resume k l journal addresses ≡ c = (let e = h in cc) in
     let top : 0 < 2 ^ 32 = lit< tt in
     let session : k ≤ 2 ^ 32 - 1 = (sessions k refl).1 in
     let below : k < 2 ^ 32 = omega (arith, top, session) in
-    subst IsInRange same (below, (sites l refl).0, (sites l refl).1, few)
+    subst IsInRange same (member_ranged resume k l journal addresses (below, (sites l refl).0, (sites l refl).1, few))
 
-node_counted : (session site journal : Text) (addresses : List Text) (b : Bool) → nat_lt SITES (length addresses) ≡ b
-    → IsRanged (option_map (λ k. command.Node k.0 k.1 journal addresses)
+node_counted : (resume : Bool) (session site journal : Text) (addresses : List Text) (b : Bool) → nat_lt SITES (length addresses) ≡ b
+    → IsRanged (option_map (λ k. node_command resume k.0 k.1 journal addresses)
     (cond b None (both_of (number_from 0 (2 ^ 32 - 1) session) (number_from 1 (length addresses) site))))
-node_counted session site journal addresses true test c h = let e = h in cc
-node_counted session site journal addresses false test c h =
-    node_with journal addresses (ltb-false _ _ test) (number_from 0 (2 ^ 32 - 1) session) (number_from 1 (length addresses) site)
+node_counted resume session site journal addresses true test c h = let e = h in cc
+node_counted resume session site journal addresses false test c h =
+    node_with resume journal addresses (ltb-false _ _ test) (number_from 0 (2 ^ 32 - 1) session) (number_from 1 (length addresses) site)
     (number_ranged 0 (2 ^ 32 - 1) session) (number_ranged 1 (length addresses) site) c h
 
-node_ranged : (session site journal : Option Text) (addresses : Option (List Text)) → IsRanged (node_by session site journal addresses)
-node_ranged None site journal addresses c h = let e = h in cc
-node_ranged (Some session) None journal addresses c h = let e = h in cc
-node_ranged (Some session) (Some site) None addresses c h = let e = h in cc
-node_ranged (Some session) (Some site) (Some journal) None c h = let e = h in cc
-node_ranged (Some session) (Some site) (Some journal) (Some addresses) c h =
-    node_counted session site journal addresses (nat_lt SITES (length addresses)) refl c h
+node_ranged : (resume session site journal : Option Text) (addresses : Option (List Text)) → IsRanged (node_by resume session site journal addresses)
+node_ranged resume None site journal addresses c h = let e = h in cc
+node_ranged resume (Some session) None journal addresses c h = let e = h in cc
+node_ranged resume (Some session) (Some site) None addresses c h = let e = h in cc
+node_ranged resume (Some session) (Some site) (Some journal) None c h = let e = h in cc
+node_ranged resume (Some session) (Some site) (Some journal) (Some addresses) c h =
+    node_counted (is_set resume) session site journal addresses (nat_lt SITES (length addresses)) refl c h
 
 -- ---- all commands
 
@@ -140,7 +145,8 @@ forms_ranged = (
   (
     (λ rows. upgrade_ranged),
     (
-      (λ rows. node_ranged (first_of (codes "session") rows) (first_of (codes "site") rows) (first_of (codes "journal") rows) (all_of (codes "address") rows)),
+      (λ rows. node_ranged (first_of (codes "resume") rows) (first_of (codes "session") rows) (first_of (codes "site") rows)
+          (first_of (codes "journal") rows) (all_of (codes "address") rows)),
       (
         (λ rows. rehearse_ranged (first_of (codes "sites") rows)),
         ((λ rows. churn_ranged (first_of (codes "seed") rows) (first_of (codes "steps") rows)), tt),

@@ -2,12 +2,13 @@
 --
 -- Which words are taken, and which values they give, is `clap`'s own definition of a simple command. It has no flags for help
 -- or for a version.
-use Rattle.std.specs.Prelude.{Bool, true, List, Option, Some, None, if◌then◌else◌, option_map}
+use Rattle.std.specs.Prelude.{Bool, true, false, List, Option, Some, None, bytes_eq, codes, if◌then◌else◌, option_map}
 use Rattle.std.specs.List.{fold}
 use Rattle.std.specs.Borrow.{Bor}
 use Rattle.clap.specs.Words.{App, Row, Rule, Text, fault_of, matches_of, new_app, new_rule, with_rule}
 use Rattle.clap.specs.Simple.{on_top}
 use Rattle.clap.specs.Walk.{is_empty}
+use Rattle.clap.specs.declared.builder.action.ArgAction.TheVariants.{SetTrue}
 use Rattle.gd_options.specs.declared.command.Command.{Command}
 
 pub record Form : Type 0 where
@@ -30,6 +31,15 @@ app form = fold with_rule (bare form.name) form.arguments
 -- a required option with one value
 abbrev pub value_rule : Text → Rule
 value_rule name = record (new_rule name) { long = Some name; required = true }
+
+-- an option without a value, which may be there or not
+abbrev pub flag_rule : Text → Rule
+flag_rule name = record (new_rule name) { long = Some name; action = Some SetTrue }
+
+-- a flag that is there has the value `true`, and otherwise `false`
+abbrev pub is_set : Option Text → Bool
+is_set None = false
+is_set (Some word) = bytes_eq word (codes "true")
 
 abbrev pub takes_words : App → List Text → Bool
 takes_words a words = is_empty (fault_of a words)

@@ -16,6 +16,7 @@ pub data Plain : Type 0 where
   Replay : (format : Option Format) → (counts : Bool) → Plain
   Upgrade : Plain
   Node : (session : Text) → (site : Text) → (journal : Text) → (addresses : List Text) → Plain
+  Rejoin : (session : Text) → (site : Text) → (journal : Text) → (addresses : List Text) → Plain
   Rehearse : (sites : Text) → Plain
   Churn : (seed : Text) → (steps : Text) → Plain
 
@@ -32,12 +33,17 @@ abbrev pub counts_words : Bool → List Text
 counts_words true = codes "--counts" ∷ []
 counts_words false = []
 
+abbrev pub member_words : Text → Text → Text → List Text → List Text
+member_words session site journal addresses =
+    codes "--session" ∷ session ∷ codes "--site" ∷ site ∷ codes "--journal" ∷ journal ∷ addresses
+
 -- how they are written
 abbrev pub plain_words : Plain → List Text
 plain_words (Replay format counts) = codes "replay" ∷ (format_words format ++ counts_words counts)
 plain_words Upgrade = codes "upgrade" ∷ []
-plain_words (Node session site journal addresses) =
-    codes "node" ∷ codes "--session" ∷ session ∷ codes "--site" ∷ site ∷ codes "--journal" ∷ journal ∷ addresses
+plain_words (Node session site journal addresses) = codes "node" ∷ member_words session site journal addresses
+plain_words (Rejoin session site journal addresses) =
+    codes "node" ∷ codes "--resume" ∷ member_words session site journal addresses
 plain_words (Rehearse sites) = codes "rehearse" ∷ codes "--sites" ∷ sites ∷ []
 plain_words (Churn seed steps) = codes "churn" ∷ codes "--seed" ∷ seed ∷ codes "--steps" ∷ steps ∷ []
 
@@ -51,6 +57,8 @@ plain_command (Replay format counts) = command.Replay (format_meant format) coun
 plain_command Upgrade = command.Upgrade
 plain_command (Node session site journal addresses) =
     command.Node (digits_value 10 session) (digits_value 10 site) journal addresses
+plain_command (Rejoin session site journal addresses) =
+    command.Rejoin (digits_value 10 session) (digits_value 10 site) journal addresses
 plain_command (Rehearse sites) = command.Rehearse (digits_value 10 sites)
 plain_command (Churn seed steps) = command.Churn (digits_value 10 seed) (digits_value 10 steps)
 
@@ -67,12 +75,16 @@ ArePlainWords (word ∷ words) = IsPlainWord word × ArePlainWords words
 abbrev pub IsNumberFrom : ℕ → ℕ → Text → Type 0
 IsNumberFrom low high text = (is_number text ≡ true) × (low ≤ digits_value 10 text) × (digits_value 10 text ≤ high)
 
+abbrev pub IsPlainMember : Text → Text → Text → List Text → Type 0
+IsPlainMember session site journal addresses =
+    IsNumberFrom 0 (2 ^ 32 - 1) session × IsNumberFrom 1 (length addresses) site
+    × IsPlainWord journal × ArePlainWords addresses × (length addresses ≤ SITES)
+
 -- each value, and the number of addresses, is as the form says, and no value and no address is empty or begins with a hyphen
 abbrev pub IsPlain : Plain → Type 0
 IsPlain (Replay format counts) = Unit {0}
 IsPlain Upgrade = Unit {0}
-IsPlain (Node session site journal addresses) =
-    IsNumberFrom 0 (2 ^ 32 - 1) session × IsNumberFrom 1 (length addresses) site
-    × IsPlainWord journal × ArePlainWords addresses × (length addresses ≤ SITES)
+IsPlain (Node session site journal addresses) = IsPlainMember session site journal addresses
+IsPlain (Rejoin session site journal addresses) = IsPlainMember session site journal addresses
 IsPlain (Rehearse sites) = IsNumberFrom 1 SITES sites
 IsPlain (Churn seed steps) = IsNumberFrom 0 (2 ^ 64 - 1) seed × IsNumberFrom 0 CHURN_STEPS steps

@@ -1,18 +1,14 @@
 -- The form of `replay`: `[--format text|json|events] [--counts]`. The format is `text` where none is given.
-use Rattle.std.specs.Prelude.{Bool, false, [], ◌∷◌, Option, Some, None, bytes_eq, codes, if◌then◌else◌, option_map}
+use Rattle.std.specs.Prelude.{[], ◌∷◌, Option, Some, None, bytes_eq, codes, if◌then◌else◌, option_map}
 use Rattle.clap.specs.Words.{Rule, Text, first_of, new_rule}
-use Rattle.clap.specs.declared.builder.action.ArgAction.TheVariants.{SetTrue}
 use Rattle.gd_options.specs.declared.command.Command.{Command}
 use Rattle.gd_options.specs.declared.command.Command.TheVariants as command
 use Rattle.gd_options.specs.declared.format.Format.{Format}
 use Rattle.gd_options.specs.declared.format.Format.TheVariants as format
-use Rattle.gd_commands.specs.Forms.{Form}
+use Rattle.gd_commands.specs.Forms.{Form, flag_rule, is_set}
 
 abbrev pub format_rule : Rule
 format_rule = record (new_rule (codes "format")) { long = Some (codes "format") }
-
-abbrev pub counts_rule : Rule
-counts_rule = record (new_rule (codes "counts")) { long = Some (codes "counts"); action = Some SetTrue }
 
 abbrev pub format_in : Text → Option Format
 format_in word =
@@ -25,11 +21,6 @@ abbrev pub format_or_text : Option Text → Option Format
 format_or_text None = Some format.Text
 format_or_text (Some word) = format_in word
 
--- a flag that is there has the value `true`, and otherwise `false`
-abbrev pub is_set : Option Text → Bool
-is_set None = false
-is_set (Some word) = bytes_eq word (codes "true")
-
 abbrev pub replay_by : Option Text → Option Text → Option Command
 replay_by format counts = option_map (λ f. command.Replay f (is_set counts)) (format_or_text format)
 
@@ -37,6 +28,6 @@ abbrev pub replay_form : Form
 replay_form =
     record {
       name = codes "replay";
-      arguments = format_rule ∷ counts_rule ∷ [];
+      arguments = format_rule ∷ flag_rule (codes "counts") ∷ [];
       asks = λ rows. replay_by (first_of (codes "format") rows) (first_of (codes "counts") rows);
     }

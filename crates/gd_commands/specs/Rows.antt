@@ -2,7 +2,7 @@
 use Rattle.std.specs.Prelude.{◌≡◌, ◌-◌, ◌^◌, ◌==◌, ℕ, true, false, List, [], ◌∷◌, map, Option, Some, None, codes, if◌then◌else◌}
 use Rattle.clap.specs.Words.{Text}
 use Rattle.gd_options.specs.declared.command.Command.{Command}
-use Rattle.gd_options.specs.declared.command.Command.TheVariants.{Replay, Upgrade, Node, Rehearse, Churn}
+use Rattle.gd_options.specs.declared.command.Command.TheVariants.{Replay, Upgrade, Node, Rejoin, Rehearse, Churn}
 use Rattle.gd_options.specs.declared.format.Format.TheVariants as format
 use Rattle.gd_commands.specs.Commands.{command_of}
 
@@ -73,6 +73,11 @@ node_rows =
     ∷ asks (codes "node A --site=1 --session 7 B --journal j") (Node 7 1 (codes "j") a_and_b)
     ∷ asks (codes "node --session 0 --site 2 --journal=-j A B") (Node 0 2 (codes "-j") a_and_b)
     ∷ asks (codes "node --session 4294967295 --site 2 --journal j -- A B") (Node (2 ^ 32 - 1) 2 (codes "j") a_and_b)
+    ∷ asks (codes "node --resume --session 7 --site 1 --journal j A B") (Rejoin 7 1 (codes "j") a_and_b)
+    ∷ asks (codes "node A --site=1 --session 7 B --resume --journal j") (Rejoin 7 1 (codes "j") a_and_b)
+    ∷ refused (codes "node --resume --session 7 --resume --site 1 --journal j A B")
+    ∷ refused (codes "node --resume=true --session 7 --site 1 --journal j A B")
+    ∷ refused (codes "node --resume --session 7 --site 1 A B")
     ∷ refused (codes "node --session 7 --site 1 --journal j A B --x")
     ∷ refused (codes "node --session 4294967296 --site 1 --journal j A B")
     ∷ refused (codes "node --session -1 --site 1 --journal j A B")

@@ -2,12 +2,12 @@
 
 ghost use Rattle.std.specs.Prelude.{◌≡◌, IfOk, false, map, None, true};
 ghost use Rattle.clap.specs.Words.{all_of, app_of, found_of, first_of, is_simple_and_free, rows_of, rule_of};
-ghost use Rattle.gd_commands.specs.Forms.{Form, app, asked_by, bare, text_of, value_rule};
+ghost use Rattle.gd_commands.specs.Forms.{Form, app, asked_by, bare, flag_rule, is_set, text_of, value_rule};
 ghost use Rattle.gd_commands.specs.Node.{texts_of};
 
 use crate::fault::CommandFault;
 use clap::error::ErrorKind;
-use clap::{Arg, ArgMatches, Command as ClapCommand};
+use clap::{Arg, ArgAction, ArgMatches, Command as ClapCommand};
 use std::alloc::Global;
 use std::convert::AsStr;
 
@@ -27,6 +27,14 @@ pub fn value<'a>(alloc: Global, name: &'a str) -> Arg<'a>
     ensures local { result.global ≡ false }
 {
     Arg::new(alloc, name).long(name).required(true)
+}
+
+/// An option without a value, which may be there or not.
+pub fn flag<'a>(alloc: Global, name: &'a str) -> Arg<'a>
+    ensures rule { rule_of result ≡ flag_rule name.entry.now }
+    ensures local { result.global ≡ false }
+{
+    Arg::new(alloc, name).long(name).action(ArgAction::SetTrue)
 }
 
 /// The values that the words give to the arguments of a form, of which this is the command. `Usage` where `clap` doesn't
@@ -63,4 +71,14 @@ pub fn texts<'m, 'a>(matches: &'m ArgMatches<'a>, id: &str) -> Option<&'m [&'a s
     ensures { texts_of result ≡ all_of id.now (rows_of (found_of matches.now)) }
 {
     matches.get_strs(id)
+}
+
+/// Whether a flag with this value is there.
+pub fn is_set(value: Option<&str>) -> bool
+    ensures { result ≡ is_set (text_of value.entry) }
+{
+    match value {
+        None => false,
+        Some(word) => word == "true",
+    }
 }

@@ -1,13 +1,13 @@
-//! The options and the addresses of `node`.
+//! The options and the addresses of `node`, and its flag `--resume`.
 
 ghost use Rattle.std.specs.Prelude.{◌≡◌, IfOk, Some, None, false, map};
 ghost use Rattle.clap.specs.Words.{app_of, rule_of};
 ghost use Rattle.gd_commands.specs.Forms.{app, asked_by, text_of};
 ghost use Rattle.gd_commands.specs.Node.{addresses_rule, node_by, node_form, node_numbers, texts_of};
-ghost use Rattle.gd_options.specs.declared.command.Command.TheVariants.{Node};
+ghost use Rattle.gd_commands.specs.Node.{node_command as node_or_rejoin};
 
 use crate::fault::CommandFault;
-use crate::matched::{bare, matches_of, text, texts, value};
+use crate::matched::{bare, flag, is_set, matches_of, text, texts, value};
 use crate::number::number_from;
 use clap::{Arg, Command as ClapCommand};
 use gd_base::SITES;
@@ -27,6 +27,7 @@ fn node_command<'a>(alloc: Global) -> Result<ClapCommand<'a>, AllocError>
     ensures { IfOk result (λ c. app_of c ≡ app node_form) }
 {
     bare(alloc, "node")
+        .arg(flag(alloc, "resume"))?
         .arg(value(alloc, "session"))?
         .arg(value(alloc, "site"))?
         .arg(value(alloc, "journal"))?
@@ -55,65 +56,92 @@ fn copied(alloc: Global, texts: &[&str]) -> Result<WordList, AllocError>
     Ok(words)
 }
 
+/// To begin the journal, or to go on from it.
+fn node_or_rejoin(
+    resume: bool,
+    session: u32,
+    site: u8,
+    journal: Word,
+    addresses: WordList,
+) -> Command
+    ensures { result ≡ node_or_rejoin resume session site journal addresses }
+{
+    if resume {
+        Command::Rejoin {
+            session,
+            site,
+            journal,
+            addresses,
+        }
+    } else {
+        Command::Node {
+            session,
+            site,
+            journal,
+            addresses,
+        }
+    }
+}
+
 fn copied_node(
     alloc: Global,
+    resume: bool,
     session: u32,
     site: u8,
     journal: &str,
     addresses: &[&str],
 ) -> Result<Command, AllocError>
     ensures { IfOk result (λ c.
-        c ≡ Node session site journal.now (map (λ s. s.now) addresses.now)) }
+        c ≡ node_or_rejoin resume session site journal.now (map (λ s. s.now) addresses.now)) }
 {
     let journal = Word::new(alloc, journal)?;
     let addresses = copied(alloc, addresses)?;
-    Ok(Command::Node {
-        session,
-        site,
-        journal,
-        addresses,
-    })
+    Ok(node_or_rejoin(resume, session, site, journal, addresses))
 }
 
 /// The command with these values.
 fn node_with(
     alloc: Global,
+    resume: Option<&str>,
     session: &str,
     site: &str,
     journal: &str,
     addresses: &[&str],
 ) -> Result<Command, CommandFault>
     ensures asked { IfOk result (λ c.
-        node_by (Some session.now) (Some site.now) (Some journal.now)
+        node_by (text_of resume.entry) (Some session.now) (Some site.now) (Some journal.now)
         (Some (map (λ s. s.now) addresses.now)) ≡ Some c) }
     ensures usage { result ≡ Err CommandFault.Usage
-        → node_by (Some session.now) (Some site.now) (Some journal.now)
+        → node_by (text_of resume.entry) (Some session.now) (Some site.now) (Some journal.now)
         (Some (map (λ s. s.now) addresses.now)) ≡ None }
 {
     match node_numbers(session, site, addresses.len()) {
-        Some((session, site)) => Ok(copied_node(alloc, session, site, journal, addresses)?),
+        Some((session, site)) => {
+            Ok(copied_node(alloc, is_set(resume), session, site, journal, addresses)?)
+        }
         None => Err(CommandFault::Usage),
     }
 }
 
-/// The same, where each of them is there.
+/// The same, where each of the others is there.
 fn node_by(
     alloc: Global,
+    resume: Option<&str>,
     session: Option<&str>,
     site: Option<&str>,
     journal: Option<&str>,
     addresses: Option<&[&str]>,
 ) -> Result<Command, CommandFault>
     ensures asked { IfOk result (λ c.
-        node_by (text_of session.entry) (text_of site.entry) (text_of journal.entry)
-        (texts_of addresses.entry) ≡ Some c) }
+        node_by (text_of resume.entry) (text_of session.entry) (text_of site.entry)
+        (text_of journal.entry) (texts_of addresses.entry) ≡ Some c) }
     ensures usage { result ≡ Err CommandFault.Usage
-        → node_by (text_of session.entry) (text_of site.entry)
+        → node_by (text_of resume.entry) (text_of session.entry) (text_of site.entry)
         (text_of journal.entry) (texts_of addresses.entry) ≡ None }
 {
     match (session, site, journal, addresses) {
         (Some(session), Some(site), Some(journal), Some(addresses)) => {
-            node_with(alloc, session, site, journal, addresses)
+            node_with(alloc, resume, session, site, journal, addresses)
         }
         _ => Err(CommandFault::Usage),
     }
@@ -128,6 +156,7 @@ pub fn read_node<S: AsStr>(alloc: Global, words: &[S]) -> Result<Command, Comman
     let matches = matches_of(node_command(alloc)?, words)?;
     node_by(
         alloc,
+        text(&matches, "resume"),
         text(&matches, "session"),
         text(&matches, "site"),
         text(&matches, "journal"),

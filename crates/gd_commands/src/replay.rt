@@ -6,8 +6,8 @@ ghost use Rattle.gd_commands.specs.Forms.{app, asked_by, text_of};
 ghost use Rattle.gd_commands.specs.Replay.{format_in, replay_by, replay_form};
 
 use crate::fault::CommandFault;
-use crate::matched::{bare, matches_of, text};
-use clap::{Arg, ArgAction, Command as ClapCommand};
+use crate::matched::{bare, flag, is_set, matches_of, text};
+use clap::{Arg, Command as ClapCommand};
 use gd_options::{Command, Format};
 use std::alloc::{AllocError, Global};
 use std::convert::AsStr;
@@ -16,10 +16,9 @@ fn replay_command<'a>(alloc: Global) -> Result<ClapCommand<'a>, AllocError>
     ensures { IfOk result (λ c. app_of c ≡ app replay_form) }
 {
     let format = Arg::new(alloc, "format").long("format");
-    let counts = Arg::new(alloc, "counts")
-        .long("counts")
-        .action(ArgAction::SetTrue);
-    bare(alloc, "replay").arg(format)?.arg(counts)
+    bare(alloc, "replay")
+        .arg(format)?
+        .arg(flag(alloc, "counts"))
 }
 
 /// The format that a word names.
@@ -45,11 +44,10 @@ fn replay_by(format: Option<&str>, counts: Option<&str>) -> Option<Command>
         None => Format::Text,
         Some(word) => format_of(word)?,
     };
-    let counts = match counts {
-        None => false,
-        Some(word) => word == "true",
-    };
-    Some(Command::Replay { format, counts })
+    Some(Command::Replay {
+        format,
+        counts: is_set(counts),
+    })
 }
 
 /// The command that the words behind `replay` ask for; `Usage` only where they aren't in its form.

@@ -6,7 +6,7 @@ use std::alloc::{AllocError, Global};
 use std::test::Fail;
 
 /// What is read of the words of a line, one space between two of them.
-const LINES: [(&str, &str); 48] = [
+const LINES: [(&str, &str); 53] = [
     ("", "usage"),
     ("paint", "usage"),
     ("Replay", "usage"),
@@ -40,6 +40,23 @@ const LINES: [(&str, &str); 48] = [
         "node --session 0 --site 2 --journal=-j A B",
         "node 0 2 -j A B",
     ),
+    (
+        "node --resume --session 7 --site 1 --journal j A B",
+        "rejoin 7 1 j A B",
+    ),
+    (
+        "node A --site=1 --session 7 B --resume --journal j",
+        "rejoin 7 1 j A B",
+    ),
+    (
+        "node --resume --session 7 --resume --site 1 --journal j A B",
+        "usage",
+    ),
+    (
+        "node --resume=true --session 7 --site 1 --journal j A B",
+        "usage",
+    ),
+    ("node --resume --session 7 --site 1 A B", "usage"),
     (
         "node --session 4294967295 --site 1 --journal j A",
         "node 4294967295 1 j A",
@@ -91,12 +108,13 @@ fn words_of(alloc: Global, line: &str) -> Result<WordList, AllocError> {
 
 fn node_text(
     alloc: Global,
+    name: &str,
     session: u32,
     site: u8,
     journal: &Word,
     addresses: &WordList,
 ) -> Result<String, AllocError> {
-    let mut text = format!(in alloc; "node {session} {site} {}", journal.as_str())?;
+    let mut text = format!(in alloc; "{name} {session} {site} {}", journal.as_str())?;
     for address in addresses.as_slice() {
         text.push_str(" ")?;
         text.push_str(address.as_str())?;
@@ -113,7 +131,13 @@ fn command_text(alloc: Global, command: &Command) -> Result<String, AllocError> 
             site,
             journal,
             addresses,
-        } => { node_text(alloc, *session, *site, journal, addresses) }
+        } => { node_text(alloc, "node", *session, *site, journal, addresses) }
+        Command::Rejoin {
+            session,
+            site,
+            journal,
+            addresses,
+        } => { node_text(alloc, "rejoin", *session, *site, journal, addresses) }
         Command::Rehearse { sites } => format!(in alloc; "rehearse {sites}"),
         Command::Churn { seed, steps } => format!(in alloc; "churn {seed} {steps}"),
     }

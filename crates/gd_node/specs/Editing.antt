@@ -6,7 +6,6 @@ use Rattle.gd_effects.specs.Done.{Does}
 use Rattle.gd_effects.specs.Effects.{Effect, Record}
 use Rattle.gd_effects.specs.Prints.{Prints}
 use Rattle.gd_events.specs.Events.{Event}
-use Rattle.gd_grammar.specs.Drawings.{spelling}
 use Rattle.gd_lines.specs.declared.reply.Reply.TheVariants as reply
 use Rattle.gd_node.specs.Calls.{TakesNone}
 use Rattle.gd_node.specs.Meeting.{HasLog}
@@ -20,7 +19,7 @@ use Rattle.gd_protocol.specs.Sites.{IsWell}
 use Rattle.gd_reference.specs.Judging.{with_event}
 use Rattle.gd_reference.specs.Said.{says}
 use Rattle.gd_reference.specs.SiteEffects.{tries}
-use Rattle.gd_reference.specs.SlowSite.{SlowSite, journal_header}
+use Rattle.gd_reference.specs.SlowSite.{SlowSite, journal_header, log_end}
 use Rattle.gd_site.specs.Sites.{StandsFor}
 
 -- ---- refusals
@@ -40,7 +39,7 @@ pub record IsAhead (slow : SlowSite) (e : Event) (member : Member) (journal : Se
 
 -- what is still owed then
 abbrev pub of_made : SlowSite → Event → List Effect
-of_made slow e = Record (spelling e) ∷ says (reply.Done e.stamp) ∷ tries (with_event slow e)
+of_made slow e = Record (log_end slow) e ∷ says (reply.Done e.stamp) ∷ tries (with_event slow e)
 
 -- A call at a node did that, or until its early end a part of it. The log has the event then, and nothing else of the member
 -- has changed.

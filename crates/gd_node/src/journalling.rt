@@ -1,6 +1,6 @@
 //! The log in a node's journal.
 
-ghost use Rattle.std.specs.Prelude.{◌≡◌, ℕ, ◌≤◌, [], ◌∷◌, ◌++◌, List, IfOk, OnOk, IsSome, length};
+ghost use Rattle.std.specs.Prelude.{◌≡◌, ℕ, ◌≤◌, [], ◌∷◌, ◌++◌, Err, List, IfOk, OnErr, OnOk, IsSome, length};
 ghost use Rattle.gd_base.specs.declared.ranges.TheConstants.{SESSION_EVENTS};
 ghost use Rattle.gd_base.specs.declared.version.Version.TheVariants as version;
 ghost use Rattle.gd_effects.specs.Done.{Does};
@@ -8,7 +8,8 @@ ghost use Rattle.gd_effects.specs.Effects.{Head, Record};
 ghost use Rattle.gd_effects.specs.Outside.{outside};
 ghost use Rattle.gd_events.specs.Events.{Event as EventValue};
 ghost use Rattle.gd_events.specs.Sound.{IsOp};
-ghost use Rattle.gd_grammar.specs.Drawings.{drawings, spelling};
+ghost use Rattle.gd_grammar.specs.Closing.{gate_place};
+ghost use Rattle.gd_grammar.specs.Drawings.{drawings};
 ghost use Rattle.gd_grammar.specs.HeaderBytes.{Header, header_bytes};
 ghost use Rattle.gd_logs.specs.Written.{IsRuled};
 ghost use Rattle.gd_node.specs.Calls.{Writes};
@@ -34,6 +35,7 @@ pub(crate) fn start_log<J: Journal>(
     requires newest { header.now.version ≡ version.Two }
     ensures does { Writes (J.seen journal.old) (Head (header_bytes drawings header.now) ∷ []) result
         (J.seen journal.new) }
+    ensures end { OnErr result (result ≡ Err End.JournalFault) }
     ensures log { IfOk result (λ log. HasLog header.now [] log (J.seen journal.new)) }
     ensures name { OnOk result (IsSome (J.seen journal.new).name
         → told (J.seen journal.new).name ≡ name.now) }
@@ -52,11 +54,13 @@ pub(crate) fn record<J: Journal>(
 ) -> Result<(), End>
     requires { (header : Header) × (events : List EventValue)
         × (length events ≤ SESSION_EVENTS) × HasLog header events log.old (J.seen journal.old) }
-    ensures does { (header : Header) (events : List EventValue) → IsRuled IsOp drawings header events
+    ensures does { (header : Header) (events : List EventValue)
+        → IsRuled IsOp drawings header (events ++ event.now ∷ [])
         → HasLog header events log.old (J.seen journal.old)
-        → Writes (J.seen journal.old) (Record (spelling event.now) ∷ []) result
-        (J.seen journal.new) }
+        → Writes (J.seen journal.old) (Record (gate_place drawings events) event.now ∷ [])
+        result (J.seen journal.new) }
     ensures log { OnOk result ((header : Header) (events : List EventValue)
+        → IsRuled IsOp drawings header (events ++ event.now ∷ [])
         → HasLog header events log.old (J.seen journal.old)
         → HasLog header (events ++ event.now ∷ []) log.new (J.seen journal.new)) }
     ensures name { Stays (J.seen journal.old).name (J.seen journal.new).name }
@@ -77,13 +81,15 @@ pub(crate) fn record_and_say<K: Sink, J: Journal>(
 ) -> Result<(), End>
     requires { (header : Header) × (events : List EventValue)
         × (length events ≤ SESSION_EVENTS) × HasLog header events log.old (J.seen journal.old) }
-    ensures does { (header : Header) (events : List EventValue) → IsRuled IsOp drawings header events
+    ensures does { (header : Header) (events : List EventValue)
+        → IsRuled IsOp drawings header (events ++ event.now ∷ [])
         → HasLog header events log.old (J.seen journal.old)
         → (input : SeenSource) (link : SeenLink) (steps : ℕ) → Does result
         (outside input (K.seen output.old) (J.seen journal.old) link steps)
-        (Record (spelling event.now) ∷ says reply.now ∷ [])
+        (Record (gate_place drawings events) event.now ∷ says reply.now ∷ [])
         (outside input (K.seen output.new) (J.seen journal.new) link steps) }
     ensures log { OnOk result ((header : Header) (events : List EventValue)
+        → IsRuled IsOp drawings header (events ++ event.now ∷ [])
         → HasLog header events log.old (J.seen journal.old)
         → HasLog header (events ++ event.now ∷ []) log.new (J.seen journal.new)) }
     ensures name { Stays (J.seen journal.old).name (J.seen journal.new).name }

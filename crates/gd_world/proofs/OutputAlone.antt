@@ -3,16 +3,17 @@ use Rattle.std.proofs.Common.{◌≡◌, ℕ, List, [], ◌∷◌, ◌++◌, ref
 use Rattle.std.specs.List.{AllByRecursion}
 use Rattle.std.specs.Prelude.{IsSome}
 use Rattle.gd_base.proofs.Lists.{Every-append, Every-prefix}
+use Rattle.gd_effects.proofs.Crashing.{journals_stay}
 use Rattle.gd_effects.proofs.RunEnds.{idle_journal, idle_link}
 use Rattle.gd_effects.specs.Done.{Did, DidFront, DidHalfPrint}
-use Rattle.gd_effects.specs.Effects.{Effect, Print, Work, journal_after, tried}
+use Rattle.gd_effects.specs.Effects.{Effect, Print, Work, journal_after, recorded, tried}
 use Rattle.gd_effects.specs.Endings.{Causes, DidRead, EndsAs, IfUnopened, Leaves}
 use Rattle.gd_effects.specs.Outside.{Outside, IsTold, outside}
 use Rattle.gd_outside.proofs.ToldLemmas.{grows_nothing}
 use Rattle.gd_outside.specs.Seen.{SeenSource, SeenSink, SeenJournal, SeenLink, Tried}
 use Rattle.gd_outside.specs.Told.{told, Grows}
 use Rattle.gd_outside.specs.declared.status.Status.{Status}
-use Rattle.gd_outside.specs.declared.status.Status.TheVariants.{Done, Usage, BadLog, ReadFault, WriteFault, JournalFault, LinkFault, NoMemory, LineLimit}
+use Rattle.gd_outside.specs.declared.status.Status.TheVariants.{Done, Usage, BadLog, ReadFault, WriteFault, JournalFault, LinkFault, NoMemory, LineLimit, OtherJournal}
 
 -- a line that is printed, or steps
 abbrev pub IsShown : Effect → Type 0
@@ -28,6 +29,12 @@ shown-journal contents [] h = refl
 shown-journal contents (Print bytes ∷ xs) h = shown-journal contents xs h.1
 shown-journal contents (Work n ∷ xs) h = shown-journal contents xs h.1
 shown-journal contents (other ∷ xs) h = absurd h.0
+
+shown-recorded : (xs : List Effect) → AreShown xs → recorded xs ≡ []
+shown-recorded [] h = refl
+shown-recorded (Print bytes ∷ xs) h = shown-recorded xs h.1
+shown-recorded (Work n ∷ xs) h = shown-recorded xs h.1
+shown-recorded (other ∷ xs) h = absurd h.0
 
 shown-tried : (xs : List Effect) → AreShown xs → tried xs ≡ []
 shown-tried [] h = refl
@@ -54,7 +61,7 @@ module _ (was_input input : SeenSource) (old new : SeenSink) (before after : ℕ
     did_beside : (xs : List Effect) → AreShown xs → Did idle_before xs idle_after → Did any_before xs any_after
     did_beside xs shown h = record {
       output = h.output;
-      journal = record { was = λ t. t; now = λ t. sym (shown-journal (told journal.contents) xs shown) };
+      journal = journals_stay journal xs (sym (shown-journal (told journal.contents) xs shown)) (sym (shown-recorded xs shown));
       tried = subst (λ (frames : List Tried). Grows link.tried frames link.tried) (sym (shown-tried xs shown)) (grows_nothing link.tried);
       steps = h.steps;
     }
@@ -93,6 +100,7 @@ module _ (was_input input : SeenSource) (old new : SeenSink) (before after : ℕ
       leaves_beside Usage c h = (did_beside xs shown h.0, h.1)
       leaves_beside BadLog c h = (did_beside xs shown h.0, h.1)
       leaves_beside LineLimit c h = (did_beside xs shown h.0, h.1)
+      leaves_beside OtherJournal c h = (did_beside xs shown h.0, h.1)
 
       causes_beside : (s : Status) → Causes s idle_before idle_after → Causes s any_before any_after
       causes_beside ReadFault c = c

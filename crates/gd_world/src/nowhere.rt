@@ -1,6 +1,7 @@
 //! What stands for the journal and the link of a world, which has neither.
 
 ghost use Rattle.std.specs.Prelude.{Some, None, []};
+ghost use Rattle.gd_outside.specs.Disk.{untold};
 
 use gd_outside::{Failed, Journal, Link, Received, Sent, WordList};
 
@@ -9,9 +10,13 @@ use gd_outside::{Failed, Journal, Link, Received, Sent, WordList};
 pub(crate) struct Nowhere {}
 
 impl Journal for Nowhere {
-    ghost seen = { λ n. record { contents = None; name = None; faults = 0 } };
+    ghost seen = { λ n. record { contents = None; name = None; disk = untold; faults = 0 } };
 
     fn create(&mut self, _name: &str) -> Result<(), Failed> {
+        Ok(())
+    }
+
+    fn open(&mut self, _name: &str) -> Result<(), Failed> {
         Ok(())
     }
 
@@ -21,6 +26,14 @@ impl Journal for Nowhere {
 
     fn sync(&mut self) -> Result<(), Failed> {
         Ok(())
+    }
+
+    fn len(&mut self) -> Result<u64, Failed> {
+        Ok(0)
+    }
+
+    fn read_at(&mut self, _pos: u64, _buf: &mut [u8]) -> Result<usize, Failed> {
+        Ok(0)
     }
 }
 

@@ -1,16 +1,23 @@
 -- What holds of the runs of one command alone.
 use Rattle.std.specs.Prelude.{◌≡◌, ℕ, List, Option, Some, None, IsSome, length}
+use Rattle.gd_effects.specs.Endings.{Unread}
 use Rattle.gd_effects.specs.Outside.{Outside}
-use Rattle.gd_grammar.specs.Drawings.{logged}
-use Rattle.gd_node.specs.Serving.{IsNamedBy, IsNodeEnd}
+use Rattle.gd_events.specs.Events.{Event}
+use Rattle.gd_grammar.specs.Closing.{Closes}
+use Rattle.gd_grammar.specs.Drawings.{drawings, logged}
+use Rattle.gd_grammar.specs.HeaderBytes.{Header}
+use Rattle.gd_node.specs.Configs.{ConfigValue}
+use Rattle.gd_node.specs.Rejoining.{IsRejoinEnd, IsRenamedBy, IsToldAll, KeepsFound}
+use Rattle.gd_node.specs.Serving.{IsNamedBy, IsNodeEnd, KeepsBegun, OnceBegun}
 use Rattle.gd_options.specs.declared.command.Command.{Command}
-use Rattle.gd_options.specs.declared.command.Command.TheVariants.{Node, Rehearse, Churn}
-use Rattle.gd_outside.specs.Seen.{Entry}
+use Rattle.gd_options.specs.declared.command.Command.TheVariants.{Node, Rejoin, Rehearse, Churn}
+use Rattle.gd_outside.specs.Seen.{Entry, SeenJournal}
 use Rattle.gd_outside.specs.Told.{told}
 use Rattle.gd_outside.specs.declared.status.Status.{Status}
 use Rattle.gd_outside.specs.declared.status.Status.TheVariants.{Done, Usage, BadLog, ReadFault, WriteFault, LinkFault, NoMemory}
 use Rattle.gd_reference.specs.NodeRun.{node_after, node_lines}
-use Rattle.gd_reference.specs.SlowSite.{journal_header, new_site}
+use Rattle.gd_reference.specs.Rejoin.{Found, Events, node_header, rejoined_held}
+use Rattle.gd_run.specs.Runs.{found_by}
 use Rattle.gd_world.specs.Rehearsing.{IsChurnEnd, IsRehearsalEnd}
 
 -- where words ask for no command, the statuses of the line that says how the program is called
@@ -33,6 +40,7 @@ IsReaderEnd other = ⊥
 abbrev pub IsEnd : Option Command → Status → Type 0
 IsEnd None status = IsUsageEnd status
 IsEnd (Some (Node session site journal addresses)) status = IsNodeEnd status
+IsEnd (Some (Rejoin session site journal addresses)) status = IsRejoinEnd status
 IsEnd (Some (Rehearse sites)) status = IsRehearsalEnd status
 IsEnd (Some (Churn seed steps)) status = IsChurnEnd status
 IsEnd (Some other) status = IsReaderEnd status
@@ -45,6 +53,7 @@ Untouched None before after =
     × (after.link ≡ before.link)
     × (after.steps ≡ before.steps)
 Untouched (Some (Node session site journal addresses)) before after = Unit {0}
+Untouched (Some (Rejoin session site journal addresses)) before after = Unit {0}
 Untouched (Some (Churn seed steps)) before after =
     (after.input ≡ before.input)
     × (after.journal ≡ before.journal)
@@ -60,23 +69,66 @@ IsSilentEnd other = ⊥
 -- printed nothing then, and took no steps after a failed read
 abbrev pub Silent : Option Command → Status → Outside → Outside → Type 0
 Silent (Some (Node session site journal addresses)) status before after = Unit {0}
+Silent (Some (Rejoin session site journal addresses)) status before after = Unit {0}
 Silent (Some (Rehearse sites)) status before after = Unit {0}
 Silent other status before after =
     (IsSilentEnd status → after.output ≡ before.output)
     × (status ≡ ReadFault → after.steps ≡ before.steps)
 
--- the journal, where it is told, is the log of what the slow site of a node holds after its lines
-abbrev pub HasLogOf : Option Command → List ℕ → List Entry → Option (List ℕ) → Type 0
-HasLogOf (Some (Node session site journal addresses)) input entries contents =
+-- ---- nodes
+
+-- what a node of these words is given
+abbrev pub config : ℕ → ℕ → List ℕ → List (List ℕ) → ConfigValue
+config session site journal addresses =
+    record { session = session; me = site; journal = journal; addresses = addresses }
+
+-- the journal, where it is told, is a log of that header and these events with its closing gate, if there was one to go on from
+abbrev pub ClosesFound : Found → Header → List Event → SeenJournal → Type 0
+ClosesFound (Events found) h held journal =
+    IsSome journal.contents → Closes drawings h held (told journal.contents)
+ClosesFound other h held journal = Unit {0}
+
+-- The journal, where it is told, is the log of what the slow site of a node holds after its lines. Of one that goes on from its
+-- journal the closing gate may be any byte but the open one, and anything may follow it.
+abbrev pub HasLogOf : Option Command → List ℕ → List ℕ → List Entry → SeenJournal → Type 0
+HasLogOf (Some (Node session site journal addresses)) contents input entries after =
     let slow = node_after site (length addresses) session entries (node_lines input) in
-    IsSome contents
-    → told contents ≡ logged (journal_header (new_site site (length addresses) session)) slow.held
-HasLogOf other input entries contents = Unit {0}
+    IsSome after.contents
+    → told after.contents ≡ logged (node_header site (length addresses) session) slow.held
+HasLogOf (Some (Rejoin session site journal addresses)) contents input entries after =
+    let there = found_by session site addresses contents in
+    ClosesFound there (node_header site (length addresses) session)
+    (rejoined_held site (length addresses) session there entries (node_lines input)) after
+HasLogOf other contents input entries after = Unit {0}
+
+-- Once a node has begun its log, or found it, and before that nothing is printed, a crash leaves that log with a front of what
+-- was recorded.
+abbrev pub Keeps : Option Command → Status → Outside → Outside → Type 0
+Keeps (Some (Node session site journal addresses)) status before after =
+    OnceBegun status before.output after.output
+    (KeepsBegun (config session site journal addresses) (told before.link.entries)
+    (told before.input.left) status before after)
+Keeps (Some (Rejoin session site journal addresses)) status before after =
+    OnceBegun status before.output after.output
+    (IsToldAll after → KeepsFound (config session site journal addresses)
+    (found_by session site addresses (told before.journal.contents))
+    (told before.link.entries) (told before.input.left) status before after)
+Keeps other status before after = Unit {0}
+
+-- a node that goes on from its journal, where that failed before anything was found in it
+abbrev pub IsUnread : Option Command → Status → Outside → Outside → Type 0
+IsUnread (Some (Rejoin session site journal addresses)) status before after =
+    Unread status before after
+IsUnread other status before after = ⊥
 
 -- the journal's path, and the link's addresses and own number, are those of the words once `ready` is printed
 abbrev pub Named : Option Command → Status → Outside → Outside → Type 0
 Named (Some (Node session site journal addresses)) status before after =
-    IsNamedBy (record { session = session; me = site; journal = journal; addresses = addresses })
+    IsNamedBy (config session site journal addresses)
+    status before.output after.output after.journal after.link
+Named (Some (Rejoin session site journal addresses)) status before after =
+    IsRenamedBy (config session site journal addresses)
+    (found_by session site addresses (told before.journal.contents))
     status before.output after.output after.journal after.link
 Named other status before after = Unit {0}
 

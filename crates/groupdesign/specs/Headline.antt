@@ -7,8 +7,8 @@ use Rattle.gd_effects.specs.Endings.{Causes, DidRead, Unopened}
 use Rattle.gd_outside.specs.Causes.{Rose}
 use Rattle.gd_outside.specs.Told.{Grows}
 use Rattle.gd_outside.specs.declared.status.Status.TheVariants.{Usage, ReadFault, WriteFault, JournalFault, LinkFault, NoMemory}
-use Rattle.groupdesign.specs.Commands.{HasLogOf, IsEnd, Named, OpensFirst, Silent, Untouched}
-use Rattle.groupdesign.specs.Runs.{Run, Told, Whole, asked, entries, input, journal_after, journal_before}
+use Rattle.groupdesign.specs.Commands.{HasLogOf, IsEnd, IsUnread, Keeps, Named, OpensFirst, Silent, Untouched}
+use Rattle.groupdesign.specs.Runs.{Run, Told, Whole, asked, contents, entries, input}
 use Rattle.groupdesign.specs.Runs.{owed, owed_for_part, owed_status}
 
 pub record Headline (run : Run) : Type 0 where
@@ -19,9 +19,10 @@ pub record Headline (run : Run) : Type 0 where
   -- its printed answers are the slow run's
   pub output : Whole run → Grows run.before.output.bytes (printed (owed run)) run.after.output.bytes
   -- so is its journal
-  pub journal : Whole run → Journals (journal_before run) (owed run) (journal_after run)
+  pub journal : Whole run → Journals run.before.journal (owed run) run.after.journal
   -- which is, for a node, the log of what the slow site holds after its lines
-  pub log : Whole run → HasLogOf (asked run) (input run) (entries run) (journal_after run)
+  pub log : Whole run
+      → HasLogOf (asked run) (contents run) (input run) (entries run) run.after.journal
   -- so are the frames that it sends, or tries to
   pub frames : Whole run → Grows run.before.link.tried (tried (owed run)) run.after.link.tried
   -- it takes as many steps as the slow run's events cost
@@ -34,11 +35,16 @@ pub record Headline (run : Run) : Type 0 where
   pub read : Told run → run.status ≡ ReadFault → DidRead run.before (owed_for_part run) run.after
   -- after a failed write, a front, and a front of the next line
   pub write : Told run → run.status ≡ WriteFault → DidHalfPrint run.before (owed run) run.after
-  -- after a failed call of the journal, a front; and the journal is a log with the next event or without
-  pub torn : Told run → run.status ≡ JournalFault → DidTornRecord run.before (owed run) run.after
+  -- After a failed call of the journal, a front; and the journal is a log with the next event or without. Where nothing was
+  -- found yet in a journal to go on from, nothing was done, and its contents are as before.
+  pub torn : Told run → run.status ≡ JournalFault
+      → DidTornRecord run.before (owed run) run.after
+      ⊎ IsUnread (asked run) run.status run.before run.after
   -- where the link wasn't opened, nothing, and no entry was taken
   pub unopened : run.status ≡ LinkFault → Unopened run.before run.after
   pub opens_first : OpensFirst run.status run.before run.after
+  -- once a node has begun its log, or found it, whatever crash comes leaves that log with a front of what was recorded
+  pub keeps : Keeps (asked run) run.status run.before run.after
   -- it takes no more steps than the slow run
   pub most_steps : Told run → run.after.steps ≤ run.before.steps + cost (owed run)
   -- ---- when it is cut short
@@ -57,7 +63,7 @@ pub record Headline (run : Run) : Type 0 where
   -- each command has its own statuses; words that ask for none are refused, and only these
   pub ends : IsEnd (asked run) run.status
   -- words in a command's plain form are taken
-  pub plain : (plain : Plain) → IsPlain plain → run.words ≡ plain_words plain → ¬ (run.status ≡ Usage)
+  pub plain : (p : Plain) → IsPlain p → run.words ≡ plain_words p → ¬ (run.status ≡ Usage)
   -- what a command has nothing to do with stays as it was
   pub untouched : Untouched (asked run) run.before run.after
   -- a command that reads a log printed nothing where it couldn't read it, or had no memory for it

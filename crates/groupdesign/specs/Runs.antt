@@ -4,8 +4,9 @@ use Rattle.gd_commands.specs.Commands.{command_of}
 use Rattle.gd_effects.specs.Effects.{Effect}
 use Rattle.gd_effects.specs.Endings.{IsUncut}
 use Rattle.gd_effects.specs.Outside.{IsTold, Outside}
+use Rattle.gd_node.specs.Rejoining.{IsToldAll}
 use Rattle.gd_options.specs.declared.command.Command.{Command}
-use Rattle.gd_options.specs.declared.command.Command.TheVariants.{Node, Churn}
+use Rattle.gd_options.specs.declared.command.Command.TheVariants.{Node, Rejoin, Churn}
 use Rattle.gd_outside.specs.Seen.{Entry}
 use Rattle.gd_outside.specs.Told.{told}
 use Rattle.gd_outside.specs.declared.status.Status.{Status}
@@ -22,33 +23,32 @@ pub record Run : Type 0 where
 abbrev pub asked : Run → Option Command
 asked run = command_of run.words
 
--- the bytes of its input, the entries of its link, and its journal before and after, where they are told
+-- the bytes of its input, the contents of its journal, and the entries of its link, where they are told
 abbrev pub input : Run → List ℕ
 input run = told run.before.input.left
+
+abbrev pub contents : Run → List ℕ
+contents run = told run.before.journal.contents
 
 abbrev pub entries : Run → List Entry
 entries run = told run.before.link.entries
 
-abbrev pub journal_before : Run → Option (List ℕ)
-journal_before run = run.before.journal.contents
-
-abbrev pub journal_after : Run → Option (List ℕ)
-journal_after run = run.after.journal.contents
-
 -- what the slow run owes for it, how that ends, and what is owed for a part of the input
 abbrev pub owed : Run → List Effect
-owed run = effects_of (asked run) (input run) (entries run)
+owed run = effects_of (asked run) (contents run) (input run) (entries run)
 
 abbrev pub owed_status : Run → Status
-owed_status run = end_of (asked run) (input run)
+owed_status run = end_of (asked run) (contents run) (input run)
 
 abbrev pub owed_for_part : Run → List ℕ → List Effect
-owed_for_part run taken = cut_of (asked run) (entries run) taken
+owed_for_part run taken = cut_of (asked run) (contents run) (entries run) taken
 
--- what a command depends on: a node on what its input and its link hand out, a churn on nothing, another command on its input
+-- What a command depends on: a node on what its input and its link hand out, and on what is in its journal, where it goes on
+-- from that; a churn on nothing; another command on its input.
 abbrev pub IsToldFor : Option Command → Outside → Type 0
 IsToldFor None o = Unit {0}
 IsToldFor (Some (Node session site journal addresses)) o = IsTold o
+IsToldFor (Some (Rejoin session site journal addresses)) o = IsToldAll o
 IsToldFor (Some (Churn seed steps)) o = Unit {0}
 IsToldFor (Some other) o = IsSome o.input.left
 

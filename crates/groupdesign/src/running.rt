@@ -11,14 +11,14 @@ use gd_base::Steps;
 use gd_commands::{Command, CommandFault, read_command};
 use gd_effects::{print, status_of};
 use gd_log::{replay, upgrade};
-use gd_node::{Config, serve};
+use gd_node::{Config, rejoin, serve};
 use gd_outside::{Journal, Link, Sink, Source, Status, WordList};
 use gd_words::{AsText, Reply};
 use gd_world::{churn, rehearse};
 use std::alloc::Global;
 use std::sync::ledger::Ledger;
 
-/// Carries out the command that the words ask for: `replay`, `upgrade`, `node`, `rehearse` or `churn`.
+/// Carries out the command that the words ask for: `replay`, `upgrade`, `node`, `node --resume`, `rehearse` or `churn`.
 ///
 /// `Usage` after the usage line, where the words ask for none of these; `NoMemory` where memory ran out; else what the command
 /// returns. The steps rise by what the arrivals of events cost.
@@ -77,6 +77,15 @@ fn carry_out<S: Source, K: Sink, J: Journal, N: Link, L: Ledger>(
         } => {
             let config = Config::new(session, site, path, addresses);
             serve(alloc, &config, input, output, journal, link, steps)
+        }
+        Command::Rejoin {
+            session,
+            site,
+            journal: kept,
+            addresses,
+        } => {
+            let config = Config::new(session, site, kept, addresses);
+            rejoin(alloc, &config, input, output, journal, link, steps)
         }
         Command::Rehearse { sites } => rehearse(alloc, sites, input, output, steps),
         Command::Churn { seed, steps: count } => churn(alloc, seed, count, output, steps),

@@ -26,6 +26,7 @@ mod nodes;
 mod pairs;
 mod refusing;
 mod rehearsals;
+mod rejoins;
 mod rows;
 mod showing;
 mod standard;

@@ -68,23 +68,35 @@ impl Node {
 /// The number of a site, and how many sites there are.
 pub type Seat = (u8, usize);
 
-/// The words of a node at that seat.
-pub fn node_words(alloc: Global, seat: Seat) -> Result<WordList, AllocError> {
+/// The words of a node at that seat, behind `node` and perhaps a flag.
+fn words_behind(
+    alloc: Global,
+    front: &[&str],
+    session: &str,
+    seat: Seat,
+) -> Result<WordList, AllocError> {
     let site = format!(in alloc; "{}", seat.0)?;
     let texts = [
-        "node",
         "--session",
-        "7",
+        session,
         "--site",
         site.as_str(),
         "--journal",
         "j",
     ];
-    let mut words = words_of(alloc, &texts)?;
+    let mut words = words_of(alloc, front)?;
+    for text in texts {
+        words.push(Word::new(alloc, text)?)?;
+    }
     for address in ADDRESSES.iter().take(seat.1) {
         words.push(Word::new(alloc, address)?)?;
     }
     Ok(words)
+}
+
+/// The words of a node at that seat.
+pub fn node_words(alloc: Global, seat: Seat) -> Result<WordList, AllocError> {
+    words_behind(alloc, &["node"], "7", seat)
 }
 
 /// A node to which these lines are typed, with that link.
@@ -129,4 +141,34 @@ pub fn answered_failing(
 pub fn alone(alloc: Global, lines: &[u8]) -> Result<Node, AllocError> {
     let link = MemoryLink::new(alloc, ROOM, &[])?;
     answered(alloc, (1, 1), lines, link)
+}
+
+/// A node at that seat of that session that goes on from this journal, to which these lines are typed, where these calls on the
+/// input and the output fail.
+pub fn gone_on(
+    alloc: Global,
+    session: &str,
+    seat: Seat,
+    mut journal: MemoryJournal,
+    lines: &[u8],
+    mut link: MemoryLink,
+    fails: &[Fail],
+) -> Result<Node, AllocError> {
+    let words = words_behind(alloc, &["node", "--resume"], session, seat)?;
+    let mut input = MemorySource::new(alloc, lines, fails)?;
+    let mut output = MemorySink::new(alloc, ROOM, fails)?;
+    let status = ran_on(
+        alloc,
+        &words,
+        &mut input,
+        &mut output,
+        &mut journal,
+        &mut link,
+    );
+    Ok(Node {
+        status,
+        output,
+        journal,
+        link,
+    })
 }

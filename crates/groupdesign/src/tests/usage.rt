@@ -87,7 +87,8 @@ fn other_forms_of_a_node_are_refused(rt: HostRuntime) -> Result<(), Fail> {
         "node --session -7 --site 1 --journal j A B",
         "node --session 7 --site 0 --journal j A B",
         "node --session 7 --site 1 --journal j A --B",
-        "node --resume --session 7 --site 1 --journal j A B",
+        "node --resume --session 7 --site 1 --journal j A B --resume",
+        "node --resume=yes --session 7 --site 1 --journal j A B",
         "node --session 7 --site 1 --journal j A A A A A A A A A A A A A A A A A",
     ] {
         let (status, output) = ran_by(rt.alloc(), text)?;

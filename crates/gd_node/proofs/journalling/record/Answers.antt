@@ -1,13 +1,24 @@
 use Rattle.std.proofs.Common.{refl}
 use Rattle.gd_effects.proofs.OneRecord.{torn_record}
-use Rattle.gd_node.proofs.Logs.{has_more, log_of}
+use Rattle.gd_node.proofs.Logs.{crash_torn, does_record, has_more, left_torn, standing}
 use Rattle.gd_node.proofs.journalling.record.Goals as goal
 
+pub append-requires-clause-log : goal.append-requires-clause-log
+append-requires-clause-log g c t = let r = c.requires in standing r.0 r.1 _ _ r.3 t
+
+pub returns-in-Ok-clause-does : goal.returns-in-Ok-clause-does
+returns-in-Ok-clause-does g c header events ruled has input output link steps =
+    let append = c.in-Ok.ensures in
+    does_record header events c.args.event.now _ _ _ has append.called.was (λ t. append.adds t header events ruled) append.called append.added input output link steps
+
 pub returns-in-Ok-clause-log : goal.returns-in-Ok-clause-log
-returns-in-Ok-clause-log g c header events has =
-    has_more header events c.args.event.now _ _ _ _ has c.in-Ok.ensures.called.was c.in-Ok.ensures.logged c.in-Ok.ensures.log c.in-Ok.ensures.few
+returns-in-Ok-clause-log g c header events ruled has =
+    let append = c.in-Ok.ensures in
+    has_more header events c.args.event.now _ _ _ has append.called.was (λ t. append.adds t header events ruled) _ append.place append.few
 
 pub returns-in-Err-clause-does : goal.returns-in-Err-clause-does
 returns-in-Err-clause-does g c header events ruled has input output link steps =
-    let called = c.in-Err.ensures.called in
-    torn_record _ _ called refl input output link steps _ (λ t. c.in-Err.ensures.torn t header events (log_of header events _ _ ruled has (called.was t)))
+    let append = c.in-Err.ensures in
+    torn_record _ _ append.called refl input output link steps _ c.args.event.now
+    (left_torn header events c.args.event.now _ _ _ has append.called.was (λ t. append.torn t header events ruled) ruled)
+    (crash_torn header events c.args.event.now _ _ _ has append.called.was (λ t. append.torn t header events ruled))

@@ -1,4 +1,4 @@
-use Rattle.groupdesign.proofs.Carried.{carried_as, carried_churn, carried_node, carried_rehearse, carried_replay, carried_upgrade, named_node}
+use Rattle.groupdesign.proofs.Carried.{carried_as, carried_churn, carried_node, carried_rehearse, carried_rejoin, carried_replay, carried_upgrade, named_node, named_rejoin}
 use Rattle.groupdesign.proofs.running.carry_out.Goals as goal
 
 pub returns-in-Replay : goal.returns-in-Replay
@@ -12,7 +12,12 @@ returns-in-Upgrade g c =
 pub returns-in-Node : goal.returns-in-Node
 returns-in-Node g c =
     carried_as (named_node _ _ _ _ c.in-Node.is c.new-config.ensures)
-    (carried_node _ _ _ c.serve.result c.serve.ensures.kinds c.serve.ensures.named c.serve.ensures.untouched c.serve.ensures.ends)
+    (carried_node _ _ _ c.serve.result c.serve.ensures.kinds c.serve.ensures.named c.serve.ensures.keeps c.serve.ensures.untouched c.serve.ensures.ends)
+
+pub returns-in-Rejoin : goal.returns-in-Rejoin
+returns-in-Rejoin g c =
+    carried_as (named_rejoin _ _ _ _ c.in-Rejoin.is c.new-config-in-Rejoin.ensures)
+    (carried_rejoin _ _ _ c.rejoin.result c.rejoin.ensures.kinds c.rejoin.ensures.named c.rejoin.ensures.keeps c.rejoin.ensures.untouched c.rejoin.ensures.ends)
 
 pub returns-in-Rehearse : goal.returns-in-Rehearse
 returns-in-Rehearse g c =
