@@ -5,14 +5,13 @@ import argparse
 import subprocess
 import sys
 import tempfile
-import time
 from pathlib import Path
 from random import Random
 
 sys.dont_write_bytecode = True
 HERE = Path(__file__).resolve().parent
 sys.path.insert(0, str(HERE))
-from node_process import Node, add_program, free_addresses, program_of
+from node_process import Node, add_program, free_addresses, poll_all, program_of, same_drawing
 
 # What a link does, and the words of the proxy for it.
 LINKS = {
@@ -25,9 +24,6 @@ LINKS = {
     "does all of it": ["--lose", "0.3", "--double", "0.3", "--delay", "0.3", "--reorder", "0.3"],
 }
 SITES = [2, 3]
-# The most rounds of polls until all hold all events. In a round each site polls once, and behind it the proxy gets so many
-# seconds, since it may be slower than they are.
-ROUNDS, PAUSE = 500, 0.005
 # One edit in so many makes a shape, and each site polls behind so many of its edits.
 NEW, POLL = 5, 3
 HEADS = ["sites", "edits", "refused", "polls", "came", "lost", "doubled", "delayed", "reordered", "objects"]
@@ -63,13 +59,6 @@ class Draughtsman:
             sys.exit(f"site {self.node.site} answered {answer!r} to an edit")
 
 
-def polled(node):
-    answer = node.ask("poll")
-    wrong = [line for line in answer[:-1] if not line.startswith("echo ")]
-    if wrong or not answer[-1].startswith("polled "):
-        sys.exit(f"site {node.site} answered {wrong} and {answer[-1]!r} to a poll")
-
-
 def draw_all(nodes, edits, draw):
     """Types so many edits at each site, with polls in between."""
     people = [Draughtsman(node, draw) for node in nodes]
@@ -77,31 +66,8 @@ def draw_all(nodes, edits, draw):
         for person in people:
             person.edit()
             if turn % POLL == POLL - 1:
-                polled(person.node)
+                person.node.poll()
     return sum(person.accepted for person in people), sum(person.refused for person in people)
-
-
-def poll_all(nodes, events):
-    """Polls until all hold all events, and says how many rounds that took."""
-    for rounds in range(ROUNDS):
-        if all(node.held() == events for node in nodes):
-            return rounds
-        for node in nodes:
-            polled(node)
-        time.sleep(PAUSE)
-    sys.exit(f"after {ROUNDS} rounds of polls the sites hold {[node.held() for node in nodes]} of {events} events")
-
-
-def same_drawing(nodes):
-    """The drawing that all show, and a replay of each journal too."""
-    drawings = {f"site {node.site}": node.ask("show") for node in nodes}
-    for node in nodes:
-        node.quit()
-        drawings[f"the journal of site {node.site}"] = node.replayed()
-    for who, drawing in drawings.items():
-        if drawing != drawings["site 1"]:
-            sys.exit(f"{who} shows another drawing than site 1: {drawing} and {drawings['site 1']}")
-    return drawings["site 1"]
 
 
 def start_proxy(words, seed, ways):
@@ -125,6 +91,8 @@ def run_link(program, sites, words, edits, seed):
         accepted, refused = draw_all(nodes, edits, Random(seed))
         rounds = poll_all(nodes, accepted)
         drawing = same_drawing(nodes)
+        for node in nodes:
+            node.quit()
     counts = proxy.communicate()[0].split()
     told = dict(zip(counts[::2], counts[1::2]))
     shown = [sites, accepted, refused, rounds, *[told[head] for head in HEADS[4:-1]], len(drawing) - 1]

@@ -14,7 +14,7 @@ from statistics import median
 
 sys.dont_write_bytecode = True
 sys.path.insert(0, str(Path(__file__).resolve().parent))
-from node_process import Node, add_program, free_addresses, program_of
+from node_process import Node, add_program, free_addresses, node_words, program_of
 
 # In a turn the first site makes as many edits as a frame has, the other one polls, and then the first one does.
 EDITS = 8
@@ -80,7 +80,7 @@ def times_of_nodes(program, edits, room):
 def time_at_once(program, edits, room):
     """The nanoseconds of all edits where a node that is alone is handed a file of them, from its start to its end."""
     (room / "lines").write_text("".join(f"{line}\n" for line, _ in edits))
-    words = ["node", "--session", "7", "--site", "1", "--journal", str(room / "alone.log"), *free_addresses(1)]
+    words = node_words(1, free_addresses(1), room / "alone.log")
     with open(room / "lines", "rb") as given:
         done, took = timed(lambda: subprocess.run([program, *words], stdin=given, capture_output=True, check=True))
     if done.stdout.count(b"ok ") != len(edits):
