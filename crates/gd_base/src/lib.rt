@@ -23,7 +23,7 @@ mod style;
 mod version;
 
 pub use edit::Edit;
-pub use fault::{FieldFault, FieldWhy, LogWhy, WireFault, WireWhy};
+pub use fault::{FieldFault, FieldWhy, LogWhy, ViewWhy, WireFault, WireWhy};
 pub use ids::Ids;
 pub use item::{Item, ShapeItem};
 pub use label::{Label, LabelFault};

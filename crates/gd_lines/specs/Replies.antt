@@ -11,8 +11,8 @@ use Rattle.gd_base.specs.declared.fault.WireFault.{WireFault}
 use Rattle.gd_base.specs.declared.note.Note.{Note}
 use Rattle.gd_base.specs.declared.site_status.SiteStatus.{SiteStatus}
 use Rattle.gd_lines.specs.declared.reply.Reply.{Reply}
-use Rattle.gd_lines.specs.declared.reply.Reply.TheVariants.{Ready, Done, Refused, Item, End, Status, Noted, Who, Applied, Dropped, Reworked, Backdated, BadFrame, NotTaken, LongFrame, Polled, LinkFault, Mail, Delivered, BadLog, Usage, LineLimit, OtherJournal, Arrivals, SiteLine, Churned, Same}
-use Rattle.gd_lines.specs.Text.{id_text, parent_text, item_line, end_line, bad_log_line}
+use Rattle.gd_lines.specs.declared.reply.Reply.TheVariants.{Ready, Done, Refused, Item, End, Status, Noted, Who, Applied, Dropped, Reworked, Backdated, BadFrame, NotTaken, LongFrame, Polled, LinkFault, Mail, Delivered, BadLog, Usage, LineLimit, OtherJournal, BadView, Arrivals, SiteLine, Churned, Same}
+use Rattle.gd_lines.specs.Text.{id_text, parent_text, item_line, end_line, bad_log_line, bad_view_line}
 
 -- why a line is refused
 abbrev pub refusal_word : Refusal → List ℕ
@@ -180,6 +180,7 @@ reply_text (BadLog at why) = bad_log_line at why
 reply_text Usage = usage_line
 reply_text LineLimit = line_limit_line
 reply_text OtherJournal = other_journal_line
+reply_text (BadView at why) = bad_view_line at why
 reply_text (Arrivals applied dropped reworked undone) =
     arrivals_line applied dropped reworked undone
 reply_text (SiteLine site status) = site_line site status

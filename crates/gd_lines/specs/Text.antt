@@ -7,6 +7,8 @@ use Rattle.gd_base.specs.declared.shape.Shape as shape
 use Rattle.gd_base.specs.declared.shape.Shape.TheVariants.{Rect, Ellipse, Line, Text}
 use Rattle.gd_base.specs.declared.fault.LogWhy.{LogWhy}
 use Rattle.gd_base.specs.declared.fault.LogWhy.TheVariants as why
+use Rattle.gd_base.specs.declared.fault.ViewWhy.{ViewWhy}
+use Rattle.gd_base.specs.declared.fault.ViewWhy.TheVariants as view
 use Rattle.gd_base.specs.declared.item.Item.{Item}
 use Rattle.gd_base.specs.declared.item.ShapeItem.{ShapeItem}
 
@@ -107,3 +109,19 @@ why_word why.Backdated = codes "Backdated"
 -- the place and the reason of a log's first fault
 unfoldable pub bad_log_line : ℕ → LogWhy → List ℕ
 bad_log_line at why = codes "bad log at " ++ decimal at ++ codes ": " ++ why_word why ++ codes "\n"
+
+-- the reasons of a view's faults
+abbrev pub view_word : ViewWhy → List ℕ
+view_word view.Short = codes "Short"
+view_word view.Magic = codes "Magic"
+view_word view.Version = codes "Version"
+view_word view.Field = codes "Field"
+view_word view.FutureId = codes "FutureId"
+view_word view.MemberOrder = codes "MemberOrder"
+view_word view.Order = codes "Order"
+view_word view.Bound = codes "Bound"
+view_word view.Long = codes "Long"
+
+-- the place and the reason of a view's first fault
+unfoldable pub bad_view_line : ℕ → ViewWhy → List ℕ
+bad_view_line at why = codes "bad view at " ++ decimal at ++ codes ": " ++ view_word why ++ codes "\n"

@@ -13,7 +13,7 @@ use Rattle.gd_outside.proofs.ToldLemmas.{grows_nothing}
 use Rattle.gd_outside.specs.Seen.{SeenSource, SeenSink, SeenJournal, SeenLink, Tried}
 use Rattle.gd_outside.specs.Told.{told, Grows}
 use Rattle.gd_outside.specs.declared.status.Status.{Status}
-use Rattle.gd_outside.specs.declared.status.Status.TheVariants.{Done, Usage, BadLog, ReadFault, WriteFault, JournalFault, LinkFault, NoMemory, LineLimit, OtherJournal}
+use Rattle.gd_outside.specs.declared.status.Status.TheVariants.{Done, Usage, BadLog, ReadFault, WriteFault, JournalFault, LinkFault, NoMemory, LineLimit, OtherJournal, BadView}
 
 -- a line that is printed, or steps
 abbrev pub IsShown : Effect → Type 0
@@ -101,6 +101,7 @@ module _ (was_input input : SeenSource) (old new : SeenSink) (before after : ℕ
       leaves_beside BadLog c h = (did_beside xs shown h.0, h.1)
       leaves_beside LineLimit c h = (did_beside xs shown h.0, h.1)
       leaves_beside OtherJournal c h = (did_beside xs shown h.0, h.1)
+      leaves_beside BadView c h = (did_beside xs shown h.0, h.1)
 
       causes_beside : (s : Status) → Causes s idle_before idle_after → Causes s any_before any_after
       causes_beside ReadFault c = c

@@ -15,7 +15,7 @@ use Rattle.gd_options.specs.declared.command.Command.TheVariants.{Rejoin}
 use Rattle.gd_outside.specs.Seen.{Entry, SeenSink}
 use Rattle.gd_outside.specs.Told.{told}
 use Rattle.gd_outside.specs.declared.status.Status.{Status}
-use Rattle.gd_outside.specs.declared.status.Status.TheVariants.{Done, Usage, BadLog, LineLimit, OtherJournal}
+use Rattle.gd_outside.specs.declared.status.Status.TheVariants.{Done, Usage, BadLog, LineLimit, OtherJournal, BadView}
 use Rattle.gd_protocol.proofs.NodeJournals.{held_of_answers, no_head_of_answers}
 use Rattle.gd_reference.specs.NodeRun.{answers, node_lines, site_after}
 use Rattle.gd_reference.specs.Rejoin.{Found, Events, rejoined_held}
@@ -35,6 +35,7 @@ uncut_once Usage old new u p = p
 uncut_once BadLog old new u p = p
 uncut_once LineLimit old new u p = p
 uncut_once OtherJournal old new u p = p
+uncut_once BadView old new u p = p
 uncut_once other old new u p = absurd u
 
 -- what it holds then is what it found and recorded

@@ -6,7 +6,7 @@ use Rattle.gd_effects.specs.Endings.{EndsAs, IfUnopened, IsUncut, Leaves, Unopen
 use Rattle.gd_effects.specs.Outside.{Outside}
 use Rattle.gd_outside.specs.Causes.{Rose}
 use Rattle.gd_outside.specs.declared.status.Status.{Status}
-use Rattle.gd_outside.specs.declared.status.Status.TheVariants.{Done, Usage, BadLog, ReadFault, WriteFault, JournalFault, LinkFault, NoMemory, LineLimit, OtherJournal}
+use Rattle.gd_outside.specs.declared.status.Status.TheVariants.{Done, Usage, BadLog, ReadFault, WriteFault, JournalFault, LinkFault, NoMemory, LineLimit, OtherJournal, BadView}
 
 module _ {told : Type 0} {xs : List Effect} {cut : List ℕ → List Effect} {whole status : Status} {a b : Outside} (h : EndsAs told xs cut whole status a b) where
   -- what it left, where the status is known
@@ -24,6 +24,7 @@ module _ {told : Type 0} {xs : List Effect} {cut : List ℕ → List Effect} {wh
   did_whole BadLog h t u = h.leaves t
   did_whole LineLimit h t u = h.leaves t
   did_whole OtherJournal h t u = h.leaves t
+  did_whole BadView h t u = h.leaves t
   did_whole other h t u = absurd u
 
   -- a run for which memory sufficed has its status, where no call of the input, the output and the journal failed, and the link
