@@ -6,6 +6,7 @@ ghost use Rattle.gd_canvas.specs.Kept.{before_of, of_label, of_made, op_of};
 
 use crate::deleted::Deleted;
 use crate::grouping::Grouping;
+use crate::new_objects;
 use crate::small::SmallBefore;
 use gd_base::{Label, Stamp};
 use gd_events::{NewShape, Op, PackedOp, SmallOp};
@@ -83,6 +84,44 @@ impl Kept {
         })
     }
 
+    /// A copy of the operation with its before-value, in memory of its own: so it can be undone in a copy of the drawing while
+    /// this one stays kept. `AllocError` where memory ran out.
+    pub fn copy(&self, alloc: Global) -> Result<Kept, AllocError>
+        ensures op { IfOk result (λ k. op_of k ≡ op_of self.now) }
+        ensures before { IfOk result (λ k. before_of k ≡ before_of self.now) }
+    {
+        Ok(match self {
+            Kept::Small { op, before } => Kept::Small {
+                op: *op,
+                before: *before,
+            },
+            Kept::Create { new, is_made } => {
+                let new = Box::new(alloc, new_objects::copied(new))?;
+                Kept::Create {
+                    new,
+                    is_made: *is_made,
+                }
+            }
+            Kept::Retext { id, label, before } => {
+                let label = Box::new(alloc, label.copy())?;
+                let before = Box::new(alloc, old_label(before))?;
+                Kept::Retext {
+                    id: *id,
+                    label,
+                    before,
+                }
+            }
+            Kept::Delete { id, before } => {
+                let before = before.copied(alloc)?;
+                Kept::Delete { id: *id, before }
+            }
+            Kept::Group(grouping) => {
+                let grouping = grouping.copied(alloc)?;
+                Kept::Group(Box::new(alloc, grouping)?)
+            }
+        })
+    }
+
     /// A copy of the operation. It takes no memory.
     pub fn op(&self) -> Op
         ensures { result ≡ op_of self.now }
@@ -133,6 +172,14 @@ fn deleted(object: &Deleted) -> Before
         Some(object) => Before::Gone(object),
         None => Before::Nothing,
     }
+}
+
+/// A copy of the old label.
+fn old_label(label: &Option<Label>) -> Option<Label>
+    ensures { result ≡ label.now }
+{
+    let label = label.as_ref()?;
+    Some(label.copy())
 }
 
 fn relabelled(label: &Option<Label>) -> Before
