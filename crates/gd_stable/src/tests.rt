@@ -1,6 +1,6 @@
 //! What no clause says: that an outbox takes events where memory is ample. And that callers can meet the conditions.
 
-use crate::{Offer, Outbox, OverAck, Peers};
+use crate::{Heard, Offer, Outbox, OverAck, Peers};
 use gd_base::{Label, Stamp};
 use gd_events::{Event, Op};
 use std::alloc::{AllocError, Global};
@@ -102,4 +102,19 @@ fn acknowledgements_rise(rt: HostRuntime) {
     assert_eq!(rt; peers.ack(2, 1, 2), Ok(()));
     assert_eq!(rt; peers.acked(2), 2);
     assert_eq!(rt; peers.least_acked(2), 1);
+}
+
+#[test]
+fn a_viewer_hears_all_sites(rt: HostRuntime) {
+    let mut heard = Heard::new(2);
+    heard.set(2, 3, 8);
+    heard.took(1, 5);
+    heard.beat(1, 1, 6);
+    assert_eq!(rt; heard.count(1), 1);
+    assert_eq!(rt; heard.sure(1), 6);
+    assert_eq!(rt; heard.offer(2, 4, 9), Offer::Next);
+    assert_eq!(rt; heard.offer(2, 5, 9), Offer::Gap);
+    assert_eq!(rt; heard.least_but(0, 100), 6);
+    assert_eq!(rt; heard.least_but(1, 100), 8);
+    assert_eq!(rt; heard.sites(), 2);
 }
