@@ -10,8 +10,9 @@ use gd_canvas::Canvas;
 use std::alloc::{AllocError, Global};
 use std::collections::BTreeSet;
 
+/// The ids of all objects. `AllocError` where memory ran out.
 #[tactic(auto, using(crate::proofs::LevelLemmas::slots_none, crate::proofs::LevelLemmas::no_ids))]
-pub(crate) fn ids(alloc: Global, canvas: &Canvas) -> Result<BTreeSet<Stamp>, AllocError>
+pub fn ids(alloc: Global, canvas: &Canvas) -> Result<BTreeSet<Stamp>, AllocError>
     ensures { IfOk result (λ ids. ids.keys ≡ map_of.keys (board_of canvas.now)) }
 {
     let mut ids = BTreeSet::new(alloc);

@@ -3,7 +3,7 @@
 
 mod chains;
 mod firsts;
-mod ids;
+pub mod ids;
 mod items;
 mod known;
 mod levels;
