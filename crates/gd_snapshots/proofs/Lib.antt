@@ -1,0 +1,8 @@
+pub mod SteadyParts
+pub mod Lengths
+pub mod ExactObject
+pub mod ExactParts
+pub mod ExactSnapshot
+pub mod Ends
+pub mod PieceLaws
+mod ByteLemmas
