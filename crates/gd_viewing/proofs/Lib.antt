@@ -1,0 +1,9 @@
+pub mod Lists
+pub mod Sides
+pub mod Known
+pub mod Showing
+pub mod Arriving
+pub mod Rising
+pub mod Tallies
+pub mod InRange
+pub mod Good
