@@ -21,7 +21,7 @@ use Rattle.gd_lines.specs.LineWords.{behind, count_from, without_cr, word}
 use Rattle.gd_lines.specs.Lines as lines
 use Rattle.gd_lines.specs.Replies.{applied_line, arrivals_line, backdated_line, bad_frame_line, churned_line, delivered_line, done_line, dropped_line, link_fault_line, mail_line, noted_line, polled_line, ready_line, refused_line, reworked_line, site_line, status_line, status_text, who_line}
 use Rattle.gd_lines.specs.ScriptLines.{at_at, deliver_at, mail_at, read_script, script_verb, send_at, site_at, site_command_at}
-use Rattle.gd_lines.specs.Text.{bad_log_line, colour_text, colours_text, end_line, head_text, hex_digit, high_digits, id_text, item_line, look_text, nibble, size_text, width_text}
+use Rattle.gd_lines.specs.Text.{bad_log_line, bad_view_line, colour_text, colours_text, end_line, head_text, hex_digit, high_digits, id_text, item_line, look_text, nibble, size_text, width_text}
 use Rattle.gd_lines.specs.WordKinds.{colour, digit, fill, focus, id, kind, label, name, natural_in, number, number_in, numeral}
 use Rattle.gd_model.specs.Relations.{covers, independent}
 use Rattle.gd_model.specs.Splices.{splice}
@@ -37,6 +37,14 @@ use Rattle.gd_reference.specs.SlowSite.{greatest_clock, made_by, resumed}
 use Rattle.gd_reference.specs.TakeBack.{after_edit, after_undo, undo}
 use Rattle.gd_reference.specs.Tally.{tally_from}
 use Rattle.gd_reference.specs.World.{after_from, after_line, happens, with_site}
+use Rattle.gd_snapshots.specs.ObjectBytes.{flag_at, kind_at, link_at, object_at, object_bytes, rank_at, some_link_at, thin_at}
+use Rattle.gd_snapshots.specs.SnapshotBytes as snapshots
+use Rattle.gd_snapshots.specs.SnapshotBytes.{kept_at, known_at, number_within, placed_at, snapshot_at, snapshot_bytes}
+use Rattle.gd_snapshots.specs.Snapshots.{least_sure}
+use Rattle.gd_viewing.specs.Handing.{known_behind, snapshot_of}
+use Rattle.gd_viewing.specs.SlowViewer.{opened, viewer_all_arrived, viewer_taken}
+use Rattle.gd_viewing.specs.ViewerEffects.{of_viewer_events, viewer_events_replies}
+use Rattle.gd_viewing.specs.Viewing.{end_behind, item_at, items_of, shown_behind, whole_behind}
 use Rattle.gd_worlds.specs.Churn.{churned, line_for, times, with_line}
 use Rattle.gd_worlds.specs.Rehearsal.{rehearsal_lines}
 
@@ -47,7 +55,7 @@ bytes_compute = tt
 
 -- lines that are typed, and lines that are printed
 unfoldable pub lines_compute : ⊤
-unfolding chars is_utf8 encode_utf8 digits behind count_from without_cr word lines.colour_at lines.create_at lines.delete_at lines.fill_at lines.focus_at lines.group_at lines.id_at lines.ids_at lines.kind_at lines.label_at lines.lower_at lines.move_at lines.name_at lines.natural_at lines.place_at lines.raise_at lines.read lines.refill_at lines.resize_at lines.rewidth_at lines.size_at lines.stroke_at lines.text_at lines.ungroup_at lines.verb lines.width_at event_json item_json member_json at_at deliver_at mail_at read_script script_verb send_at site_at site_command_at applied_line arrivals_line backdated_line bad_frame_line done_line dropped_line link_fault_line noted_line polled_line ready_line refused_line reworked_line status_line status_text who_line bad_log_line colour_text colours_text end_line head_text hex_digit high_digits id_text item_line look_text nibble size_text width_text colour digit fill focus id kind label name natural_in number number_in numeral
+unfolding chars is_utf8 encode_utf8 digits behind count_from without_cr word lines.colour_at lines.create_at lines.delete_at lines.fill_at lines.focus_at lines.group_at lines.id_at lines.ids_at lines.kind_at lines.label_at lines.lower_at lines.move_at lines.name_at lines.natural_at lines.place_at lines.raise_at lines.read lines.refill_at lines.resize_at lines.rewidth_at lines.size_at lines.stroke_at lines.text_at lines.ungroup_at lines.verb lines.width_at event_json item_json member_json at_at deliver_at mail_at read_script script_verb send_at site_at site_command_at applied_line arrivals_line backdated_line bad_frame_line done_line dropped_line link_fault_line noted_line polled_line ready_line refused_line reworked_line status_line status_text who_line bad_log_line bad_view_line colour_text colours_text end_line head_text hex_digit high_digits id_text item_line look_text nibble size_text width_text colour digit fill focus id kind label name natural_in number number_in numeral
 lines_compute = tt
 
 -- drawings, sites, worlds and runs
@@ -60,6 +68,11 @@ unfoldable pub worlds_compute : ⊤
 unfolding pcg32_seed u32_at word_bytes churned_line delivered_line mail_line site_line churned line_for times with_line rehearsal_lines
 worlds_compute = tt
 
+-- snapshots and viewers
+unfoldable pub snapshots_compute : ⊤
+unfolding flag_at kind_at link_at object_at object_bytes rank_at some_link_at thin_at snapshots.head_at kept_at known_at number_within placed_at snapshot_at snapshot_bytes least_sure known_behind snapshot_of opened viewer_all_arrived viewer_taken of_viewer_events viewer_events_replies end_behind item_at items_of shown_behind whole_behind
+snapshots_compute = tt
+
 unfoldable pub computing : ⊤
-unfolding bytes_compute lines_compute sites_compute worlds_compute
+unfolding bytes_compute lines_compute sites_compute worlds_compute snapshots_compute
 computing = tt

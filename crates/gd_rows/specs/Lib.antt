@@ -8,3 +8,5 @@ pub mod WorkedInputs
 pub mod WorkedRehearsals
 pub mod WorkedChurns
 pub mod WorkedRejoins
+pub mod WorkedSnapshots
+pub mod WorkedViews

@@ -10,4 +10,6 @@ pub mod node_rows;
 pub mod rehearsal_rows;
 pub mod rejoin_rows;
 pub mod rows;
+pub mod snapshot_rows;
+pub mod view_rows;
 pub mod world_rows;

@@ -1,0 +1,101 @@
+-- Worked rows of viewers: a snapshot and frames behind it, and what is printed of them.
+use Rattle.std.specs.Prelude.{ℕ, List, [], ◌∷◌, ◌++◌, set, take, codes}
+use Rattle.gd_effects.specs.Effects.{Effect, Print, Work}
+use Rattle.gd_outside.specs.declared.status.Status.{Status}
+use Rattle.gd_outside.specs.declared.status.Status.TheVariants.{Done, BadView}
+use Rattle.gd_rows.specs.WorkedSnapshots.{tie_snapshot_bytes}
+
+-- ---- a frame behind the snapshot of two objects
+
+-- from site 2 to site 1: its second event, at clock 2, moves the ellipse to 7 8
+abbrev pub moving_frame : List ℕ
+moving_frame =
+    71 ∷ 68 ∷ 79 ∷ 70 ∷ 2 ∷ 0 ∷ 0 ∷ 0 ∷ 7 ∷ 2 ∷ 1 ∷ 0 ∷ 1 ∷ 0 ∷ 2 ∷ 0 ∷ 0 ∷ 0 ∷ 0 ∷ 0 ∷ 2
+    ∷ 0 ∷ 0 ∷ 0 ∷ 0 ∷ 0 ∷ 0 ∷ 0 ∷ 0 ∷ 0 ∷ 0 ∷ 1
+    ∷ 0 ∷ 0 ∷ 0 ∷ 0 ∷ 0 ∷ 2 ∷ 2 ∷ 0 ∷ 2 ∷ 3 ∷ 0 ∷ 0 ∷ 0 ∷ 0 ∷ 0 ∷ 1 ∷ 1 ∷ 0 ∷ 0 ∷ 0 ∷ 7 ∷ 0 ∷ 0 ∷ 0 ∷ 8 ∷ []
+
+-- as an item, and with a byte of the frame changed
+abbrev pub item : List ℕ → List ℕ
+item bytes = 0 ∷ 57 ∷ bytes
+
+abbrev pub changed : ℕ → ℕ → List ℕ
+changed at value = item (set moving_frame at value)
+
+abbrev pub moved_effects : List Effect
+moved_effects = Work 1 ∷ Print (codes "echo 2.2 applied\n") ∷ []
+
+-- ---- runs
+
+-- What is behind the snapshot, what is done for its frames, and how it ends: with the drawing, or with this line.
+pub record View : Type 0 where
+  pub behind : List ℕ
+  pub done : List Effect
+  pub end : Status
+
+abbrev pub view : List ℕ → List Effect → Status → View
+view behind done end = record { behind = behind; done = done; end = end }
+
+-- a line of a frame that isn't taken
+abbrev pub not_taken : List ℕ → List Effect
+not_taken line = Print line ∷ []
+
+abbrev pub drawn_views : List View
+drawn_views =
+    view [] [] Done
+    ∷ view (item moving_frame) moved_effects Done
+    -- twice, and to another site
+    ∷ view (item moving_frame ++ item moving_frame) moved_effects Done
+    ∷ view (changed 10 9) moved_effects Done
+    -- of another session, and of no site of it
+    ∷ view (changed 8 8) (not_taken (codes "frame refused: Session\n")) Done
+    ∷ view (set (changed 9 3) 40 3) (not_taken (codes "frame refused: NoSuchSite\n")) Done
+    -- an event behind a gap, one again, and one whose clock isn't above the sure clock
+    ∷ view (set (changed 14 3) 42 3) [] Done
+    ∷ view (changed 40 1) [] Done
+    ∷ view (changed 37 1) (not_taken (codes "event 1.2 refused: Backdated 1 1\n")) Done
+    -- no frame, an event that names a later one, and a frame of no bytes
+    ∷ view (changed 0 0) (not_taken (codes "frame refused: Magic at 0\n")) Done
+    ∷ view (changed 44 2) (not_taken (codes "frame refused: FutureId at 42\n")) Done
+    ∷ view (0 ∷ 0 ∷ []) (not_taken (codes "frame refused: Short at 0\n")) Done
+    ∷ []
+
+-- the same with the line of the fault
+abbrev pub bad : List ℕ → List Effect → List ℕ → View
+bad behind done line = view behind (done ++ Print line ∷ []) BadView
+
+abbrev pub bad_views : List View
+bad_views =
+    -- an item that isn't whole
+    bad (0 ∷ []) [] (codes "bad view at 124: Short\n")
+    ∷ bad (take 58 (item moving_frame)) [] (codes "bad view at 181: Short\n")
+    -- one that is longer than any frame, and one that might be
+    ∷ bad (15 ∷ 137 ∷ []) [] (codes "bad view at 123: Long\n")
+    ∷ bad (15 ∷ 136 ∷ []) [] (codes "bad view at 125: Short\n")
+    -- behind a frame that is taken
+    ∷ bad (item moving_frame ++ 255 ∷ 255 ∷ []) moved_effects (codes "bad view at 182: Long\n")
+    ∷ []
+
+-- bytes that are no snapshot
+abbrev pub cut_view : List ℕ
+cut_view = take 122 tie_snapshot_bytes
+
+abbrev pub cut_line : List (List ℕ)
+cut_line = codes "bad view at 122: Short\n" ∷ []
+
+-- ---- a snapshot with kept events
+
+-- from site 2: its third event, at clock 5, moves the text to 9 9, which the kept move behind it covers
+abbrev pub late_frame : List ℕ
+late_frame =
+    71 ∷ 68 ∷ 79 ∷ 70 ∷ 2 ∷ 0 ∷ 0 ∷ 0 ∷ 7 ∷ 2 ∷ 1 ∷ 0 ∷ 0 ∷ 0 ∷ 3 ∷ 0 ∷ 0 ∷ 0 ∷ 0 ∷ 0 ∷ 5
+    ∷ 0 ∷ 0 ∷ 0 ∷ 0 ∷ 0 ∷ 0 ∷ 0 ∷ 0 ∷ 0 ∷ 0 ∷ 1
+    ∷ 0 ∷ 0 ∷ 0 ∷ 0 ∷ 0 ∷ 5 ∷ 2 ∷ 0 ∷ 3 ∷ 3 ∷ 0 ∷ 0 ∷ 0 ∷ 0 ∷ 0 ∷ 1 ∷ 1 ∷ 0 ∷ 0 ∷ 0 ∷ 9 ∷ 0 ∷ 0 ∷ 0 ∷ 9 ∷ []
+
+-- a step for each kept event, and none for the late one
+abbrev pub late_effects : List Effect
+late_effects = Work 1 ∷ Work 1 ∷ Work 0 ∷ Print (codes "echo 5.2 dropped by 6.1\n") ∷ []
+
+-- ---- a read that fails behind these bytes
+
+abbrev pub failed_view : List ℕ
+failed_view = tie_snapshot_bytes ++ item moving_frame ++ 0 ∷ 57 ∷ 71 ∷ []
