@@ -1,0 +1,3 @@
+pub mod Viewers
+pub mod Answers
+pub mod Opening

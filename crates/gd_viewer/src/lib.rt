@@ -1,0 +1,9 @@
+//! Viewers: someone who is no member shows a session's drawing, from a snapshot and the frames behind it.
+#![tactic(auto)]
+
+mod opening;
+#[cfg(test)]
+mod tests;
+mod viewer;
+
+pub use viewer::Viewer;
