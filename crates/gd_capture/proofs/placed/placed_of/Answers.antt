@@ -1,0 +1,11 @@
+use Rattle.std.proofs.Common.{◌++◌, ◌∙◌}
+use Rattle.std.specs.List.{filter_map}
+use Rattle.gd_canvas.specs.Slots.{board_of}
+use Rattle.gd_capture.specs.Placing.{placed_in}
+use Rattle.gd_capture.proofs.Placing.{placed_by_ids}
+use Rattle.gd_capture.proofs.placed.placed_of.Goals as goal
+
+pub ids-init : goal.ids-init
+ids-init c =
+    let b = board_of c.args.canvas.now in
+    (λ i. c.new-placed.ensures i ++ filter_map (placed_in b) (c.in_ok-ids.ensures i)) ∙ placed_by_ids b

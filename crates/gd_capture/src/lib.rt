@@ -1,0 +1,13 @@
+//! The snapshot of a site.
+#![tactic(auto)]
+
+mod base;
+mod capture;
+mod kept;
+mod known;
+mod numbers;
+mod placed;
+#[cfg(test)]
+mod tests;
+
+pub use capture::snapshot_of;

@@ -1,0 +1,3 @@
+//! What is written of logs that were worked by hand, where there is memory for all. And callers can meet the conditions.
+
+mod snapshots;
