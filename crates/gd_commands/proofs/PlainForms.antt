@@ -7,8 +7,8 @@ use Rattle.clap.specs.Words.{Text}
 use Rattle.clap.proofs.OnLiterals.{clap_on_literals}
 use Rattle.clap.proofs.WalkLemmas.{both}
 use Rattle.gd_base.specs.declared.ranges.TheConstants.{SITES}
-use Rattle.gd_options.specs.declared.command.TheConstants.{CHURN_STEPS}
-use Rattle.gd_options.specs.declared.command.Command.TheVariants as command
+use Rattle.gd_options.specs.declared.churn.TheConstants.{CHURN_STEPS}
+use Rattle.gd_asked.specs.declared.command.Command.TheVariants as command
 use Rattle.gd_options.specs.declared.format.Format.{Format}
 use Rattle.gd_options.specs.declared.format.Format.TheVariants as format
 use Rattle.gd_commands.specs.Numbers.{is_digit, is_number, number_from}

@@ -4,10 +4,10 @@ use Rattle.std.proofs.lemmas.Bool.{leb-true, ltb-false}
 use Rattle.clap.specs.Words.{Row, Text, all_of, first_of, matches_of}
 use Rattle.clap.proofs.WalkLemmas.{both}
 use Rattle.gd_base.specs.declared.ranges.TheConstants.{SITES}
-use Rattle.gd_options.specs.InRange.{IsInRange, IsMember}
-use Rattle.gd_options.specs.declared.command.TheConstants.{CHURN_STEPS}
-use Rattle.gd_options.specs.declared.command.Command.{Command}
-use Rattle.gd_options.specs.declared.command.Command.TheVariants as command
+use Rattle.gd_asked.specs.InRange.{IsInRange, IsMember}
+use Rattle.gd_options.specs.declared.churn.TheConstants.{CHURN_STEPS}
+use Rattle.gd_asked.specs.declared.command.Command.{Command}
+use Rattle.gd_asked.specs.declared.command.Command.TheVariants as command
 use Rattle.gd_options.specs.declared.format.Format.{Format}
 use Rattle.gd_commands.specs.declared.fault.CommandFault.{CommandFault}
 use Rattle.gd_commands.specs.Numbers.{number_from, number_in, ranged}

@@ -1,9 +1,9 @@
 -- The form of `churn`: `--seed N --steps M`, with N below 2^64, and M up to 10,000.
 use Rattle.std.specs.Prelude.{◌-◌, ◌^◌, [], ◌∷◌, Option, Some, None, codes, option_map}
 use Rattle.clap.specs.Words.{Text, first_of}
-use Rattle.gd_options.specs.declared.command.TheConstants.{CHURN_STEPS}
-use Rattle.gd_options.specs.declared.command.Command.{Command}
-use Rattle.gd_options.specs.declared.command.Command.TheVariants as command
+use Rattle.gd_options.specs.declared.churn.TheConstants.{CHURN_STEPS}
+use Rattle.gd_asked.specs.declared.command.Command.{Command}
+use Rattle.gd_asked.specs.declared.command.Command.TheVariants as command
 use Rattle.gd_commands.specs.Forms.{Form, value_rule}
 use Rattle.gd_commands.specs.Node.{both}
 use Rattle.gd_commands.specs.Numbers.{number_from}

@@ -1,7 +1,7 @@
 -- What the words of a command line ask for: the first is a command's name, and the others are in that command's form.
 use Rattle.std.specs.Prelude.{List, [], ◌∷◌, Option, None, bytes_eq, if◌then◌else◌}
 use Rattle.clap.specs.Words.{Text}
-use Rattle.gd_options.specs.declared.command.Command.{Command}
+use Rattle.gd_asked.specs.declared.command.Command.{Command}
 use Rattle.gd_commands.specs.Forms.{Form, asked_by}
 use Rattle.gd_commands.specs.Replay.{replay_form}
 use Rattle.gd_commands.specs.Upgrade.{upgrade_form}

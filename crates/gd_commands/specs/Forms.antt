@@ -9,7 +9,7 @@ use Rattle.clap.specs.Words.{App, Row, Rule, Text, fault_of, matches_of, new_app
 use Rattle.clap.specs.Simple.{on_top}
 use Rattle.clap.specs.Walk.{is_empty}
 use Rattle.clap.specs.declared.builder.action.ArgAction.TheVariants.{SetTrue}
-use Rattle.gd_options.specs.declared.command.Command.{Command}
+use Rattle.gd_asked.specs.declared.command.Command.{Command}
 
 pub record Form : Type 0 where
   pub name : Text

@@ -5,8 +5,8 @@ use Rattle.std.specs.Borrow.{Bor}
 use Rattle.clap.specs.Lexer.{usize_max}
 use Rattle.clap.specs.Words.{Rule, Text, all_of, first_of, new_rule}
 use Rattle.gd_base.specs.declared.ranges.TheConstants.{SITES}
-use Rattle.gd_options.specs.declared.command.Command.{Command}
-use Rattle.gd_options.specs.declared.command.Command.TheVariants as command
+use Rattle.gd_asked.specs.declared.command.Command.{Command}
+use Rattle.gd_asked.specs.declared.command.Command.TheVariants as command
 use Rattle.gd_commands.specs.Forms.{Form, flag_rule, is_set, value_rule}
 use Rattle.gd_commands.specs.Numbers.{number_from}
 

@@ -4,9 +4,9 @@ use Rattle.std.specs.Prelude.{◌≡◌, ◌≢◌, ◌≤◌, ◌-◌, ◌^◌,
 use Rattle.std.specs.Str.Parse.{digits_value}
 use Rattle.clap.specs.Words.{Text}
 use Rattle.gd_base.specs.declared.ranges.TheConstants.{SITES}
-use Rattle.gd_options.specs.declared.command.TheConstants.{CHURN_STEPS}
-use Rattle.gd_options.specs.declared.command.Command.{Command}
-use Rattle.gd_options.specs.declared.command.Command.TheVariants as command
+use Rattle.gd_options.specs.declared.churn.TheConstants.{CHURN_STEPS}
+use Rattle.gd_asked.specs.declared.command.Command.{Command}
+use Rattle.gd_asked.specs.declared.command.Command.TheVariants as command
 use Rattle.gd_options.specs.declared.format.Format.{Format}
 use Rattle.gd_options.specs.declared.format.Format.TheVariants as format
 use Rattle.gd_commands.specs.Numbers.{is_number}

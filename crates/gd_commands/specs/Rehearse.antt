@@ -2,8 +2,8 @@
 use Rattle.std.specs.Prelude.{[], ◌∷◌, Option, Some, None, codes, option_map}
 use Rattle.clap.specs.Words.{Text, first_of}
 use Rattle.gd_base.specs.declared.ranges.TheConstants.{SITES}
-use Rattle.gd_options.specs.declared.command.Command.{Command}
-use Rattle.gd_options.specs.declared.command.Command.TheVariants as command
+use Rattle.gd_asked.specs.declared.command.Command.{Command}
+use Rattle.gd_asked.specs.declared.command.Command.TheVariants as command
 use Rattle.gd_commands.specs.Forms.{Form, value_rule}
 use Rattle.gd_commands.specs.Numbers.{number_from}
 

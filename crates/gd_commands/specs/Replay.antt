@@ -1,8 +1,8 @@
 -- The form of `replay`: `[--format text|json|events] [--counts]`. The format is `text` where none is given.
 use Rattle.std.specs.Prelude.{[], ◌∷◌, Option, Some, None, bytes_eq, codes, if◌then◌else◌, option_map}
 use Rattle.clap.specs.Words.{Rule, Text, first_of, new_rule}
-use Rattle.gd_options.specs.declared.command.Command.{Command}
-use Rattle.gd_options.specs.declared.command.Command.TheVariants as command
+use Rattle.gd_asked.specs.declared.command.Command.{Command}
+use Rattle.gd_asked.specs.declared.command.Command.TheVariants as command
 use Rattle.gd_options.specs.declared.format.Format.{Format}
 use Rattle.gd_options.specs.declared.format.Format.TheVariants as format
 use Rattle.gd_commands.specs.Forms.{Form, flag_rule, is_set}

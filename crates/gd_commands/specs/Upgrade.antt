@@ -1,6 +1,6 @@
 -- The form of `upgrade`: no further words.
 use Rattle.std.specs.Prelude.{[], Some, codes}
-use Rattle.gd_options.specs.declared.command.Command.TheVariants as command
+use Rattle.gd_asked.specs.declared.command.Command.TheVariants as command
 use Rattle.gd_commands.specs.Forms.{Form}
 
 abbrev pub upgrade_form : Form

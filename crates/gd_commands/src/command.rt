@@ -1,7 +1,7 @@
 //! The command that the words of a command line ask for.
 
 ghost use Rattle.std.specs.Prelude.{◌≡◌, ◌∷◌, IfOk, Some, None};
-ghost use Rattle.gd_options.specs.InRange.{IsInRange};
+ghost use Rattle.gd_asked.specs.InRange.{IsInRange};
 ghost use Rattle.gd_commands.specs.Commands.{command_of};
 
 use crate::churn::read_churn;
@@ -10,7 +10,7 @@ use crate::node::read_node;
 use crate::rehearse::read_rehearse;
 use crate::replay::read_replay;
 use crate::upgrade::read_upgrade;
-use gd_options::Command;
+use gd_asked::Command;
 use gd_outside::{Word, WordList};
 use std::alloc::Global;
 

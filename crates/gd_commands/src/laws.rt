@@ -2,8 +2,8 @@
 
 ghost use Rattle.std.specs.Prelude.{◌≡◌, List, Some};
 ghost use Rattle.clap.specs.Words.{Text};
-ghost use Rattle.gd_options.specs.InRange.{IsInRange};
-ghost use Rattle.gd_options.specs.declared.command.Command.{Command};
+ghost use Rattle.gd_asked.specs.InRange.{IsInRange};
+ghost use Rattle.gd_asked.specs.declared.command.Command.{Command};
 ghost use Rattle.gd_commands.specs.Commands.{command_of};
 ghost use Rattle.gd_commands.specs.Plain.{IsPlain, Plain, plain_command, plain_words};
 ghost use Rattle.gd_commands.specs.Rows.{AreMet, churn_rows, node_rows, other_rows, rehearse_rows, replay_rows};

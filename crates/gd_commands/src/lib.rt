@@ -16,5 +16,6 @@ mod upgrade;
 
 pub use command::read_command;
 pub use fault::CommandFault;
-pub use gd_options::{Command, Format};
+pub use gd_asked::Command;
+pub use gd_options::Format;
 pub use laws::{plain_words_are_taken, what_is_asked_is_in_range, written_words_are_met};

@@ -11,7 +11,7 @@ use crate::matched::{bare, flag, is_set, matches_of, text, texts, value};
 use crate::number::number_from;
 use clap::{Arg, Command as ClapCommand};
 use gd_base::SITES;
-use gd_options::Command;
+use gd_asked::Command;
 use gd_outside::{Word, WordList};
 use std::alloc::{AllocError, Global};
 use std::convert::AsStr;

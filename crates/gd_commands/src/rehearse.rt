@@ -10,7 +10,7 @@ use crate::matched::{bare, matches_of, text, value};
 use crate::number::number_from;
 use clap::Command as ClapCommand;
 use gd_base::SITES;
-use gd_options::Command;
+use gd_asked::Command;
 use std::alloc::{AllocError, Global};
 use std::convert::AsStr;
 

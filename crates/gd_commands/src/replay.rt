@@ -8,7 +8,8 @@ ghost use Rattle.gd_commands.specs.Replay.{format_in, replay_by, replay_form};
 use crate::fault::CommandFault;
 use crate::matched::{bare, flag, is_set, matches_of, text};
 use clap::{Arg, Command as ClapCommand};
-use gd_options::{Command, Format};
+use gd_asked::Command;
+use gd_options::Format;
 use std::alloc::{AllocError, Global};
 use std::convert::AsStr;
 

@@ -6,7 +6,7 @@ ghost use Rattle.gd_commands.specs.Upgrade.{upgrade_form};
 
 use crate::fault::CommandFault;
 use crate::matched::{bare, matches_of};
-use gd_options::Command;
+use gd_asked::Command;
 use std::alloc::Global;
 use std::convert::AsStr;
 

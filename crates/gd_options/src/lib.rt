@@ -1,8 +1,8 @@
-//! What the program can be asked to do: its commands, with their options.
+//! What the options of the commands can ask for.
 #![tactic(auto)]
 
-mod command;
+mod churn;
 mod format;
 
-pub use command::{CHURN_STEPS, Command};
+pub use churn::CHURN_STEPS;
 pub use format::Format;

@@ -16,8 +16,8 @@ use Rattle.gd_grammar.specs.FrameBytes.{Frame, Misread}
 use Rattle.gd_grammar.specs.HeaderBytes.{Header}
 use Rattle.gd_grammar.specs.LogBytes.{LogMisread}
 use Rattle.gd_effects.specs.Effects.{Effect, Print, Work}
-use Rattle.gd_options.specs.declared.command.Command.{Command}
-use Rattle.gd_options.specs.declared.command.Command.TheVariants.{Replay}
+use Rattle.gd_asked.specs.declared.command.Command.{Command}
+use Rattle.gd_asked.specs.declared.command.Command.TheVariants.{Replay}
 use Rattle.gd_options.specs.declared.format.Format.{Format}
 use Rattle.gd_options.specs.declared.format.Format.TheVariants.{Text}
 use Rattle.gd_reference.specs.Tally.{Tally}

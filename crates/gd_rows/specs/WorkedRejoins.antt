@@ -3,8 +3,8 @@ use Rattle.std.specs.Prelude.{ℕ, pos, List, [], ◌∷◌, ◌++◌, replicate
 use Rattle.gd_base.specs.declared.fault.LogWhy.TheVariants.{Short, NoSite, Turn}
 use Rattle.gd_effects.specs.Effects.{Effect, Head, Print, Record, Try, Work}
 use Rattle.gd_events.specs.Events.{Event}
-use Rattle.gd_options.specs.declared.command.Command.{Command}
-use Rattle.gd_options.specs.declared.command.Command.TheVariants.{Node, Rejoin}
+use Rattle.gd_asked.specs.declared.command.Command.{Command}
+use Rattle.gd_asked.specs.declared.command.Command.TheVariants.{Node, Rejoin}
 use Rattle.gd_reference.specs.Rejoin.{Found, Events, Faulty, Other}
 use Rattle.gd_rows.specs.Worked.{event, header, header_two, header_two_bytes, prints_of, square, tie_events, tie_log, works_of}
 use Rattle.gd_rows.specs.WorkedNodes.{answer_row}

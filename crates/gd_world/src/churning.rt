@@ -4,7 +4,7 @@ ghost use Rattle.std.specs.Prelude.{◌≡◌, ◌≤◌, Err};
 ghost use Rattle.gd_effects.specs.Endings.{EndsAs, no_effects};
 ghost use Rattle.gd_effects.specs.Outside.{outside};
 ghost use Rattle.gd_effects.specs.Prints.{Prints, PrintsInSteps};
-ghost use Rattle.gd_options.specs.declared.command.TheConstants.{CHURN_STEPS};
+ghost use Rattle.gd_options.specs.declared.churn.TheConstants.{CHURN_STEPS};
 ghost use Rattle.gd_outside.specs.Seen.{SeenSource, SeenJournal, SeenLink};
 ghost use Rattle.gd_outside.specs.declared.end.End.{End as EndValue};
 ghost use Rattle.gd_outside.specs.declared.status.Status.TheVariants.{Done, NoMemory};

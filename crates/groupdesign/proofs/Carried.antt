@@ -16,8 +16,8 @@ use Rattle.gd_log.specs.Ends.{IsLogEnd}
 use Rattle.gd_node.specs.Configs.{ConfigValue}
 use Rattle.gd_node.specs.Rejoining.{IsRejoinEnd, IsRenamedBy, IsToldAll, KeepsFound, found_in, rejoins, rejoins_for_part}
 use Rattle.gd_node.specs.Serving.{IsNamedBy, IsNodeEnd, KeepsBegun, OnceBegun, served, served_of_part}
-use Rattle.gd_options.specs.declared.command.Command.{Command}
-use Rattle.gd_options.specs.declared.command.Command.TheVariants.{Replay, Upgrade, Node, Rejoin, Rehearse, Churn}
+use Rattle.gd_asked.specs.declared.command.Command.{Command}
+use Rattle.gd_asked.specs.declared.command.Command.TheVariants.{Replay, Upgrade, Node, Rejoin, Rehearse, Churn}
 use Rattle.gd_options.specs.declared.format.Format.{Format}
 use Rattle.gd_outside.specs.Seen.{SeenSource, SeenSink, SeenJournal, SeenLink}
 use Rattle.gd_outside.specs.Told.{told}

@@ -10,8 +10,8 @@ use Rattle.gd_grammar.specs.Drawings.{drawings}
 use Rattle.gd_node.specs.Configs.{ConfigValue}
 use Rattle.gd_node.specs.Rejoining.{IsToldAll, KeepsFound, resumed_by}
 use Rattle.gd_node.specs.Serving.{OnceBegun, gone_on, header_of}
-use Rattle.gd_options.specs.declared.command.Command.{Command}
-use Rattle.gd_options.specs.declared.command.Command.TheVariants.{Rejoin}
+use Rattle.gd_asked.specs.declared.command.Command.{Command}
+use Rattle.gd_asked.specs.declared.command.Command.TheVariants.{Rejoin}
 use Rattle.gd_outside.specs.Seen.{Entry, SeenSink}
 use Rattle.gd_outside.specs.Told.{told}
 use Rattle.gd_outside.specs.declared.status.Status.{Status}

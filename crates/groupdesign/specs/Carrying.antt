@@ -3,7 +3,7 @@
 use Rattle.std.specs.Prelude.{◌⊎◌, Option}
 use Rattle.gd_effects.specs.Endings.{EndsAs}
 use Rattle.gd_effects.specs.Outside.{Outside}
-use Rattle.gd_options.specs.declared.command.Command.{Command}
+use Rattle.gd_asked.specs.declared.command.Command.{Command}
 use Rattle.gd_outside.specs.Told.{told}
 use Rattle.gd_outside.specs.declared.status.Status.{Status}
 use Rattle.gd_run.specs.Runs.{cut_of, effects_of, end_of}

@@ -9,8 +9,8 @@ use Rattle.gd_grammar.specs.HeaderBytes.{Header}
 use Rattle.gd_node.specs.Configs.{ConfigValue}
 use Rattle.gd_node.specs.Rejoining.{IsRejoinEnd, IsRenamedBy, IsToldAll, KeepsFound}
 use Rattle.gd_node.specs.Serving.{IsNamedBy, IsNodeEnd, KeepsBegun, OnceBegun}
-use Rattle.gd_options.specs.declared.command.Command.{Command}
-use Rattle.gd_options.specs.declared.command.Command.TheVariants.{Node, Rejoin, Rehearse, Churn}
+use Rattle.gd_asked.specs.declared.command.Command.{Command}
+use Rattle.gd_asked.specs.declared.command.Command.TheVariants.{Node, Rejoin, Rehearse, Churn}
 use Rattle.gd_outside.specs.Seen.{Entry, SeenJournal}
 use Rattle.gd_outside.specs.Told.{told}
 use Rattle.gd_outside.specs.declared.status.Status.{Status}

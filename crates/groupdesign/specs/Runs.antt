@@ -5,8 +5,8 @@ use Rattle.gd_effects.specs.Effects.{Effect}
 use Rattle.gd_effects.specs.Endings.{IsUncut}
 use Rattle.gd_effects.specs.Outside.{IsTold, Outside}
 use Rattle.gd_node.specs.Rejoining.{IsToldAll}
-use Rattle.gd_options.specs.declared.command.Command.{Command}
-use Rattle.gd_options.specs.declared.command.Command.TheVariants.{Node, Rejoin, Churn}
+use Rattle.gd_asked.specs.declared.command.Command.{Command}
+use Rattle.gd_asked.specs.declared.command.Command.TheVariants.{Node, Rejoin, Churn}
 use Rattle.gd_outside.specs.Seen.{Entry}
 use Rattle.gd_outside.specs.Told.{told}
 use Rattle.gd_outside.specs.declared.status.Status.{Status}

@@ -2,7 +2,7 @@
 
 ghost use Rattle.std.specs.Prelude.{ℕ, None, Some};
 ghost use Rattle.gd_effects.specs.Outside.{outside};
-ghost use Rattle.gd_options.specs.InRange.{IsInRange};
+ghost use Rattle.gd_asked.specs.InRange.{IsInRange};
 ghost use Rattle.gd_outside.specs.Seen.{SeenSource, SeenJournal, SeenLink};
 ghost use Rattle.groupdesign.specs.Carrying.{Carried};
 ghost use Rattle.groupdesign.specs.Headline.{Headline};

@@ -1,7 +1,7 @@
 //! The play of a churn: a session of four sites, one line after the other.
 
 ghost use Rattle.std.specs.Prelude.{◌≡◌, ℕ, ◌+◌, ◌*◌, ◌/◌, ◌≤◌, ◌++◌, IfOk, OnOk};
-ghost use Rattle.gd_options.specs.declared.command.TheConstants.{CHURN_STEPS};
+ghost use Rattle.gd_options.specs.declared.churn.TheConstants.{CHURN_STEPS};
 ghost use Rattle.gd_world.specs.Drawn.{IsPlayed};
 ghost use Rattle.gd_world.specs.Playing.{Follows, Gets, IsReady};
 ghost use Rattle.gd_worlds.specs.Churn.{Churning as SlowChurning, ids_made, is_making};

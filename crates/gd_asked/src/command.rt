@@ -1,8 +1,5 @@
-use crate::format::Format;
+use gd_options::Format;
 use gd_outside::{Word, WordList};
-
-/// The most steps that `churn` can be asked for.
-pub const CHURN_STEPS: u32 = 10_000;
 
 /// What the program is asked to do.
 #[derive(Drop)]
@@ -39,7 +36,7 @@ pub enum Command {
     Rehearse {
         sites: u8,
     },
-    /// Play a session by random steps, at most `CHURN_STEPS` of them.
+    /// Play a session by random steps, at most `gd_options::CHURN_STEPS` of them.
     Churn {
         seed: u64,
         steps: u32,
