@@ -18,7 +18,8 @@ use Rattle.gd_lines.specs.Replies.{reply_text}
 use Rattle.gd_lines.specs.declared.reply.Reply.TheVariants as reply
 use Rattle.gd_reference.specs.DrawingText.{text}
 use Rattle.gd_reference.specs.Said.{says}
-use Rattle.gd_reference.specs.Tally.{Tally, tally, tally_reply}
+use Rattle.gd_arrivals.specs.Tally.{Tally}
+use Rattle.gd_reference.specs.Tally.{tally, tally_reply}
 use Rattle.gd_effects.specs.Effects.{Effect, Print, Work}
 
 -- the drawing of the events, as text or as one line of JSON, or the events themselves, as one line of JSON

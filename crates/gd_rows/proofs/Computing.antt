@@ -35,7 +35,7 @@ use Rattle.gd_reference.specs.Rejoin.{found}
 use Rattle.gd_reference.specs.SiteEffects.{events_replies, of_events, tries_behind}
 use Rattle.gd_reference.specs.SlowSite.{greatest_clock, made_by, resumed}
 use Rattle.gd_reference.specs.TakeBack.{after_edit, after_undo, undo}
-use Rattle.gd_reference.specs.Tally.{tally_from}
+use Rattle.gd_arrivals.specs.Tally.{tally_from}
 use Rattle.gd_reference.specs.World.{after_from, after_line, happens, with_site}
 use Rattle.gd_snapshots.specs.ObjectBytes.{flag_at, kind_at, link_at, object_at, object_bytes, rank_at, some_link_at, thin_at}
 use Rattle.gd_snapshots.specs.SnapshotBytes as snapshots

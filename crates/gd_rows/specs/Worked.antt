@@ -20,7 +20,7 @@ use Rattle.gd_asked.specs.declared.command.Command.{Command}
 use Rattle.gd_asked.specs.declared.command.Command.TheVariants.{Replay}
 use Rattle.gd_options.specs.declared.format.Format.{Format}
 use Rattle.gd_options.specs.declared.format.Format.TheVariants.{Text}
-use Rattle.gd_reference.specs.Tally.{Tally}
+use Rattle.gd_arrivals.specs.Tally.{Tally}
 
 abbrev pub at_stamp : ℕ → ℕ → Stamp
 at_stamp clock site = record { clock = clock; site = site }

@@ -30,7 +30,8 @@ use Rattle.gd_model.specs.Drawing.{picture}
 use Rattle.gd_reference.specs.DrawingText.{text}
 use Rattle.gd_reference.specs.Said.{all_said}
 use Rattle.gd_reference.specs.SlowSite.{status}
-use Rattle.gd_reference.specs.Tally.{Tally, no_tally, tally_reply}
+use Rattle.gd_arrivals.specs.Tally.{Tally, no_tally}
+use Rattle.gd_reference.specs.Tally.{tally_reply}
 use Rattle.gd_reference.specs.World.{World, start}
 use Rattle.gd_worlds.specs.Rehearsal.{after_script, script_replies, script_work}
 
