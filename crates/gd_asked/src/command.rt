@@ -12,6 +12,10 @@ pub enum Command {
     },
     /// Read a log, and write it in the newest version.
     Upgrade,
+    /// Read a log, and write a snapshot of its drawing, for who looks on.
+    Snapshot,
+    /// Read a snapshot and the frames behind it, and print the drawing.
+    View,
     /// Be one site of a session: answer lines, keep a journal, and exchange frames with the other sites.
     Node {
         session: u32,

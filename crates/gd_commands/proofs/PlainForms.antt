@@ -17,7 +17,7 @@ use Rattle.gd_commands.specs.Node.{both as both_of, node_command, node_form, nod
 use Rattle.gd_commands.specs.Rehearse.{rehearse_form}
 use Rattle.gd_commands.specs.Churn.{churn_form}
 use Rattle.gd_commands.specs.Commands.{command_of}
-use Rattle.gd_commands.specs.Plain.{IsNumberFrom, IsPlain, IsPlainMember, IsPlainWord, Node, Plain, Rehearse, Rejoin, Replay, Churn, Upgrade, member_words, plain_command, plain_words}
+use Rattle.gd_commands.specs.Plain.{IsNumberFrom, IsPlain, IsPlainMember, IsPlainWord, Node, Plain, Rehearse, Rejoin, Replay, Churn, Snapshot, Upgrade, View, member_words, plain_command, plain_words}
 use Rattle.gd_commands.proofs.Asked.{asked_where_taken}
 use Rattle.gd_commands.proofs.NodeWords.{all_rows, flag_words, node_rows, node_taken}
 use Rattle.gd_commands.proofs.PairWords.{churn_rows, churn_taken, rehearse_rows, rehearse_taken}
@@ -60,6 +60,14 @@ upgrade_asked : command_of (plain_words Upgrade) ≡ Some (plain_command Upgrade
 unfolding command_of asked_by clap_on_literals
 upgrade_asked = refl
 
+snapshot_asked : command_of (plain_words Snapshot) ≡ Some (plain_command Snapshot)
+unfolding command_of asked_by clap_on_literals
+snapshot_asked = refl
+
+view_asked : command_of (plain_words View) ≡ Some (plain_command View)
+unfolding command_of asked_by clap_on_literals
+view_asked = refl
+
 rehearse_asked : (sites : Text) → IsPlain (Rehearse sites) → command_of (plain_words (Rehearse sites)) ≡ Some (plain_command (Rehearse sites))
 unfolding command_of
 rehearse_asked sites range =
@@ -100,6 +108,8 @@ member_asked resume session site journal (a ∷ rest) (sessions, range, plain, a
 pub plain_is_asked : (plain : Plain) → IsPlain plain → command_of (plain_words plain) ≡ Some (plain_command plain)
 plain_is_asked (Replay f counts) range = replay_asked f counts
 plain_is_asked Upgrade range = upgrade_asked
+plain_is_asked Snapshot range = snapshot_asked
+plain_is_asked View range = view_asked
 plain_is_asked (Node session site journal addresses) range = member_asked false session site journal addresses range
 plain_is_asked (Rejoin session site journal addresses) range = member_asked true session site journal addresses range
 plain_is_asked (Rehearse sites) range = rehearse_asked sites range

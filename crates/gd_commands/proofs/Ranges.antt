@@ -45,10 +45,10 @@ replay_ranged (Some f) counts c h =
     let same : command.Replay f counts ≡ c = (let e = h in cc) in
     subst IsInRange same tt
 
-upgrade_ranged : IsRanged (Some command.Upgrade)
-upgrade_ranged c h =
-    let same : command.Upgrade ≡ c = (let e = h in cc) in
-    subst IsInRange same tt
+lone_ranged : (lone : Command) → IsInRange lone → IsRanged (Some lone)
+lone_ranged lone in_range c h =
+    let same : lone ≡ c = (let e = h in cc) in
+    subst IsInRange same in_range
 
 sites_ranged : (o : Option ℕ) → ((n : ℕ) → o ≡ Some n → (1 ≤ n) × (n ≤ SITES)) → IsRanged (option_map (λ n. command.Rehearse n) o)
 sites_ranged None in_range c h = let e = h in cc
@@ -142,17 +142,14 @@ all_ranged (form ∷ rest) name words in_range c h =
 forms_ranged : AskInRange forms
 forms_ranged = (
   (λ rows. replay_ranged (format_or_text (first_of (codes "format") rows)) (is_set (first_of (codes "counts") rows))),
-  (
-    (λ rows. upgrade_ranged),
-    (
-      (λ rows. node_ranged (first_of (codes "resume") rows) (first_of (codes "session") rows) (first_of (codes "site") rows)
-          (first_of (codes "journal") rows) (all_of (codes "address") rows)),
-      (
-        (λ rows. rehearse_ranged (first_of (codes "sites") rows)),
-        ((λ rows. churn_ranged (first_of (codes "seed") rows) (first_of (codes "steps") rows)), tt),
-      ),
-    ),
-  ),
+  (λ rows. lone_ranged command.Upgrade tt),
+  (λ rows. lone_ranged command.Snapshot tt),
+  (λ rows. lone_ranged command.View tt),
+  (λ rows. node_ranged (first_of (codes "resume") rows) (first_of (codes "session") rows) (first_of (codes "site") rows)
+      (first_of (codes "journal") rows) (all_of (codes "address") rows)),
+  (λ rows. rehearse_ranged (first_of (codes "sites") rows)),
+  (λ rows. churn_ranged (first_of (codes "seed") rows) (first_of (codes "steps") rows)),
+  tt,
 )
 
 pub asked_in_range : (words : List Text) (c : Command) → command_of words ≡ Some c → IsInRange c

@@ -4,13 +4,14 @@ use Rattle.clap.specs.Words.{Text}
 use Rattle.gd_asked.specs.declared.command.Command.{Command}
 use Rattle.gd_commands.specs.Forms.{Form, asked_by}
 use Rattle.gd_commands.specs.Replay.{replay_form}
-use Rattle.gd_commands.specs.Upgrade.{upgrade_form}
+use Rattle.gd_commands.specs.Lone.{snapshot_form, upgrade_form, view_form}
 use Rattle.gd_commands.specs.Node.{node_form}
 use Rattle.gd_commands.specs.Rehearse.{rehearse_form}
 use Rattle.gd_commands.specs.Churn.{churn_form}
 
 abbrev pub forms : List Form
-forms = replay_form ∷ upgrade_form ∷ node_form ∷ rehearse_form ∷ churn_form ∷ []
+forms =
+    replay_form ∷ upgrade_form ∷ snapshot_form ∷ view_form ∷ node_form ∷ rehearse_form ∷ churn_form ∷ []
 
 abbrev pub asked_by_one : List Form → Text → List Text → Option Command
 asked_by_one [] name words = None

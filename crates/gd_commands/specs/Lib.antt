@@ -1,7 +1,7 @@
 pub mod Numbers
 pub mod Forms
 pub mod Replay
-pub mod Upgrade
+pub mod Lone
 pub mod Node
 pub mod Rehearse
 pub mod Churn

@@ -15,6 +15,8 @@ use Rattle.gd_commands.specs.Numbers.{is_number}
 pub data Plain : Type 0 where
   Replay : (format : Option Format) → (counts : Bool) → Plain
   Upgrade : Plain
+  Snapshot : Plain
+  View : Plain
   Node : (session : Text) → (site : Text) → (journal : Text) → (addresses : List Text) → Plain
   Rejoin : (session : Text) → (site : Text) → (journal : Text) → (addresses : List Text) → Plain
   Rehearse : (sites : Text) → Plain
@@ -41,6 +43,8 @@ member_words session site journal addresses =
 abbrev pub plain_words : Plain → List Text
 plain_words (Replay format counts) = codes "replay" ∷ (format_words format ++ counts_words counts)
 plain_words Upgrade = codes "upgrade" ∷ []
+plain_words Snapshot = codes "snapshot" ∷ []
+plain_words View = codes "view" ∷ []
 plain_words (Node session site journal addresses) = codes "node" ∷ member_words session site journal addresses
 plain_words (Rejoin session site journal addresses) =
     codes "node" ∷ codes "--resume" ∷ member_words session site journal addresses
@@ -55,6 +59,8 @@ format_meant (Some f) = f
 abbrev pub plain_command : Plain → Command
 plain_command (Replay format counts) = command.Replay (format_meant format) counts
 plain_command Upgrade = command.Upgrade
+plain_command Snapshot = command.Snapshot
+plain_command View = command.View
 plain_command (Node session site journal addresses) =
     command.Node (digits_value 10 session) (digits_value 10 site) journal addresses
 plain_command (Rejoin session site journal addresses) =
@@ -84,6 +90,8 @@ IsPlainMember session site journal addresses =
 abbrev pub IsPlain : Plain → Type 0
 IsPlain (Replay format counts) = Unit {0}
 IsPlain Upgrade = Unit {0}
+IsPlain Snapshot = Unit {0}
+IsPlain View = Unit {0}
 IsPlain (Node session site journal addresses) = IsPlainMember session site journal addresses
 IsPlain (Rejoin session site journal addresses) = IsPlainMember session site journal addresses
 IsPlain (Rehearse sites) = IsNumberFrom 1 SITES sites

@@ -2,7 +2,7 @@
 use Rattle.std.specs.Prelude.{◌≡◌, ◌-◌, ◌^◌, ◌==◌, ℕ, true, false, List, [], ◌∷◌, map, Option, Some, None, codes, if◌then◌else◌}
 use Rattle.clap.specs.Words.{Text}
 use Rattle.gd_asked.specs.declared.command.Command.{Command}
-use Rattle.gd_asked.specs.declared.command.Command.TheVariants.{Replay, Upgrade, Node, Rejoin, Rehearse, Churn}
+use Rattle.gd_asked.specs.declared.command.Command.TheVariants.{Replay, Upgrade, Snapshot, View, Node, Rejoin, Rehearse, Churn}
 use Rattle.gd_options.specs.declared.format.Format.TheVariants as format
 use Rattle.gd_commands.specs.Commands.{command_of}
 
@@ -42,6 +42,13 @@ other_rows =
     ∷ asks (codes "upgrade") Upgrade
     ∷ refused (codes "upgrade x")
     ∷ refused (codes "upgrade --help")
+    ∷ asks (codes "snapshot") Snapshot
+    ∷ asks (codes "snapshot --") Snapshot
+    ∷ refused (codes "snapshot log")
+    ∷ refused (codes "snapshot --counts")
+    ∷ asks (codes "view") View
+    ∷ refused (codes "view -- x")
+    ∷ refused (codes "view -h")
     ∷ []
 
 abbrev pub replay_rows : List Row

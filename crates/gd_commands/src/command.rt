@@ -6,10 +6,10 @@ ghost use Rattle.gd_commands.specs.Commands.{command_of};
 
 use crate::churn::read_churn;
 use crate::fault::CommandFault;
+use crate::lone::read_lone;
 use crate::node::read_node;
 use crate::rehearse::read_rehearse;
 use crate::replay::read_replay;
-use crate::upgrade::read_upgrade;
 use gd_asked::Command;
 use gd_outside::{Word, WordList};
 use std::alloc::Global;
@@ -41,7 +41,11 @@ fn read_named(alloc: Global, name: &str, words: &[Word]) -> Result<Command, Comm
     if name == "replay" {
         read_replay(alloc, words)
     } else if name == "upgrade" {
-        read_upgrade(alloc, words)
+        read_lone(alloc, name, Command::Upgrade, words)
+    } else if name == "snapshot" {
+        read_lone(alloc, name, Command::Snapshot, words)
+    } else if name == "view" {
+        read_lone(alloc, name, Command::View, words)
     } else if name == "node" {
         read_node(alloc, words)
     } else if name == "rehearse" {

@@ -5,6 +5,7 @@ mod churn;
 mod command;
 mod fault;
 mod laws;
+mod lone;
 mod matched;
 mod node;
 mod number;
@@ -12,7 +13,6 @@ mod rehearse;
 mod replay;
 #[cfg(test)]
 mod tests;
-mod upgrade;
 
 pub use command::read_command;
 pub use fault::CommandFault;

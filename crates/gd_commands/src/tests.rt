@@ -6,7 +6,7 @@ use std::alloc::{AllocError, Global};
 use std::test::Fail;
 
 /// What is read of the words of a line, one space between two of them.
-const LINES: [(&str, &str); 53] = [
+const LINES: [(&str, &str); 59] = [
     ("", "usage"),
     ("paint", "usage"),
     ("Replay", "usage"),
@@ -28,6 +28,12 @@ const LINES: [(&str, &str); 53] = [
     ("upgrade", "upgrade"),
     ("upgrade x", "usage"),
     ("upgrade --help", "usage"),
+    ("snapshot", "snapshot"),
+    ("snapshot --", "snapshot"),
+    ("snapshot log", "usage"),
+    ("view", "view"),
+    ("view -- x", "usage"),
+    ("view -h", "usage"),
     (
         "node --session 7 --site 1 --journal j A B",
         "node 7 1 j A B",
@@ -126,6 +132,8 @@ fn command_text(alloc: Global, command: &Command) -> Result<String, AllocError> 
     match command {
         Command::Replay { format, counts } => format!(in alloc; "replay {format:?} {counts}"),
         Command::Upgrade => String::from_str(alloc, "upgrade"),
+        Command::Snapshot => String::from_str(alloc, "snapshot"),
+        Command::View => String::from_str(alloc, "view"),
         Command::Node {
             session,
             site,

@@ -54,6 +54,15 @@ ended_as (Err fault) = status.BadLog
 abbrev pub ended_by : List ℕ → Status
 ended_by bytes = ended_as (log bytes)
 
+-- the statuses of a command that reads a log
+abbrev pub IsReaderEnd : Status → Type 0
+IsReaderEnd status.Done = Unit {0}
+IsReaderEnd status.BadLog = Unit {0}
+IsReaderEnd status.ReadFault = Unit {0}
+IsReaderEnd status.WriteFault = Unit {0}
+IsReaderEnd status.NoMemory = Unit {0}
+IsReaderEnd other = ⊥
+
 -- what `upgrade` does with bytes that were read so, a log or none: it prints the log with a header of the newest version
 abbrev pub upgraded_as : List ℕ → Result (Header × List Event) LogMisread → List Effect
 upgraded_as bytes (Ok found) = map Print (log_pieces drawings (upgraded drawings found.0) found.1)
