@@ -9,8 +9,8 @@ use crate::fault::CommandFault;
 use crate::matched::{bare, matches_of, text, value};
 use crate::number::number_from;
 use clap::Command as ClapCommand;
-use gd_base::SITES;
 use gd_asked::Command;
+use gd_base::SITES;
 use std::alloc::{AllocError, Global};
 use std::convert::AsStr;
 
