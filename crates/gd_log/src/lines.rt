@@ -12,11 +12,11 @@ ghost use Rattle.gd_json.specs.PictureJson.{picture_json};
 ghost use Rattle.gd_json.specs.EventsJson.{events_json};
 ghost use Rattle.gd_reference.specs.SlowRun.{counts_lines, lines_as};
 ghost use Rattle.gd_reference.specs.Tally.{tally};
-ghost use Rattle.gd_log.specs.Arriving.{PaidFront};
+ghost use Rattle.gd_arriving.specs.Arriving.{PaidFront};
 ghost use Rattle.gd_log.specs.Printing.{lines_in};
 
-use crate::arriving::arrived;
-use crate::tally::Tally;
+use crate::arriving::arrived_empty;
+use gd_arriving::Tally;
 use gd_base::Steps;
 use gd_effects::print;
 use gd_events::EventList;
@@ -81,7 +81,7 @@ fn drawn<L: Ledger>(
     ensures steps { OnOk result (steps.new ≡ steps.old + sum (costs events)) }
     ensures err { OnErr result (PaidFront (costs events) steps.old steps.new) }
 {
-    let (history, tally) = arrived(alloc, events, steps)?;
+    let (history, tally) = arrived_empty(alloc, events, steps)?;
     let picture = Picture::of(alloc, history.document())?;
     Ok((picture, tally))
 }
@@ -118,7 +118,7 @@ fn arrived_json<L: Ledger>(
     ensures err { OnErr result (PaidFront (costs events) steps.old steps.new) }
 {
     let line = events_json(alloc, &events)?;
-    let (_, tally) = arrived(alloc, events, steps)?;
+    let (_, tally) = arrived_empty(alloc, events, steps)?;
     Ok((line, tally))
 }
 

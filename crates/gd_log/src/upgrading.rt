@@ -10,8 +10,7 @@ ghost use Rattle.gd_effects.specs.Effects.{Print};
 ghost use Rattle.gd_effects.specs.Outside.{outside};
 ghost use Rattle.gd_effects.specs.Prints.{Prints};
 ghost use Rattle.gd_effects.specs.Endings.{EndsAs, no_effects};
-ghost use Rattle.gd_reference.specs.SlowRun.{upgraded_log, ended_by};
-ghost use Rattle.gd_log.specs.Ends.{IsLogEnd};
+ghost use Rattle.gd_reference.specs.SlowRun.{IsReaderEnd, upgraded_log, ended_by};
 
 use crate::refusing::refuse;
 use gd_effects::{print, status_of};
@@ -34,7 +33,7 @@ pub fn upgrade<S: Source, K: Sink>(alloc: Global, source: &mut S, output: &mut K
         (ended_by (told (S.seen source.old).left)) result
         (outside (S.seen source.old) (K.seen output.old) journal link steps)
         (outside (S.seen source.new) (K.seen output.new) journal link steps) }
-    ensures kinds { IsLogEnd result }
+    ensures kinds { IsReaderEnd result }
     ensures silent { (result ≡ Status.ReadFault) ⊎ (result ≡ Status.NoMemory)
         → K.seen output.new ≡ K.seen output.old }
 {

@@ -4,8 +4,7 @@ use Rattle.gd_model.specs.Board.{Board, board, listed}
 use Rattle.gd_model.specs.Shown.{items}
 use Rattle.gd_drawing.proofs.Sizes.{board-len}
 use Rattle.gd_canvas.specs.Slots.{board_of}
-use Rattle.gd_log.proofs.ArrivalLemmas.{drawing_of}
-use Rattle.gd_log.proofs.ReplayLemmas.{shown-items}
+use Rattle.gd_log.proofs.ReplayLemmas.{drawing_of, shown-items}
 use Rattle.gd_log.proofs.lines.drawn.Goals as goal
 
 pub of-requires : goal.of-requires

@@ -1,6 +1,7 @@
 ghost use Rattle.std.specs.Prelude.{◌≡◌, ◌+◌, ◌<◌, ◌^◌};
-ghost use Rattle.gd_reference.specs.Tally.{no_tally, tally_reply};
-ghost use Rattle.gd_log.specs.Arriving.{counted, undone_in};
+ghost use Rattle.gd_arrivals.specs.Tally.{no_tally};
+ghost use Rattle.gd_reference.specs.Tally.{tally_reply};
+ghost use Rattle.gd_arriving.specs.Arriving.{counted, undone_in};
 ghost use Rattle.gd_base.specs.declared.ranges.TheConstants.{SESSION_EVENTS};
 
 use gd_history::Arrival;
@@ -18,7 +19,7 @@ pub struct Tally {
 }
 
 impl Model for Tally {
-    ghost use Rattle.gd_reference.specs.Tally.{Tally};
+    ghost use Rattle.gd_arrivals.specs.Tally.{Tally};
 
     ghost Value = { Tally };
 

@@ -1,0 +1,2 @@
+pub mod ArrivalLemmas
+mod TallyLemmas

@@ -1,0 +1,10 @@
+//! The one way in which events arrive at a document, one after another, and in which what comes of them is counted.
+#![tactic(auto)]
+
+mod arriving;
+mod keeping;
+mod tally;
+
+pub use arriving::arrived;
+pub use keeping::Keeping;
+pub use tally::Tally;
