@@ -26,11 +26,10 @@ use Rattle.gd_outside.specs.declared.end.End.TheVariants.{NoMemory, ReadFault, W
 use Rattle.gd_outside.specs.declared.status.Status.{Status}
 use Rattle.gd_outside.specs.declared.status.Status.TheVariants as status
 use Rattle.gd_reference.specs.Said.{says}
-use Rattle.gd_reference.specs.SlowRun.{ended_as, ended_by}
+use Rattle.gd_reference.specs.SlowRun.{IsReaderEnd, ended_as, ended_by}
 use Rattle.gd_reference.specs.SlowSite.{SlowSite, kept, resumed}
 use Rattle.gd_viewing.specs.Snapshotting.{of_snapshot, site_of, snapshotted_as, snapshotted}
 use Rattle.gd_watch.specs.Capturing.{steps_of, TookFirst}
-use Rattle.gd_watch.specs.Ends.{IsSnapshotEnd}
 
 -- ---- the rules of a log
 
@@ -129,8 +128,8 @@ owes-refusal bytes at why fault =
 -- ---- the status
 
 -- a call on the output and in steps ends neither by a read nor by the journal
-pub written_end : (r : Result ⊤ End) (whole : Status) {old new : SeenSink} {before after : ℕ} {xs : List Effect} → IsSnapshotEnd whole
-    → PrintsInSteps old before xs r new after → IsSnapshotEnd (status_of r whole)
+pub written_end : (r : Result ⊤ End) (whole : Status) {old new : SeenSink} {before after : ℕ} {xs : List Effect} → IsReaderEnd whole
+    → PrintsInSteps old before xs r new after → IsReaderEnd (status_of r whole)
 written_end (Ok x) whole w p = w
 written_end (Err NoMemory) whole w p = tt
 written_end (Err ReadFault) whole w p = tt

@@ -1,11 +1,19 @@
--- The statuses that the command ends with.
+-- The statuses that `view` ends with.
 use Rattle.gd_outside.specs.declared.status.Status.{Status}
-use Rattle.gd_outside.specs.declared.status.Status.TheVariants.{Done, BadLog, ReadFault, WriteFault, NoMemory}
+use Rattle.gd_outside.specs.declared.status.Status.TheVariants.{Done, BadView, LineLimit, ReadFault, WriteFault, NoMemory}
 
-abbrev pub IsSnapshotEnd : Status → Type 0
-IsSnapshotEnd Done = Unit {0}
-IsSnapshotEnd BadLog = Unit {0}
-IsSnapshotEnd ReadFault = Unit {0}
-IsSnapshotEnd WriteFault = Unit {0}
-IsSnapshotEnd NoMemory = Unit {0}
-IsSnapshotEnd other = ⊥
+abbrev pub IsViewEnd : Status → Type 0
+IsViewEnd Done = Unit {0}
+IsViewEnd BadView = Unit {0}
+IsViewEnd LineLimit = Unit {0}
+IsViewEnd ReadFault = Unit {0}
+IsViewEnd WriteFault = Unit {0}
+IsViewEnd NoMemory = Unit {0}
+IsViewEnd other = ⊥
+
+-- those with which `view` ends where nothing cuts it short
+abbrev pub IsShownEnd : Status → Type 0
+IsShownEnd Done = Unit {0}
+IsShownEnd BadView = Unit {0}
+IsShownEnd LineLimit = Unit {0}
+IsShownEnd other = ⊥

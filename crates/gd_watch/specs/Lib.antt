@@ -1,2 +1,4 @@
 pub mod Capturing
 pub mod Ends
+pub mod Items
+pub mod Taking

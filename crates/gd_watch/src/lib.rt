@@ -1,9 +1,15 @@
-//! The command `snapshot`: a drawing handed on without its history.
+//! The commands `snapshot` and `view`: a drawing handed on without its history, and looked at.
 #![tactic(auto)]
 
+mod ending;
+mod items;
 mod refusing;
+mod showing;
 mod snapshotting;
+mod taking;
 #[cfg(test)]
 mod tests;
+mod viewing;
 
 pub use snapshotting::snapshot;
+pub use viewing::view;

@@ -10,11 +10,10 @@ ghost use Rattle.gd_grammar.specs.Drawings.{drawings};
 ghost use Rattle.gd_logs.specs.Written.{IsRuled};
 ghost use Rattle.gd_outside.specs.Seen.{SeenJournal, SeenLink};
 ghost use Rattle.gd_outside.specs.Told.{told};
-ghost use Rattle.gd_reference.specs.SlowRun.{ended_by};
+ghost use Rattle.gd_reference.specs.SlowRun.{IsReaderEnd, ended_by};
 ghost use Rattle.gd_viewing.specs.Handing.{snapshot_of as handed};
 ghost use Rattle.gd_viewing.specs.Snapshotting.{of_snapshot, site_of, snapshotted};
 ghost use Rattle.gd_watch.specs.Capturing.{steps_of, TookFirst};
-ghost use Rattle.gd_watch.specs.Ends.{IsSnapshotEnd};
 
 use crate::refusing::refuse;
 use gd_base::Steps;
@@ -47,7 +46,7 @@ pub fn snapshot<S: Source, K: Sink, L: Ledger>(
         (ended_by (told (S.seen source.old).left)) result
         (outside (S.seen source.old) (K.seen output.old) journal link steps.old)
         (outside (S.seen source.new) (K.seen output.new) journal link steps.new) }
-    ensures kinds { IsSnapshotEnd result }
+    ensures kinds { IsReaderEnd result }
     ensures silent { (result ≡ Status.ReadFault) ⊎ (result ≡ Status.NoMemory)
         → K.seen output.new ≡ K.seen output.old }
     ensures unread { result ≡ Status.ReadFault → steps.new ≡ steps.old }

@@ -12,12 +12,11 @@ use Rattle.gd_effects.specs.Endings.{Causes, EndsAs, IfUnopened, IsUncut, Unread
 use Rattle.gd_effects.specs.Outside.{IsTold, Outside, outside}
 use Rattle.gd_effects.specs.Prints.{Prints}
 use Rattle.gd_lines.specs.Replies.{usage_line}
-use Rattle.gd_log.specs.Ends.{IsLogEnd}
 use Rattle.gd_node.specs.Configs.{ConfigValue}
 use Rattle.gd_node.specs.Rejoining.{IsRejoinEnd, IsRenamedBy, IsToldAll, KeepsFound, found_in, rejoins, rejoins_for_part}
 use Rattle.gd_node.specs.Serving.{IsNamedBy, IsNodeEnd, KeepsBegun, OnceBegun, served, served_of_part}
 use Rattle.gd_asked.specs.declared.command.Command.{Command}
-use Rattle.gd_asked.specs.declared.command.Command.TheVariants.{Replay, Upgrade, Node, Rejoin, Rehearse, Churn}
+use Rattle.gd_asked.specs.declared.command.Command.TheVariants.{Replay, Upgrade, Snapshot, View, Node, Rejoin, Rehearse, Churn}
 use Rattle.gd_options.specs.declared.format.Format.{Format}
 use Rattle.gd_outside.specs.Seen.{SeenSource, SeenSink, SeenJournal, SeenLink}
 use Rattle.gd_outside.specs.Told.{told}
@@ -29,15 +28,18 @@ use Rattle.gd_protocol.proofs.NodeJournals.{journal_of_node}
 use Rattle.gd_reference.specs.InputLines.{whole_lines}
 use Rattle.gd_reference.specs.NodeRun.{end_after, node_lines}
 use Rattle.gd_reference.specs.Rejoin.{rejoined_end}
-use Rattle.gd_reference.specs.SlowRun.{ended_by, replayed, upgraded_log}
+use Rattle.gd_reference.specs.SlowRun.{IsReaderEnd, ended_by, replayed, upgraded_log}
 use Rattle.gd_run.specs.Runs.{cut_of, effects_of, found_by}
+use Rattle.gd_viewing.specs.Snapshotting.{snapshotted}
+use Rattle.gd_viewing.specs.Viewing.{view_cut, view_effects, view_end}
+use Rattle.gd_watch.specs.Ends.{IsViewEnd}
 use Rattle.gd_world.specs.Rehearsing.{IsChurnEnd, IsRehearsalEnd}
 use Rattle.gd_worlds.specs.Churn.{churn_effects}
 use Rattle.gd_worlds.specs.Rehearsal.{rehearsal_effects, rehearsal_end, rehearsal_lines}
 use Rattle.groupdesign.proofs.Rejoined.{closes_found, is_unread}
 use Rattle.groupdesign.proofs.Sentences.{completes, did_whole, left_at, unopened_at}
 use Rattle.groupdesign.specs.Carrying.{Carried}
-use Rattle.groupdesign.specs.Commands.{HasLogOf, IsEnd, IsReaderEnd, IsSilentEnd, IsUnread, Keeps, Named, OpensFirst, Silent, Untouched, config}
+use Rattle.groupdesign.specs.Commands.{HasLogOf, IsEnd, IsSilentEnd, IsUnread, Keeps, Named, OpensFirst, Silent, Untouched, config}
 use Rattle.groupdesign.specs.Headline.{Headline}
 use Rattle.groupdesign.specs.Runs.{IsToldFor, Run, Told, Whole, asked, contents, entries, input, owed, owed_for_part, owed_status}
 
@@ -56,6 +58,7 @@ log_of run w h journal = go (asked run) w.0 h.keeps journal
 
 -- a command isn't refused
 not_refused : (command : Command) → IsEnd (Some command) Usage → ⊥
+not_refused View end = end
 not_refused (Node session site journal addresses) end = end
 not_refused (Rejoin session site journal addresses) end = end
 not_refused (Rehearse sites) end = end
@@ -136,6 +139,7 @@ headline_for run e h = headline run (subst (λ k. Carried k run.status run.befor
 unmoved : (asked : Option Command) (o : Outside)
     → IsEnd asked NoMemory × Untouched asked o o × Silent asked NoMemory o o × Named asked NoMemory o o × Keeps asked NoMemory o o
 unmoved None o = (tt, (refl, refl, refl, refl), (λ s. refl, λ s. refl), tt, tt)
+unmoved (Some View) o = (tt, (refl, refl), tt, tt, tt)
 unmoved (Some (Node session site journal addresses)) o = (tt, tt, tt, inl refl, inl refl)
 unmoved (Some (Rejoin session site journal addresses)) o = (tt, tt, tt, inl refl, inl refl)
 unmoved (Some (Rehearse sites)) o = (tt, (refl, refl), tt, tt, tt)
@@ -191,7 +195,7 @@ opens_none : (a b : Outside) (s : Status) → ¬ (s ≡ LinkFault) → OpensFirs
 opens_none a b LinkFault not = absurd (not refl)
 opens_none a b other not = tt
 
-module _ {input input' : SeenSource} {output output' : SeenSink} (journal : SeenJournal) (link : SeenLink) (s : Status) (kind : IsLogEnd s)
+module _ {input input' : SeenSource} {output output' : SeenSink} (journal : SeenJournal) (link : SeenLink) (s : Status) (kind : IsReaderEnd s)
     (silent : (s ≡ ReadFault) ⊎ (s ≡ NoMemory) → output' ≡ output) where
   pub carried_replay : {steps steps' : ℕ} (format : Format) (counts : Bool) → (s ≡ ReadFault → steps' ≡ steps)
       → EndsAs (IsSome input'.left) (replayed format counts (told input.left)) no_effects (ended_by (told input.left)) s (outside input output journal link steps) (outside input' output' journal link steps')
@@ -216,6 +220,35 @@ module _ {input input' : SeenSource} {output output' : SeenSink} (journal : Seen
     named = tt;
     keeps = tt;
     opens_first = opens_none _ _ s (λ e. subst IsReaderEnd e kind);
+  }
+
+  pub carried_snapshot : {steps steps' : ℕ} → (s ≡ ReadFault → steps' ≡ steps)
+      → EndsAs (IsSome input'.left) (snapshotted (told input.left)) no_effects (ended_by (told input.left)) s (outside input output journal link steps) (outside input' output' journal link steps')
+      → Carried (Some Snapshot) s (outside input output journal link steps) (outside input' output' journal link steps')
+  carried_snapshot unread ends = record {
+    ends = inl ends;
+    kind = kind;
+    untouched = (refl, refl);
+    silent = (λ q. silent (silent_by s q), unread);
+    named = tt;
+    keeps = tt;
+    opens_first = opens_none _ _ s (λ e. subst IsReaderEnd e kind);
+  }
+
+-- ---- a snapshot was looked at
+
+module _ {input input' : SeenSource} {output output' : SeenSink} (journal : SeenJournal) (link : SeenLink) {steps steps' : ℕ} (s : Status) where
+  pub carried_view : IsViewEnd s
+      → EndsAs (IsSome input'.left) (view_effects (told input.left)) view_cut (view_end (told input.left)) s (outside input output journal link steps) (outside input' output' journal link steps')
+      → Carried (Some View) s (outside input output journal link steps) (outside input' output' journal link steps')
+  carried_view kind ends = record {
+    ends = inl ends;
+    kind = kind;
+    untouched = (refl, refl);
+    silent = tt;
+    named = tt;
+    keeps = tt;
+    opens_first = opens_none _ _ s (λ e. subst IsViewEnd e kind);
   }
 
 -- ---- a node ran

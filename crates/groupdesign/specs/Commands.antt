@@ -10,14 +10,16 @@ use Rattle.gd_node.specs.Configs.{ConfigValue}
 use Rattle.gd_node.specs.Rejoining.{IsRejoinEnd, IsRenamedBy, IsToldAll, KeepsFound}
 use Rattle.gd_node.specs.Serving.{IsNamedBy, IsNodeEnd, KeepsBegun, OnceBegun}
 use Rattle.gd_asked.specs.declared.command.Command.{Command}
-use Rattle.gd_asked.specs.declared.command.Command.TheVariants.{Node, Rejoin, Rehearse, Churn}
+use Rattle.gd_asked.specs.declared.command.Command.TheVariants.{View, Node, Rejoin, Rehearse, Churn}
 use Rattle.gd_outside.specs.Seen.{Entry, SeenJournal}
 use Rattle.gd_outside.specs.Told.{told}
 use Rattle.gd_outside.specs.declared.status.Status.{Status}
-use Rattle.gd_outside.specs.declared.status.Status.TheVariants.{Done, Usage, BadLog, ReadFault, WriteFault, LinkFault, NoMemory}
+use Rattle.gd_outside.specs.declared.status.Status.TheVariants.{Usage, ReadFault, WriteFault, LinkFault, NoMemory}
 use Rattle.gd_reference.specs.NodeRun.{node_after, node_lines}
 use Rattle.gd_reference.specs.Rejoin.{Found, Events, node_header, rejoined_held}
+use Rattle.gd_reference.specs.SlowRun.{IsReaderEnd}
 use Rattle.gd_run.specs.Runs.{found_by}
+use Rattle.gd_watch.specs.Ends.{IsViewEnd}
 use Rattle.gd_world.specs.Rehearsing.{IsChurnEnd, IsRehearsalEnd}
 
 -- where words ask for no command, the statuses of the line that says how the program is called
@@ -27,18 +29,10 @@ IsUsageEnd WriteFault = Unit {0}
 IsUsageEnd NoMemory = Unit {0}
 IsUsageEnd other = ⊥
 
--- a command that reads a log
-abbrev pub IsReaderEnd : Status → Type 0
-IsReaderEnd Done = Unit {0}
-IsReaderEnd BadLog = Unit {0}
-IsReaderEnd ReadFault = Unit {0}
-IsReaderEnd WriteFault = Unit {0}
-IsReaderEnd NoMemory = Unit {0}
-IsReaderEnd other = ⊥
-
 -- the statuses that a command ends with
 abbrev pub IsEnd : Option Command → Status → Type 0
 IsEnd None status = IsUsageEnd status
+IsEnd (Some View) status = IsViewEnd status
 IsEnd (Some (Node session site journal addresses)) status = IsNodeEnd status
 IsEnd (Some (Rejoin session site journal addresses)) status = IsRejoinEnd status
 IsEnd (Some (Rehearse sites)) status = IsRehearsalEnd status
@@ -68,6 +62,7 @@ IsSilentEnd other = ⊥
 
 -- printed nothing then, and took no steps after a failed read
 abbrev pub Silent : Option Command → Status → Outside → Outside → Type 0
+Silent (Some View) status before after = Unit {0}
 Silent (Some (Node session site journal addresses)) status before after = Unit {0}
 Silent (Some (Rejoin session site journal addresses)) status before after = Unit {0}
 Silent (Some (Rehearse sites)) status before after = Unit {0}

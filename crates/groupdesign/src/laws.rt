@@ -3,7 +3,7 @@
 ghost use Rattle.std.specs.Prelude.{◌≡◌, ℕ, Bool, List, Option, Some, length};
 ghost use Rattle.std.specs.Str.Parse.{digits_value};
 ghost use Rattle.gd_commands.specs.Commands.{command_of};
-ghost use Rattle.gd_commands.specs.Plain.Plain.{Churn, Node, Rehearse, Rejoin, Replay, Upgrade};
+ghost use Rattle.gd_commands.specs.Plain.Plain.{Churn, Node, Rehearse, Rejoin, Replay, Snapshot, Upgrade, View};
 ghost use Rattle.gd_commands.specs.Plain.{IsPlain, Plain, format_meant, plain_command, plain_words};
 ghost use Rattle.gd_options.specs.declared.format.Format.{Format};
 ghost use Rattle.gd_outside.specs.Seen.{Entry};
@@ -11,6 +11,8 @@ ghost use Rattle.gd_reference.specs.NodeRun.{end_after, node_effects, node_lines
 ghost use Rattle.gd_reference.specs.Rejoin.{rejoined, rejoined_end};
 ghost use Rattle.gd_reference.specs.SlowRun.{replayed, upgraded_log};
 ghost use Rattle.gd_run.specs.Runs.{effects_of, end_of, found_by};
+ghost use Rattle.gd_viewing.specs.Snapshotting.{snapshotted};
+ghost use Rattle.gd_viewing.specs.Viewing.{view_effects};
 ghost use Rattle.gd_worlds.specs.Churn.{churn_effects};
 ghost use Rattle.gd_worlds.specs.Rehearsal.{rehearsal_effects, rehearsal_lines};
 
@@ -30,6 +32,12 @@ pub fn plain_words_are_carried_out()
     ensures upgrade { (contents input : List ℕ) (entries : List Entry)
         → effects_of (command_of (plain_words Upgrade)) contents input entries
         ≡ upgraded_log input }
+    ensures snapshot { (contents input : List ℕ) (entries : List Entry)
+        → effects_of (command_of (plain_words Snapshot)) contents input entries
+        ≡ snapshotted input }
+    ensures view { (contents input : List ℕ) (entries : List Entry)
+        → effects_of (command_of (plain_words View)) contents input entries
+        ≡ view_effects input }
     ensures node { (n s j : List ℕ) (addresses : List (List ℕ)) (contents input : List ℕ)
         (entries : List Entry) → IsPlain (Node n s j addresses)
         → effects_of (command_of (plain_words (Node n s j addresses))) contents input entries

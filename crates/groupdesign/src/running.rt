@@ -13,12 +13,14 @@ use gd_effects::{print, status_of};
 use gd_log::{replay, upgrade};
 use gd_node::{Config, rejoin, serve};
 use gd_outside::{Journal, Link, Sink, Source, Status, WordList};
+use gd_watch::{snapshot, view};
 use gd_words::{AsText, Reply};
 use gd_world::{churn, rehearse};
 use std::alloc::Global;
 use std::sync::ledger::Ledger;
 
-/// Carries out the command that the words ask for: `replay`, `upgrade`, `node`, `node --resume`, `rehearse` or `churn`.
+/// Carries out the command that the words ask for: `replay`, `upgrade`, `snapshot`, `view`, `node`, `node --resume`, `rehearse`
+/// or `churn`.
 ///
 /// `Usage` after the usage line, where the words ask for none of these; `NoMemory` where memory ran out; else what the command
 /// returns. The steps rise by what the arrivals of events cost.
@@ -69,6 +71,8 @@ fn carry_out<S: Source, K: Sink, J: Journal, N: Link, L: Ledger>(
             replay(alloc, input, output, format, counts, steps)
         }
         Command::Upgrade => upgrade(alloc, input, output),
+        Command::Snapshot => snapshot(alloc, input, output, steps),
+        Command::View => view(alloc, input, output, steps),
         Command::Node {
             session,
             site,

@@ -1,11 +1,12 @@
 //! Rows worked by hand, cuts and faults, each through `run` over objects in memory; nodes, alone and together, rehearsals and
-//! churns over such objects too; standard input and output over readers and writers of their own; late events on the history of
-//! a drawing; and how each two operations bear on each other.
+//! churns over such objects too; snapshots, and who looks on; standard input and output over readers and writers of their own;
+//! late events on the history of a drawing; and how each two operations bear on each other.
 
 ghost use Rattle.std.specs.Prelude.{◌≡◌, ◌<◌};
 
 mod altered;
 mod arrivals;
+mod changed_snapshots;
 mod changes;
 mod churns;
 mod counting;
@@ -29,12 +30,14 @@ mod rehearsals;
 mod rejoins;
 mod rows;
 mod showing;
+mod snapshots;
 mod standard;
 mod texts;
 mod together;
 mod typed;
 mod usage;
 mod versions;
+mod views;
 
 use crate::running::run;
 use gd_base::Steps;

@@ -22,7 +22,7 @@ const TIE: [u8; 70] = [
 ];
 
 /// Each site made one event and has the sure clock 1, so both objects stand and no event is kept.
-const TIE_SNAPSHOT: [u8; 123] = [
+pub(super) const TIE_SNAPSHOT: [u8; 123] = [
     b'G', b'D', b'O', b'S', 2, 0, 0, 0, 7, 1, 2, 0, 1, 0, 0, 0, 0, 0, 1, 0, 1, 0, 0, 0, 0, 0, 1, 0,
     0, 0, 2, 0, 0, 0, 0, 0, 1, 1, 2, 0, 0, 0, 0, 0, 0, 0, 0, 0, 0, 0, 20, 0, 0, 0, 20, 0, 0, 0, 0,
     255, 255, 255, 255, 1, 0, 0, 0, 1, 0, 0, 0, 0, 0, 1, 1, 0, 0, 0, 0, 0, 1, 2, 1, 0, 0, 0, 5, 0,

@@ -1,7 +1,7 @@
 //! What `view` prints of the worked snapshot with one of its bytes changed.
 
-use super::snapshots::TIE_SNAPSHOT;
 use super::ran_over;
+use super::snapshots::TIE_SNAPSHOT;
 use gd_outside::Status;
 use std::alloc::{AllocError, Global};
 use std::test::Fail;
@@ -198,7 +198,10 @@ fn a_snapshot_with_a_changed_byte_is_bad_or_shown(rt: HostRuntime) -> Result<(),
             let mut bytes = TIE_SNAPSHOT;
             bytes[at] = value;
             let fate = fate_of(at, value);
-            assert!(rt; is_met(rt.alloc(), &bytes, fate)?, "{value} at {at}: {fate:?}");
+            assert!(rt;
+                is_met(rt.alloc(), &bytes, fate)?,
+                "{value} at {at}: {fate:?}"
+            );
         }
     }
     Ok(())

@@ -22,7 +22,10 @@ fn a_log_is_handed_on_without_its_history(rt: HostRuntime) -> Result<(), test::F
     assert_eq!(rt; output.bytes(), TIE_SNAPSHOT.as_slice());
     let (status, output) = ran_over(rt.alloc(), &["snapshot"], &TIE[..40])?;
     assert_eq!(rt; status, Status::BadLog);
-    assert_eq!(rt; output.bytes(), bad_log(rt.alloc(), 40, "Short")?.as_bytes());
+    assert_eq!(rt;
+        output.bytes(),
+        bad_log(rt.alloc(), 40, "Short")?.as_bytes()
+    );
     Ok(())
 }
 
@@ -63,7 +66,11 @@ fn each_call_of_a_snapshot_fails_in_turn(rt: HostRuntime) -> Result<(), test::Fa
     ] {
         let (status, output) = failing(rt.alloc(), "snapshot", &TIE, read, write)?;
         assert_eq!(rt; status, ends, "at {read}, {write}");
-        assert_eq!(rt; output.bytes(), &TIE_SNAPSHOT[..length], "at {read}, {write}");
+        assert_eq!(rt;
+            output.bytes(),
+            &TIE_SNAPSHOT[..length],
+            "at {read}, {write}"
+        );
     }
     Ok(())
 }

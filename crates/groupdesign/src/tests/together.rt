@@ -9,7 +9,7 @@ use std::test::Fail;
 
 /// What happens in a session.
 #[derive(Clone, Copy)]
-enum Step {
+pub enum Step {
     /// A line is typed at a site.
     At(u8, &'static str),
     /// A site polls, and the frame that it sends to another one is kept. These are counted from 0.
@@ -27,9 +27,9 @@ struct Given {
 
 /// Sites, and the frames that were kept, each with the site that it is for.
 #[derive(Drop)]
-struct Session {
+pub struct Session {
     sites: Vec<Given>,
-    frames: Vec<(u8, Vec<u8>)>,
+    pub frames: Vec<(u8, Vec<u8>)>,
 }
 
 fn copied(alloc: Global, bytes: &[u8]) -> Result<Vec<u8>, AllocError> {
@@ -86,7 +86,7 @@ impl Session {
     }
 
     /// The node of a site, up to the last line that it was given. None where there is no such site.
-    fn node(&self, alloc: Global, site: u8) -> Result<Option<Node>, AllocError> {
+    pub fn node(&self, alloc: Global, site: u8) -> Result<Option<Node>, AllocError> {
         let Some(given) = self.sites.get(place(site)) else {
             return Ok(None);
         };
@@ -137,7 +137,7 @@ impl Session {
 }
 
 /// How many sites there are, what happens, and what each site prints, from the first one on.
-type Row = (usize, &'static [Step], &'static [&'static str]);
+pub type Row = (usize, &'static [Step], &'static [&'static str]);
 
 /// A move that comes late is covered by a later one.
 const COVER: Row = (
@@ -162,7 +162,7 @@ const COVER: Row = (
 );
 
 /// A late group takes a member of a later one, so that this one and its move are undone and redone.
-const THROUGH: Row = (
+pub const THROUGH: Row = (
     2,
     &[
         Step::At(1, "create rect 0 0 10 10"),
@@ -188,7 +188,7 @@ const THROUGH: Row = (
 );
 
 /// Both sites group the same shapes anew, behind an ungroup, and nothing moves.
-const REGROUPED: Row = (
+pub const REGROUPED: Row = (
     2,
     &[
         Step::At(1, "create rect 0 0 10 10"),
@@ -218,7 +218,7 @@ const REGROUPED: Row = (
 );
 
 /// A raise and a lower of one clock: that of the greater site stands.
-const LOWERED: Row = (
+pub const LOWERED: Row = (
     2,
     &[
         Step::At(1, "create rect 0 0 10 10"),
@@ -269,7 +269,7 @@ const NOTES: Row = (
 );
 
 /// Three sites draw, and in the end all hold all events. The frame 2 never comes, and the frame 1 comes twice.
-const ORDINARY: Row = (
+pub const ORDINARY: Row = (
     3,
     &[
         Step::At(1, "create rect 0 0 100 50 Start"),
@@ -317,7 +317,7 @@ const ORDINARY: Row = (
 );
 
 /// A session in which all that happened.
-fn played(alloc: Global, sites: usize, steps: &[Step]) -> Result<Session, AllocError> {
+pub fn played(alloc: Global, sites: usize, steps: &[Step]) -> Result<Session, AllocError> {
     let mut session = Session::new(alloc, sites)?;
     for step in steps {
         session.step(alloc, *step)?;

@@ -7,8 +7,7 @@ use super::{TIE_TEXT, ran_in, ran_over};
 use gd_outside::{Status, SureSink};
 use std::alloc::{AllocError, Global};
 use std::process::Abort;
-use std::str;
-use std::test;
+use std::{str, test};
 
 /// A frame of session 7 from site 2 to site 1, with the count 2 and the clock 2: the event 2.2, its second, moves 1.1 to 7 8.
 const MOVE: [u8; 57] = [
@@ -63,8 +62,20 @@ fn expect<R: Abort>(
 fn a_snapshot_shows_its_drawing(rt: HostRuntime) -> Result<(), test::Fail> {
     expect(&rt, rt.alloc(), &TIE_SNAPSHOT, Status::Done, TIE_TEXT)?;
     let short = "bad view at 122: Short\n";
-    expect(&rt, rt.alloc(), &TIE_SNAPSHOT[..122], Status::BadView, short)?;
-    expect(&rt, rt.alloc(), &[], Status::BadView, "bad view at 0: Short\n")?;
+    expect(
+        &rt,
+        rt.alloc(),
+        &TIE_SNAPSHOT[..122],
+        Status::BadView,
+        short,
+    )?;
+    expect(
+        &rt,
+        rt.alloc(),
+        &[],
+        Status::BadView,
+        "bad view at 0: Short\n",
+    )?;
     Ok(())
 }
 
@@ -96,7 +107,13 @@ fn a_frame_that_brings_nothing_leaves_the_drawing(rt: HostRuntime) -> Result<(),
     for (item, line) in rows {
         let bytes = stream(rt.alloc(), &[item])?;
         let text = format!(in rt.alloc(); "{line}{TIE_TEXT}")?;
-        expect(&rt, rt.alloc(), bytes.as_slice(), Status::Done, text.as_str())?;
+        expect(
+            &rt,
+            rt.alloc(),
+            bytes.as_slice(),
+            Status::Done,
+            text.as_str(),
+        )?;
     }
     Ok(())
 }
@@ -110,8 +127,16 @@ fn the_first_fault_of_the_items_is_found(rt: HostRuntime) -> Result<(), test::Fa
         (none, &[0x0F, 0x89, 0], "bad view at 123: Long\n"),
         (none, &[0x0F, 0x88], "bad view at 125: Short\n"),
         (&[&MOVE], &[0], "echo 2.2 applied\nbad view at 183: Short\n"),
-        (&[&MOVE], &[0, 2, 1], "echo 2.2 applied\nbad view at 185: Short\n"),
-        (&[&MOVE], &[255, 255], "echo 2.2 applied\nbad view at 182: Long\n"),
+        (
+            &[&MOVE],
+            &[0, 2, 1],
+            "echo 2.2 applied\nbad view at 185: Short\n",
+        ),
+        (
+            &[&MOVE],
+            &[255, 255],
+            "echo 2.2 applied\nbad view at 182: Long\n",
+        ),
     ];
     for (items, rest, text) in rows {
         let mut bytes = stream(rt.alloc(), items)?;
@@ -148,10 +173,18 @@ fn each_write_of_a_view_fails_in_turn(rt: HostRuntime) -> Result<(), test::Fail>
     let bytes = stream(rt.alloc(), &[&MOVE])?;
     for (before, length) in WRITTEN.iter().enumerate() {
         let write = before as u64 + 1;
-        let ends = if write < 5 { Status::WriteFault } else { Status::Done };
+        let ends = if write < 5 {
+            Status::WriteFault
+        } else {
+            Status::Done
+        };
         let (status, output) = failing(rt.alloc(), "view", bytes.as_slice(), 0, write)?;
         assert_eq!(rt; status, ends, "at {write}");
-        assert_eq!(rt; output.bytes(), &MOVED_TEXT.as_bytes()[..*length], "at {write}");
+        assert_eq!(rt;
+            output.bytes(),
+            &MOVED_TEXT.as_bytes()[..*length],
+            "at {write}"
+        );
     }
     Ok(())
 }
@@ -170,7 +203,10 @@ fn each_read_of_a_view_fails_in_turn(rt: HostRuntime) -> Result<(), test::Fail> 
         }
         last = output.bytes().len();
         assert_eq!(rt; status, Status::ReadFault, "at {read}");
-        assert!(rt; last == 0 || output.bytes() == b"echo 2.2 applied\n", "at {read}");
+        assert!(rt;
+            last == 0 || output.bytes() == b"echo 2.2 applied\n",
+            "at {read}"
+        );
     }
     assert!(rt; false, "each of twenty reads failed");
     Ok(())
@@ -253,11 +289,7 @@ fn followed(
 fn shows(alloc: Global, bytes: &[u8], drawing: &[u8]) -> Result<bool, AllocError> {
     let (status, output) = ran_over(alloc, &["view"], bytes)?;
     let text = str::from_utf8(output.bytes()).unwrap_or("refused");
-    Ok(
-        status == Status::Done
-            && output.bytes().ends_with(drawing)
-            && !text.contains("refused"),
-    )
+    Ok(status == Status::Done && output.bytes().ends_with(drawing) && !text.contains("refused"))
 }
 
 /// Looks on at a session from each of its moments on, with its frames in each order.
@@ -272,7 +304,10 @@ fn look_on<R: Abort>(rt: &R, alloc: Global, row: Row) -> Result<(), test::Fail> 
         let snapshot = snapshot_after(alloc, sites, steps, cut)?;
         for order in [Order::AsSent, Order::Twice, Order::BackAndForth] {
             let bytes = followed(alloc, snapshot.bytes(), &session, order)?;
-            assert!(rt; shows(alloc, bytes.as_slice(), drawing.bytes())?, "{text} from {cut}");
+            assert!(rt;
+                shows(alloc, bytes.as_slice(), drawing.bytes())?,
+                "{text} from {cut}"
+            );
         }
     }
     Ok(())

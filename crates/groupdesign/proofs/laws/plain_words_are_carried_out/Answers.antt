@@ -1,6 +1,6 @@
 use Rattle.std.proofs.Common.{ap}
 use Rattle.gd_commands.proofs.PlainForms.{plain_is_asked}
-use Rattle.gd_commands.specs.Plain.Plain.{Churn, Node, Rehearse, Rejoin, Replay, Upgrade}
+use Rattle.gd_commands.specs.Plain.Plain.{Churn, Node, Rehearse, Rejoin, Replay, Snapshot, Upgrade, View}
 use Rattle.gd_run.specs.Runs.{effects_of, end_of}
 use Rattle.groupdesign.proofs.laws.plain_words_are_carried_out.Goals as goal
 
@@ -15,6 +15,12 @@ returns-clause-replay c = λ format counts contents input entries. returns-claus
 
 pub returns-clause-upgrade : goal.returns-clause-upgrade
 returns-clause-upgrade c = λ contents input entries. returns-clause-effects c Upgrade contents input entries tt
+
+pub returns-clause-snapshot : goal.returns-clause-snapshot
+returns-clause-snapshot c = λ contents input entries. returns-clause-effects c Snapshot contents input entries tt
+
+pub returns-clause-view : goal.returns-clause-view
+returns-clause-view c = λ contents input entries. returns-clause-effects c View contents input entries tt
 
 pub returns-clause-node : goal.returns-clause-node
 returns-clause-node c = λ session site journal addresses contents input entries is. returns-clause-effects c (Node session site journal addresses) contents input entries is

@@ -1,4 +1,4 @@
-use Rattle.groupdesign.proofs.Carried.{carried_as, carried_churn, carried_node, carried_rehearse, carried_rejoin, carried_replay, carried_upgrade, named_node, named_rejoin}
+use Rattle.groupdesign.proofs.Carried.{carried_as, carried_churn, carried_node, carried_rehearse, carried_rejoin, carried_replay, carried_snapshot, carried_upgrade, carried_view, named_node, named_rejoin}
 use Rattle.groupdesign.proofs.running.carry_out.Goals as goal
 
 pub returns-in-Replay : goal.returns-in-Replay
@@ -8,6 +8,14 @@ returns-in-Replay g c =
 pub returns-in-Upgrade : goal.returns-in-Upgrade
 returns-in-Upgrade g c =
     carried_as c.in-Upgrade.is (carried_upgrade _ _ c.upgrade.result c.upgrade.ensures.kinds c.upgrade.ensures.silent (c.upgrade.ensures.ends _ _ _))
+
+pub returns-in-Snapshot : goal.returns-in-Snapshot
+returns-in-Snapshot g c =
+    carried_as c.in-Snapshot.is (carried_snapshot _ _ c.snapshot.result c.snapshot.ensures.kinds c.snapshot.ensures.silent c.snapshot.ensures.unread (c.snapshot.ensures.ends _ _))
+
+pub returns-in-View : goal.returns-in-View
+returns-in-View g c =
+    carried_as c.in-View.is (carried_view _ _ c.view.result c.view.ensures.kinds (c.view.ensures.ends _ _))
 
 pub returns-in-Node : goal.returns-in-Node
 returns-in-Node g c =
