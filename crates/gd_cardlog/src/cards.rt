@@ -1,0 +1,90 @@
+//! Card boards as a kind of log.
+
+ghost use Rattle.std.specs.Prelude.{◌≡◌, ◌≤◌, ◌+◌, ◌++◌, length};
+ghost use Rattle.gd_grammar.specs.FieldBytes.{label_bytes};
+ghost use Rattle.gd_grammar.specs.declared.sizes.TheConstants.{EVENT_BYTES};
+
+use crate::card_op::card_op;
+use gd_base::{FieldFault, Label, Stamp, Version};
+use gd_cards::{CardOp, PackedCardOp};
+use gd_wire::{Bytes, EventBytes, LogKind, PackError};
+use std::alloc::Global;
+
+/// GDOB.
+const MAGIC: u32 = 0x4744_4F42;
+
+/// Card boards as a kind of log.
+pub struct Cards;
+
+impl LogKind for Cards {
+    type Op = CardOp;
+
+    ghost use Rattle.gd_cards.specs.CardBytes.{cards};
+    ghost use Rattle.gd_cards.proofs.CardKind.{card_laws};
+
+    ghost kind = { cards };
+
+    ghost laws = { card_laws };
+
+    fn magic() -> u32 {
+        MAGIC
+    }
+
+    fn newest() -> Version {
+        Version::One
+    }
+
+    fn read<'a>(
+        bytes: &mut Bytes<'a>,
+        version: Version,
+        stamp: Stamp,
+    ) -> Result<CardOp, FieldFault> {
+        card_op(bytes, version, stamp)
+    }
+
+    fn read_packed<'a>(
+        alloc: Global,
+        bytes: &mut Bytes<'a>,
+        version: Version,
+        stamp: Stamp,
+    ) -> Result<PackedCardOp, PackError> {
+        let op = card_op(bytes, version, stamp)?;
+        Ok(PackedCardOp::new(alloc, op)?)
+    }
+
+    fn put(op: &CardOp, out: &mut EventBytes) {
+        match op {
+            CardOp::Add { column, title } => {
+                out.put_byte(1);
+                out.put_byte(*column);
+                put_title(title, out);
+            }
+            CardOp::Title { id, title } => {
+                out.put_byte(2);
+                out.put_stamp(*id);
+                put_title(title, out);
+            }
+            CardOp::Column { id, column } => {
+                out.put_byte(3);
+                out.put_stamp(*id);
+                out.put_byte(*column);
+            }
+            CardOp::Vote { id } => {
+                out.put_byte(4);
+                out.put_stamp(*id);
+            }
+            CardOp::Remove { id } => {
+                out.put_byte(5);
+                out.put_stamp(*id);
+            }
+        }
+    }
+}
+
+/// The title, behind its length.
+fn put_title(title: &Label, out: &mut EventBytes)
+    requires { length out.old + 201 ≤ EVENT_BYTES }
+    ensures { out.new ≡ out.old ++ label_bytes title.now }
+{
+    out.put_text(title.as_str());
+}

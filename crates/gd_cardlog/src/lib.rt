@@ -1,0 +1,9 @@
+//! Logs of card boards: their operations, read and written.
+#![tactic(auto)]
+
+mod card_op;
+mod cards;
+#[cfg(test)]
+mod tests;
+
+pub use cards::Cards;
