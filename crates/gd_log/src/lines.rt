@@ -10,7 +10,7 @@ ghost use Rattle.gd_effects.specs.Effects.{Print};
 ghost use Rattle.gd_effects.specs.Prints.{Prints};
 ghost use Rattle.gd_json.specs.PictureJson.{picture_json};
 ghost use Rattle.gd_json.specs.EventsJson.{events_json};
-ghost use Rattle.gd_reference.specs.SlowRun.{counts_lines, lines_as};
+ghost use Rattle.gd_reference.specs.SlowRun.{lines_as};
 ghost use Rattle.gd_reference.specs.Tally.{tally};
 ghost use Rattle.gd_arriving.specs.Arriving.{PaidFront};
 ghost use Rattle.gd_log.specs.Printing.{lines_in};
@@ -24,7 +24,6 @@ use gd_export::{JsonText, events_json, picture_json};
 use gd_options::Format;
 use gd_outside::{End, Sink};
 use gd_view::{Picture, write_text};
-use gd_words::AsText;
 use std::alloc::{AllocError, Global};
 use std::sync::ledger::Ledger;
 
@@ -132,17 +131,4 @@ pub fn write_lines<K: Sink>(lines: &Lines, output: &mut K) -> Result<(), End>
         Lines::Text(picture) => write_text(picture, output),
         Lines::Json(line) => print(output, line.as_str().as_bytes()),
     }
-}
-
-/// Prints the counts, where they are asked for. `WriteFault` where a write failed; no other end comes.
-pub fn write_counts<K: Sink>(tally: &Tally, asked: bool, output: &mut K) -> Result<(), End>
-    ensures does { Prints (K.seen output.old) (map Print (counts_lines asked tally.now)) result
-        (K.seen output.new) }
-    ensures end { (e : End) → result ≡ Err e → e ≡ End.WriteFault }
-{
-    if !asked {
-        return Ok(());
-    }
-    let text = tally.reply().text();
-    print(output, text.as_slice())
 }

@@ -1,6 +1,6 @@
 //! The command `upgrade`: reads a log, and writes it in the newest version.
 
-ghost use Rattle.std.specs.Prelude.{◌≡◌, [], ◌∷◌, map, ℕ, Err, ◌⊎◌, IsSome};
+ghost use Rattle.std.specs.Prelude.{◌≡◌, map, ℕ, Err, ◌⊎◌, IsSome};
 ghost use Rattle.gd_outside.specs.Seen.{SeenJournal, SeenLink};
 ghost use Rattle.gd_outside.specs.Told.{told};
 ghost use Rattle.gd_grammar.specs.Drawings.{drawings};
@@ -12,11 +12,11 @@ ghost use Rattle.gd_effects.specs.Prints.{Prints};
 ghost use Rattle.gd_effects.specs.Endings.{EndsAs, no_effects};
 ghost use Rattle.gd_reference.specs.SlowRun.{IsReaderEnd, upgraded_log, ended_by};
 
-use crate::refusing::refuse;
 use gd_effects::{print, status_of};
 use gd_events::EventList;
 use gd_logs::{CLOSED, LogFault, ReadError, gated_of, read_log};
 use gd_outside::{End, Sink, Source, Status};
+use gd_reading::refuse;
 use gd_wire::{Drawings, HeaderBytes, LogHeader, write_header};
 use std::alloc::Global;
 

@@ -3,20 +3,17 @@ use Rattle.std.proofs.Common.{◌≡◌, ℕ, zero, suc, ◌+◌, ◌-◌, ◌<�
 use Rattle.std.proofs.lemmas.Bool.{le-ltb, lt-ltb}
 use Rattle.std.proofs.Math.Seq.{drop-append_seam, take-append_seam}
 use Rattle.std.specs.Int.{w16, from_be_bytes}
-use Rattle.std.specs.Prelude.{Option, Some, None, Result, Ok, Err, IsErrAnd, IsSome}
+use Rattle.std.specs.Prelude.{Option, Some, Result, Ok, Err, IsErrAnd, IsSome}
 use Rattle.gd_base.specs.declared.fault.FieldFault.{FieldFault}
-use Rattle.gd_base.specs.declared.fault.ViewWhy.{ViewWhy}
 use Rattle.gd_base.specs.declared.fault.ViewWhy.TheVariants.{Long, Short}
 use Rattle.gd_grammar.specs.FrameBytes.{half_at}
-use Rattle.gd_grammar.specs.Reading.{Reads, bytes_at}
 use Rattle.gd_grammar.specs.declared.sizes.TheConstants.{FRAME_BYTES}
 use Rattle.gd_handover.specs.Parts.{Grown, cut}
 use Rattle.gd_handover.proofs.PartLemmas.{called-then}
-use Rattle.gd_outside.specs.Called.{SourceCalled}
 use Rattle.gd_outside.specs.Seen.{SeenSource}
 use Rattle.gd_outside.specs.Told.{told}
-use Rattle.gd_snapshots.specs.SnapshotBytes.{SnapshotMisread, Views, misread_at}
-use Rattle.gd_viewing.specs.Viewing.{Item, Broken, Datagram, TooMany, item_at, items_of}
+use Rattle.gd_snapshots.specs.SnapshotBytes.{SnapshotMisread, misread_at}
+use Rattle.gd_viewing.specs.Viewing.{Broken, Datagram, TooMany, item_at, items_of}
 use Rattle.gd_watch.specs.Items.{ComesNext, IsBroken, IsCut, IsWhole, NextIs, Settles}
 use Rattle.gd_watch.specs.declared.items.Next.{Next}
 use Rattle.gd_watch.specs.declared.items.Next.TheVariants as next

@@ -1,15 +1,10 @@
 -- What `snapshot` ends with, by what it read and what it wrote.
-use Rattle.std.proofs.Common.{◌≡◌, ℕ, ◌+◌, ◌-◌, ◌≤◌, List, [], ◌∷◌, ◌++◌, length, replicate, sum, refl, sym, ap, ◌∙◌, ◌⊎◌, inl, inr, arith, append_assoc}
-use Rattle.std.specs.Prelude.{Result, Ok, Err, ⊤, map, OnErr, OnOk}
+use Rattle.std.proofs.Common.{◌≡◌, ℕ, ◌+◌, ◌-◌, ◌≤◌, List, [], ◌∷◌, ◌++◌, length, replicate, sum, sym, ap, ◌∙◌, arith, append_assoc}
+use Rattle.std.specs.Prelude.{Result, Ok, Err, OnErr, OnOk}
 use Rattle.std.proofs.lemmas.List.{replicate-append-replicate}
 use Rattle.std.proofs.lemmas.List.Folds.{sum_by-replicate}
 use Rattle.std.proofs.lemmas.List.Sums.{sum_by-append}
 use Rattle.gd_base.specs.declared.fault.LogWhy.{LogWhy}
-use Rattle.gd_effects.specs.Effects.{Effect, Work}
-use Rattle.gd_effects.specs.Endings.{IsUncut, status_of}
-use Rattle.gd_effects.specs.Prints.{PrintsInSteps}
-use Rattle.gd_effects.proofs.Doing.{does_more, does_as, does_some_works}
-use Rattle.gd_effects.proofs.RunEnds.{no_journal, status_unread, status_memory}
 use Rattle.gd_events.specs.Events.{Event}
 use Rattle.gd_events.specs.Sound.{IsOp}
 use Rattle.gd_grammar.specs.Drawings.{drawings, log}
@@ -20,16 +15,15 @@ use Rattle.gd_logs.proofs.UpgradeLemmas.{has-newest}
 use Rattle.gd_logs.specs.Steps.{IsFault}
 use Rattle.gd_logs.specs.Written.{AreNext, IsRuled}
 use Rattle.gd_model.specs.Arrivals.{costs}
-use Rattle.gd_outside.specs.Seen.{SeenSink}
 use Rattle.gd_outside.specs.declared.end.End.{End}
-use Rattle.gd_outside.specs.declared.end.End.TheVariants.{NoMemory, ReadFault, WriteFault, JournalFault}
 use Rattle.gd_outside.specs.declared.status.Status.{Status}
 use Rattle.gd_outside.specs.declared.status.Status.TheVariants as status
 use Rattle.gd_reference.specs.Said.{says}
-use Rattle.gd_reference.specs.SlowRun.{IsReaderEnd, ended_as, ended_by}
+use Rattle.gd_reference.specs.SlowRun.{ended_as, ended_by}
 use Rattle.gd_reference.specs.SlowSite.{SlowSite, kept, resumed}
 use Rattle.gd_viewing.specs.Snapshotting.{of_snapshot, site_of, snapshotted_as, snapshotted}
-use Rattle.gd_watch.specs.Capturing.{steps_of, TookFirst}
+use Rattle.gd_arriving.specs.Arriving.{PaidFront}
+use Rattle.gd_watch.specs.Capturing.{steps_of}
 
 -- ---- the rules of a log
 
@@ -68,7 +62,7 @@ module _ (slow : SlowSite) (old middle new : ℕ) where
   took_all arrived undone = omega (arith, arrived, undone, sum-more (costs slow.held) (length (kept slow)))
 
   -- memory ran out while they were undone
-  took_undone : middle ≡ old + sum (costs slow.held) → middle ≤ new → new ≤ middle + length (kept slow) → TookFirst (steps_of slow) old new
+  took_undone : middle ≡ old + sum (costs slow.held) → middle ≤ new → new ≤ middle + length (kept slow) → PaidFront (steps_of slow) old new
   took_undone arrived rose most =
       let left : ℕ = middle + length (kept slow) - new in
       record {
@@ -79,7 +73,7 @@ module _ (slow : SlowSite) (old middle new : ℕ) where
       }
 
 -- memory ran out while the events arrived
-took_arrivals : (slow : SlowSite) (old new : ℕ) (front back : List ℕ) → costs slow.held ≡ front ++ back → new ≡ old + sum front → TookFirst (steps_of slow) old new
+took_arrivals : (slow : SlowSite) (old new : ℕ) (front back : List ℕ) → costs slow.held ≡ front ++ back → new ≡ old + sum front → PaidFront (steps_of slow) old new
 took_arrivals slow old new front back split paid = record {
   front = front;
   back = back ++ ones (length (kept slow));
@@ -89,7 +83,7 @@ took_arrivals slow old new front back split paid = record {
 
 -- the same of the site of a log, by the results of the calls
 module _ (h : Header) (events : List Event) (old : ℕ) where
-  pub err_arrivals : (new : ℕ) (front back : List ℕ) → costs events ≡ front ++ back → new ≡ old + sum front → TookFirst (steps_of (site_of h events)) old new
+  pub err_arrivals : (new : ℕ) (front back : List ℕ) → costs events ≡ front ++ back → new ≡ old + sum front → PaidFront (steps_of (site_of h events)) old new
   unfolding resumed
   err_arrivals new front back split paid = took_arrivals (site_of h events) old new front back split paid
 
@@ -101,16 +95,10 @@ module _ (h : Header) (events : List Event) (old : ℕ) where
     ok_all (Err e) arrived undone = tt
 
     pub err_undone : {A E : Type 0} (r : Result A E) → middle ≡ old + sum (costs events) → OnErr r (middle ≤ new) → OnErr r (new ≤ middle + length (kept (site_of h events)))
-        → OnErr r (TookFirst (steps_of (site_of h events)) old new)
+        → OnErr r (PaidFront (steps_of (site_of h events)) old new)
     unfolding resumed
     err_undone (Ok x) arrived rose most = tt
     err_undone (Err e) arrived rose most = took_undone (site_of h events) old middle new arrived rose most
-
--- what the first steps are of all that is owed
-pub took_some : (ns : List ℕ) (output : SeenSink) {before after : ℕ} → TookFirst ns before after → (later : List Effect)
-    → PrintsInSteps {T = Unit {0}} output before (map Work ns ++ later) (Err NoMemory) output after
-took_some ns output {before} {after} p later input journal link =
-    does_more later (does_as (ap (map Work) p.split) (does_some_works p.front p.back input output journal link before after p.paid))
 
 -- ---- what is owed
 
@@ -124,20 +112,3 @@ pub owes-refusal : (bytes : List ℕ) (at : ℕ) (why : LogWhy) → IsFault (log
     → (snapshotted bytes ≡ says (reply.BadLog at why) ∷ []) × (ended_by bytes ≡ status.BadLog)
 owes-refusal bytes at why fault =
     (ap (snapshotted_as bytes) fault.is ∙ ap (λ (p : ℕ). says (reply.BadLog p why) ∷ []) (sym fault.there), ap ended_as fault.is)
-
--- ---- the status
-
--- a call on the output and in steps ends neither by a read nor by the journal
-pub written_end : (r : Result ⊤ End) (whole : Status) {old new : SeenSink} {before after : ℕ} {xs : List Effect} → IsReaderEnd whole
-    → PrintsInSteps old before xs r new after → IsReaderEnd (status_of r whole)
-written_end (Ok x) whole w p = w
-written_end (Err NoMemory) whole w p = tt
-written_end (Err ReadFault) whole w p = tt
-written_end (Err WriteFault) whole w p = tt
-written_end (Err JournalFault) whole w p = absurd (no_journal (Err JournalFault) p refl)
-
--- and nothing was written where it ends so, or since memory ran out
-pub silent_by : {P : Type 0} (s : Status) (r : Result ⊤ End) (whole : Status) {old new : SeenSink} {before after : ℕ} {xs : List Effect} → s ≡ status_of r whole → IsUncut whole
-    → PrintsInSteps old before xs r new after → (r ≡ Err NoMemory → P) → (s ≡ status.ReadFault) ⊎ (s ≡ status.NoMemory) → P
-silent_by s r whole is u p f (inl e) = absurd (status_unread r whole u p (sym is ∙ e))
-silent_by s r whole is u p f (inr e) = f (status_memory r whole u (sym is ∙ e))

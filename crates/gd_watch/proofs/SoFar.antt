@@ -1,12 +1,12 @@
 -- What a viewer was shown of the items of an input so far, and how its run ends from there.
-use Rattle.std.proofs.Common.{◌≡◌, ℕ, suc, ◌+◌, ◌-◌, ◌≤◌, List, [], ◌∷◌, ◌++◌, length, map, take, drop, refl, sym, ap, ◌∙◌, subst, append_assoc, append-nil, length-append, length-take-le, take-append-drop, arith}
+use Rattle.std.proofs.Common.{◌≡◌, ℕ, suc, ◌+◌, ◌-◌, List, [], ◌∷◌, ◌++◌, length, map, take, drop, refl, sym, ap, ◌∙◌, subst, append_assoc, append-nil, length-append, length-take-le, take-append-drop, arith}
 use Rattle.std.specs.Prelude.{Result, Ok, Err, IfOk, IsErrAnd, IsSome}
 use Rattle.gd_base.specs.declared.fault.ViewWhy.{ViewWhy}
 use Rattle.gd_effects.proofs.Doing.{did_as, did_nothing, does_as, does_exit, does_more, does_nothing, does_ok, does_then, does_when, told_before}
-use Rattle.gd_effects.proofs.RunEnds.{idle_source, no_read}
+use Rattle.gd_effects.proofs.RunEnds.{no_read}
 use Rattle.gd_effects.specs.Done.{Did, Does, DoesAll}
 use Rattle.gd_effects.specs.Effects.{Effect, Print}
-use Rattle.gd_effects.specs.Outside.{Outside, IsTold, outside}
+use Rattle.gd_effects.specs.Outside.{Outside, outside}
 use Rattle.gd_effects.specs.Prints.{Prints, PrintsInSteps}
 use Rattle.gd_effects.specs.Runs.{RunsAs}
 use Rattle.gd_grammar.specs.Reading.{place}
@@ -25,8 +25,8 @@ use Rattle.gd_reference.specs.Said.{says}
 use Rattle.gd_snapshots.specs.SnapshotBytes.{SnapshotMisread}
 use Rattle.gd_viewer.specs.Viewers.{StandsFor, ViewerValue}
 use Rattle.gd_viewing.specs.SlowViewer.{SlowViewer, viewed}
-use Rattle.gd_viewing.specs.Viewing.{Item, Broken, Datagram, TooMany, after_item, end_behind, item_at, items_of, most_items, of_item, shown_behind, whole_behind}
-use Rattle.gd_watch.specs.Items.{ComesNext, IsBroken, IsCut, IsWhole}
+use Rattle.gd_viewing.specs.Viewing.{Item, Broken, Datagram, TooMany, after_item, end_behind, items_of, most_items, of_item, shown_behind, whole_behind}
+use Rattle.gd_watch.specs.Items.{ComesNext, IsCut, IsWhole}
 use Rattle.gd_watch.specs.declared.items.Next.TheVariants as next
 use Rattle.gd_watch.proofs.ItemLemmas.{items_broken, items_first, items_none, items_over}
 

@@ -1,6 +1,6 @@
 -- How a view ends, by how it was carried out.
 use Rattle.std.proofs.Common.{◌≡◌, ℕ, ◌+◌, List, [], ◌∷◌, ◌++◌, map, sum, refl, sym, ap, ◌∙◌, subst, arith}
-use Rattle.std.specs.Prelude.{Option, Some, Result, Ok, Err, IfOk, IsErrAnd, IsSome}
+use Rattle.std.specs.Prelude.{Some, Result, Ok, Err, IfOk, IsErrAnd, IsSome}
 use Rattle.gd_base.specs.declared.fault.ViewWhy.{ViewWhy}
 use Rattle.gd_effects.proofs.Doing.{did_as, did_then, does_as, does_more, does_some_works, does_then, does_when, does_works, told_before}
 use Rattle.gd_effects.proofs.NodeEnds.{ends_as, runs_then}
@@ -8,7 +8,7 @@ use Rattle.gd_effects.proofs.OneRecord.{none_done}
 use Rattle.gd_effects.proofs.RunEnds.{idle_journal, idle_link, no_read}
 use Rattle.gd_effects.specs.Done.{Did, Does}
 use Rattle.gd_effects.specs.Effects.{Effect, Work}
-use Rattle.gd_effects.specs.Endings.{EndsAs, IsUncut, early_status}
+use Rattle.gd_effects.specs.Endings.{EndsAs, IsUncut}
 use Rattle.gd_effects.specs.Outside.{Outside, IsTold, outside}
 use Rattle.gd_effects.specs.Prints.{Prints}
 use Rattle.gd_effects.specs.Runs.{RunsAs, ended}

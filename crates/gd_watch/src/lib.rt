@@ -3,7 +3,6 @@
 
 mod ending;
 mod items;
-mod refusing;
 mod showing;
 mod snapshotting;
 mod taking;

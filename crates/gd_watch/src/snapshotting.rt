@@ -13,9 +13,9 @@ ghost use Rattle.gd_outside.specs.Told.{told};
 ghost use Rattle.gd_reference.specs.SlowRun.{IsReaderEnd, ended_by};
 ghost use Rattle.gd_viewing.specs.Handing.{snapshot_of as handed};
 ghost use Rattle.gd_viewing.specs.Snapshotting.{of_snapshot, site_of, snapshotted};
-ghost use Rattle.gd_watch.specs.Capturing.{steps_of, TookFirst};
+ghost use Rattle.gd_arriving.specs.Arriving.{PaidFront};
+ghost use Rattle.gd_watch.specs.Capturing.{steps_of};
 
-use crate::refusing::refuse;
 use gd_base::Steps;
 use gd_capture::snapshot_of;
 use gd_effects::status_of;
@@ -23,6 +23,7 @@ use gd_events::EventList;
 use gd_handover::{Snapshot, write_snapshot};
 use gd_logs::{LogFault, ReadError, read_whole_of};
 use gd_outside::{End, Sink, Source, Status};
+use gd_reading::refuse;
 use gd_site::Site;
 use gd_wire::{Drawings, LogHeader};
 use std::alloc::{AllocError, Global};
@@ -98,7 +99,7 @@ fn capture<L: Ledger>(
     ensures steps { OnOk result
         (steps.new ≡ steps.old + sum (steps_of (site_of header.now events.now))) }
     ensures err_steps { OnErr result
-        (TookFirst (steps_of (site_of header.now events.now)) steps.old steps.new) }
+        (PaidFront (steps_of (site_of header.now events.now)) steps.old steps.new) }
 {
     let site = Site::from_log(
         alloc,

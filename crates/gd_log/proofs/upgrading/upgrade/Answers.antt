@@ -8,7 +8,8 @@ use Rattle.gd_logs.specs.Logs.{LogIs}
 use Rattle.gd_logs.specs.declared.log.ReadError.TheVariants.{Log}
 use Rattle.gd_logs.specs.declared.stopped.LogFault.TheVariants.{Bad}
 use Rattle.gd_grammar.specs.Drawings.{drawings}
-use Rattle.gd_log.proofs.ReplayLemmas.{printed_end, silent_by, owes-pieces, owes-line}
+use Rattle.gd_log.proofs.ReplayLemmas.{owes-pieces, owes-line}
+use Rattle.gd_reading.proofs.ReaderLemmas.{printed_end, silent_by}
 use Rattle.gd_log.proofs.upgrading.upgrade.Goals as goal
 
 pub returns-in-Ok-clause-ends : goal.returns-in-Ok-clause-ends

@@ -1,5 +1,5 @@
-use Rattle.std.proofs.Common.{◌+◌, ◌-◌, refl, sym, ap, ◌∙◌, subst, arith}
-use Rattle.gd_viewing.specs.Viewing.{after_item, of_item}
+use Rattle.std.proofs.Common.{◌+◌, ◌-◌, refl, sym, subst, arith}
+use Rattle.gd_viewing.specs.Viewing.{after_item}
 use Rattle.gd_watch.proofs.SoFar.{nothing_so_far, one_more, runs_broken, runs_cut, runs_over, runs_shown, runs_stopped}
 use Rattle.gd_watch.specs.Items.{ComesNext, IsWhole}
 use Rattle.gd_watch.specs.declared.items.Next.{Next}

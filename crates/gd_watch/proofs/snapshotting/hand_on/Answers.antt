@@ -7,14 +7,14 @@ use Rattle.gd_snapshots.specs.Snapshots.{Snapshot}
 use Rattle.gd_viewing.specs.Handing.{snapshot_of}
 use Rattle.gd_viewing.specs.Snapshotting.{site_of}
 use Rattle.gd_watch.specs.Capturing.{steps_of}
-use Rattle.gd_watch.proofs.SnapshotLemmas.{took_some}
+use Rattle.gd_reading.proofs.ReaderLemmas.{some_arrived}
 use Rattle.gd_watch.proofs.snapshotting.hand_on.Goals as goal
 
 pub returns-in_err-snapshot-clause-does : goal.returns-in_err-snapshot-clause-does
 returns-in_err-snapshot-clause-does g c = λ input journal link.
     let slow = site_of c.args.header.now c.args.events.now in
     does_exit c.from_residual.result c.from_residual.ensures.1
-    (took_some (steps_of slow) (g.K.Sink.seen c.args.output.now) c.in_err-snapshot.ensures.err_steps (map Print (snapshot_pieces (snapshot_of slow))) input journal link)
+    (some_arrived (steps_of slow) (g.K.Sink.seen c.args.output.now) c.in_err-snapshot.ensures.err_steps (map Print (snapshot_pieces (snapshot_of slow))) input journal link)
 
 pub returns-clause-does : goal.returns-clause-does
 returns-clause-does g c = λ input journal link.

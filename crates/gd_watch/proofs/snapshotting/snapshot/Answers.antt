@@ -8,7 +8,8 @@ use Rattle.gd_grammar.specs.Drawings.{drawings}
 use Rattle.gd_logs.specs.Logs.{LogIs}
 use Rattle.gd_logs.specs.declared.log.ReadError.TheVariants.{Log}
 use Rattle.gd_logs.specs.declared.stopped.LogFault.TheVariants.{Bad}
-use Rattle.gd_watch.proofs.SnapshotLemmas.{written_end, silent_by, owes-snapshot, owes-refusal}
+use Rattle.gd_watch.proofs.SnapshotLemmas.{owes-snapshot, owes-refusal}
+use Rattle.gd_reading.proofs.ReaderLemmas.{printed_end, silent_by}
 use Rattle.gd_watch.proofs.snapshotting.snapshot.Goals as goal
 
 pub returns-in-Ok-clause-ends : goal.returns-in-Ok-clause-ends
@@ -43,7 +44,7 @@ returns-in-Ok-clause-most_steps g c = λ is_told.
     ends_most c.status_of.result _ (returns-in-Ok-clause-ends g c idle_journal idle_link) is_told
 
 pub returns-in-Ok-clause-kinds : goal.returns-in-Ok-clause-kinds
-returns-in-Ok-clause-kinds g c = rw c.status_of.ensures (written_end c.hand_on-done.result Done tt c.hand_on-done.ensures.does)
+returns-in-Ok-clause-kinds g c = rw c.status_of.ensures (printed_end c.hand_on-done.result Done tt c.hand_on-done.ensures.does)
 
 pub returns-in-Ok-clause-silent : goal.returns-in-Ok-clause-silent
 returns-in-Ok-clause-silent g c = silent_by _ c.hand_on-done.result Done c.status_of.ensures tt c.hand_on-done.ensures.does c.hand_on-done.ensures.silent
@@ -53,7 +54,7 @@ returns-in-Ok-clause-unread g c = λ e. absurd (status_unread c.hand_on-done.res
 
 pub returns-in-Err-Log-Bad-clause-kinds : goal.returns-in-Err-Log-Bad-clause-kinds
 returns-in-Err-Log-Bad-clause-kinds g c =
-    rw c.status_of-in-Err-Log-Bad.ensures (written_end c.refuse.result BadLog tt (λ input journal link. c.refuse.ensures.does input journal link c.args.steps.now))
+    rw c.status_of-in-Err-Log-Bad.ensures (printed_end c.refuse.result BadLog tt (λ input journal link. c.refuse.ensures.does input journal link c.args.steps.now))
 
 pub returns-in-Err-Log-Bad-clause-silent : goal.returns-in-Err-Log-Bad-clause-silent
 returns-in-Err-Log-Bad-clause-silent g c =

@@ -4,7 +4,7 @@ use Rattle.gd_effects.proofs.Doing.{does_as}
 use Rattle.gd_lines.specs.Replies.{reply_text}
 use Rattle.gd_lines.specs.declared.reply.Reply.{Reply}
 use Rattle.gd_reference.specs.SlowRun.{counts_lines}
-use Rattle.gd_log.proofs.lines.write_counts.Goals as goal
+use Rattle.gd_reading.proofs.counting.write_counts.Goals as goal
 
 pub returns-clause-does : goal.returns-clause-does
 returns-clause-does g c = λ input journal link steps.
