@@ -16,6 +16,11 @@ pub enum Command {
     Snapshot,
     /// Read a snapshot and the frames behind it, and print the drawing.
     View,
+    /// Read a log of cards, and print the board of its events.
+    Board {
+        /// Whether it is counted, besides, how the events went.
+        counts: bool,
+    },
     /// Be one site of a session: answer lines, keep a journal, and exchange frames with the other sites.
     Node {
         session: u32,

@@ -17,7 +17,7 @@ use Rattle.gd_commands.specs.Node.{both as both_of, node_command, node_form, nod
 use Rattle.gd_commands.specs.Rehearse.{rehearse_form}
 use Rattle.gd_commands.specs.Churn.{churn_form}
 use Rattle.gd_commands.specs.Commands.{command_of}
-use Rattle.gd_commands.specs.Plain.{IsNumberFrom, IsPlain, IsPlainMember, IsPlainWord, Node, Plain, Rehearse, Rejoin, Replay, Churn, Snapshot, Upgrade, View, member_words, plain_command, plain_words}
+use Rattle.gd_commands.specs.Plain.{Board, IsNumberFrom, IsPlain, IsPlainMember, IsPlainWord, Node, Plain, Rehearse, Rejoin, Replay, Churn, Snapshot, Upgrade, View, member_words, plain_command, plain_words}
 use Rattle.gd_commands.proofs.Asked.{asked_where_taken}
 use Rattle.gd_commands.proofs.NodeWords.{all_rows, flag_words, node_rows, node_taken}
 use Rattle.gd_commands.proofs.PairWords.{churn_rows, churn_taken, rehearse_rows, rehearse_taken}
@@ -68,6 +68,11 @@ view_asked : command_of (plain_words View) ≡ Some (plain_command View)
 unfolding command_of asked_by clap_on_literals
 view_asked = refl
 
+board_asked : (counts : Bool) → command_of (plain_words (Board counts)) ≡ Some (plain_command (Board counts))
+unfolding command_of asked_by clap_on_literals
+board_asked false = refl
+board_asked true = refl
+
 rehearse_asked : (sites : Text) → IsPlain (Rehearse sites) → command_of (plain_words (Rehearse sites)) ≡ Some (plain_command (Rehearse sites))
 unfolding command_of
 rehearse_asked sites range =
@@ -110,6 +115,7 @@ plain_is_asked (Replay f counts) range = replay_asked f counts
 plain_is_asked Upgrade range = upgrade_asked
 plain_is_asked Snapshot range = snapshot_asked
 plain_is_asked View range = view_asked
+plain_is_asked (Board counts) range = board_asked counts
 plain_is_asked (Node session site journal addresses) range = member_asked false session site journal addresses range
 plain_is_asked (Rejoin session site journal addresses) range = member_asked true session site journal addresses range
 plain_is_asked (Rehearse sites) range = rehearse_asked sites range

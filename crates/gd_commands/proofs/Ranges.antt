@@ -142,14 +142,26 @@ all_ranged (form ∷ rest) name words in_range c h =
 forms_ranged : AskInRange forms
 forms_ranged = (
   (λ rows. replay_ranged (format_or_text (first_of (codes "format") rows)) (is_set (first_of (codes "counts") rows))),
-  (λ rows. lone_ranged command.Upgrade tt),
-  (λ rows. lone_ranged command.Snapshot tt),
-  (λ rows. lone_ranged command.View tt),
-  (λ rows. node_ranged (first_of (codes "resume") rows) (first_of (codes "session") rows) (first_of (codes "site") rows)
-      (first_of (codes "journal") rows) (all_of (codes "address") rows)),
-  (λ rows. rehearse_ranged (first_of (codes "sites") rows)),
-  (λ rows. churn_ranged (first_of (codes "seed") rows) (first_of (codes "steps") rows)),
-  tt,
+  (
+    (λ rows. lone_ranged command.Upgrade tt),
+    (
+      (λ rows. lone_ranged command.Snapshot tt),
+      (
+        (λ rows. lone_ranged command.View tt),
+        (
+          (λ rows. lone_ranged (command.Board (is_set (first_of (codes "counts") rows))) tt),
+          (
+            (λ rows. node_ranged (first_of (codes "resume") rows) (first_of (codes "session") rows) (first_of (codes "site") rows)
+                (first_of (codes "journal") rows) (all_of (codes "address") rows)),
+            (
+              (λ rows. rehearse_ranged (first_of (codes "sites") rows)),
+              ((λ rows. churn_ranged (first_of (codes "seed") rows) (first_of (codes "steps") rows)), tt),
+            ),
+          ),
+        ),
+      ),
+    ),
+  ),
 )
 
 pub asked_in_range : (words : List Text) (c : Command) → command_of words ≡ Some c → IsInRange c

@@ -2,6 +2,7 @@
 use Rattle.std.specs.Prelude.{List, [], ◌∷◌, Option, None, bytes_eq, if◌then◌else◌}
 use Rattle.clap.specs.Words.{Text}
 use Rattle.gd_asked.specs.declared.command.Command.{Command}
+use Rattle.gd_commands.specs.Board.{board_form}
 use Rattle.gd_commands.specs.Forms.{Form, asked_by}
 use Rattle.gd_commands.specs.Replay.{replay_form}
 use Rattle.gd_commands.specs.Lone.{snapshot_form, upgrade_form, view_form}
@@ -11,7 +12,7 @@ use Rattle.gd_commands.specs.Churn.{churn_form}
 
 abbrev pub forms : List Form
 forms =
-    replay_form ∷ upgrade_form ∷ snapshot_form ∷ view_form ∷ node_form ∷ rehearse_form ∷ churn_form ∷ []
+    replay_form ∷ upgrade_form ∷ snapshot_form ∷ view_form ∷ board_form ∷ node_form ∷ rehearse_form ∷ churn_form ∷ []
 
 abbrev pub asked_by_one : List Form → Text → List Text → Option Command
 asked_by_one [] name words = None

@@ -2,6 +2,7 @@ pub mod Numbers
 pub mod Forms
 pub mod Replay
 pub mod Lone
+pub mod Board
 pub mod Node
 pub mod Rehearse
 pub mod Churn

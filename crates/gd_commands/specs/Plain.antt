@@ -17,6 +17,7 @@ pub data Plain : Type 0 where
   Upgrade : Plain
   Snapshot : Plain
   View : Plain
+  Board : (counts : Bool) → Plain
   Node : (session : Text) → (site : Text) → (journal : Text) → (addresses : List Text) → Plain
   Rejoin : (session : Text) → (site : Text) → (journal : Text) → (addresses : List Text) → Plain
   Rehearse : (sites : Text) → Plain
@@ -45,6 +46,7 @@ plain_words (Replay format counts) = codes "replay" ∷ (format_words format ++ 
 plain_words Upgrade = codes "upgrade" ∷ []
 plain_words Snapshot = codes "snapshot" ∷ []
 plain_words View = codes "view" ∷ []
+plain_words (Board counts) = codes "board" ∷ counts_words counts
 plain_words (Node session site journal addresses) = codes "node" ∷ member_words session site journal addresses
 plain_words (Rejoin session site journal addresses) =
     codes "node" ∷ codes "--resume" ∷ member_words session site journal addresses
@@ -61,6 +63,7 @@ plain_command (Replay format counts) = command.Replay (format_meant format) coun
 plain_command Upgrade = command.Upgrade
 plain_command Snapshot = command.Snapshot
 plain_command View = command.View
+plain_command (Board counts) = command.Board counts
 plain_command (Node session site journal addresses) =
     command.Node (digits_value 10 session) (digits_value 10 site) journal addresses
 plain_command (Rejoin session site journal addresses) =
@@ -92,6 +95,7 @@ IsPlain (Replay format counts) = Unit {0}
 IsPlain Upgrade = Unit {0}
 IsPlain Snapshot = Unit {0}
 IsPlain View = Unit {0}
+IsPlain (Board counts) = Unit {0}
 IsPlain (Node session site journal addresses) = IsPlainMember session site journal addresses
 IsPlain (Rejoin session site journal addresses) = IsPlainMember session site journal addresses
 IsPlain (Rehearse sites) = IsNumberFrom 1 SITES sites

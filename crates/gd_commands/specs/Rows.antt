@@ -2,7 +2,7 @@
 use Rattle.std.specs.Prelude.{◌≡◌, ◌-◌, ◌^◌, ◌==◌, ℕ, true, false, List, [], ◌∷◌, map, Option, Some, None, codes, if◌then◌else◌}
 use Rattle.clap.specs.Words.{Text}
 use Rattle.gd_asked.specs.declared.command.Command.{Command}
-use Rattle.gd_asked.specs.declared.command.Command.TheVariants.{Replay, Upgrade, Snapshot, View, Node, Rejoin, Rehearse, Churn}
+use Rattle.gd_asked.specs.declared.command.Command.TheVariants.{Replay, Upgrade, Snapshot, View, Board, Node, Rejoin, Rehearse, Churn}
 use Rattle.gd_options.specs.declared.format.Format.TheVariants as format
 use Rattle.gd_commands.specs.Commands.{command_of}
 
@@ -49,6 +49,11 @@ other_rows =
     ∷ asks (codes "view") View
     ∷ refused (codes "view -- x")
     ∷ refused (codes "view -h")
+    ∷ asks (codes "board") (Board false)
+    ∷ asks (codes "board --counts") (Board true)
+    ∷ refused (codes "board --counts --counts")
+    ∷ refused (codes "board --format text")
+    ∷ refused (codes "board cards")
     ∷ []
 
 abbrev pub replay_rows : List Row

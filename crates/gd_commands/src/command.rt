@@ -4,6 +4,7 @@ ghost use Rattle.std.specs.Prelude.{◌≡◌, ◌∷◌, IfOk, Some, None};
 ghost use Rattle.gd_asked.specs.InRange.{IsInRange};
 ghost use Rattle.gd_commands.specs.Commands.{command_of};
 
+use crate::board::read_board;
 use crate::churn::read_churn;
 use crate::fault::CommandFault;
 use crate::lone::read_lone;
@@ -41,11 +42,13 @@ fn read_named(alloc: Global, name: &str, words: &[Word]) -> Result<Command, Comm
     if name == "replay" {
         read_replay(alloc, words)
     } else if name == "upgrade" {
-        read_lone(alloc, name, Command::Upgrade, words)
+        read_lone(alloc, "upgrade", Command::Upgrade, words)
     } else if name == "snapshot" {
-        read_lone(alloc, name, Command::Snapshot, words)
+        read_lone(alloc, "snapshot", Command::Snapshot, words)
     } else if name == "view" {
-        read_lone(alloc, name, Command::View, words)
+        read_lone(alloc, "view", Command::View, words)
+    } else if name == "board" {
+        read_board(alloc, words)
     } else if name == "node" {
         read_node(alloc, words)
     } else if name == "rehearse" {

@@ -1,6 +1,7 @@
 //! What the words of a command line ask for. `clap` reads them, as one simple command for each name; no caller sees it.
 #![tactic(auto)]
 
+mod board;
 mod churn;
 mod command;
 mod fault;

@@ -6,7 +6,7 @@ use std::alloc::{AllocError, Global};
 use std::test::Fail;
 
 /// What is read of the words of a line, one space between two of them.
-const LINES: [(&str, &str); 59] = [
+const LINES: [(&str, &str); 63] = [
     ("", "usage"),
     ("paint", "usage"),
     ("Replay", "usage"),
@@ -34,6 +34,10 @@ const LINES: [(&str, &str); 59] = [
     ("view", "view"),
     ("view -- x", "usage"),
     ("view -h", "usage"),
+    ("board", "board false"),
+    ("board --counts", "board true"),
+    ("board --counts --counts", "usage"),
+    ("board --format text", "usage"),
     (
         "node --session 7 --site 1 --journal j A B",
         "node 7 1 j A B",
@@ -134,6 +138,7 @@ fn command_text(alloc: Global, command: &Command) -> Result<String, AllocError> 
         Command::Upgrade => String::from_str(alloc, "upgrade"),
         Command::Snapshot => String::from_str(alloc, "snapshot"),
         Command::View => String::from_str(alloc, "view"),
+        Command::Board { counts } => format!(in alloc; "board {counts}"),
         Command::Node {
             session,
             site,

@@ -4,10 +4,11 @@
 -- a journal and a link, and only one that goes on from its journal looks at what is in it. The others read the whole input
 -- before they do anything.
 use Rattle.std.specs.Prelude.{ℕ, List, [], ◌∷◌, length, Option, Some, None}
+use Rattle.gd_boarding.specs.Boarding.{board_end, boarded}
 use Rattle.gd_effects.specs.Effects.{Effect}
 use Rattle.gd_lines.specs.declared.reply.Reply.TheVariants as reply
 use Rattle.gd_asked.specs.declared.command.Command.{Command}
-use Rattle.gd_asked.specs.declared.command.Command.TheVariants.{Replay, Upgrade, Snapshot, View, Node, Rejoin, Rehearse, Churn}
+use Rattle.gd_asked.specs.declared.command.Command.TheVariants.{Replay, Upgrade, Snapshot, View, Board, Node, Rejoin, Rehearse, Churn}
 use Rattle.gd_outside.specs.Seen.{Entry}
 use Rattle.gd_outside.specs.declared.status.Status.{Status}
 use Rattle.gd_outside.specs.declared.status.Status.TheVariants as status
@@ -32,6 +33,7 @@ effects_of (Some (Replay format counts)) contents input entries = replayed forma
 effects_of (Some Upgrade) contents input entries = upgraded_log input
 effects_of (Some Snapshot) contents input entries = snapshotted input
 effects_of (Some View) contents input entries = view_effects input
+effects_of (Some (Board counts)) contents input entries = boarded counts input
 effects_of (Some (Node session site journal addresses)) contents input entries =
     node_effects site (length addresses) session entries (node_lines input)
 effects_of (Some (Rejoin session site journal addresses)) contents input entries =
@@ -47,6 +49,7 @@ end_of (Some (Replay format counts)) contents input = ended_by input
 end_of (Some Upgrade) contents input = ended_by input
 end_of (Some Snapshot) contents input = ended_by input
 end_of (Some View) contents input = view_end input
+end_of (Some (Board counts)) contents input = board_end input
 end_of (Some (Node session site journal addresses)) contents input = end_after (node_lines input)
 end_of (Some (Rejoin session site journal addresses)) contents input =
     rejoined_end (found_by session site addresses contents) (node_lines input)

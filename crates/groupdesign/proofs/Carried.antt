@@ -1,6 +1,7 @@
 -- What the runs of the commands leave, and that the headline follows from it.
 use Rattle.std.proofs.Common.{◌≡◌, ℕ, Bool, List, [], ◌∷◌, ◌⊎◌, inl, inr, ⊎_elim, refl, sym, ◌∙◌, ap, subst, arith}
 use Rattle.std.specs.Prelude.{length, Option, Some, None, Result, Ok, Err, IsSome, ⊤}
+use Rattle.gd_boarding.specs.Boarding.{board_end, boarded}
 use Rattle.gd_commands.proofs.PlainForms.{plain_is_asked}
 use Rattle.gd_commands.specs.Commands.{command_of}
 use Rattle.gd_commands.specs.Plain.{IsPlain, Plain, plain_command, plain_words}
@@ -16,7 +17,7 @@ use Rattle.gd_node.specs.Configs.{ConfigValue}
 use Rattle.gd_node.specs.Rejoining.{IsRejoinEnd, IsRenamedBy, IsToldAll, KeepsFound, found_in, rejoins, rejoins_for_part}
 use Rattle.gd_node.specs.Serving.{IsNamedBy, IsNodeEnd, KeepsBegun, OnceBegun, served, served_of_part}
 use Rattle.gd_asked.specs.declared.command.Command.{Command}
-use Rattle.gd_asked.specs.declared.command.Command.TheVariants.{Replay, Upgrade, Snapshot, View, Node, Rejoin, Rehearse, Churn}
+use Rattle.gd_asked.specs.declared.command.Command.TheVariants.{Replay, Upgrade, Snapshot, View, Board, Node, Rejoin, Rehearse, Churn}
 use Rattle.gd_options.specs.declared.format.Format.{Format}
 use Rattle.gd_outside.specs.Seen.{SeenSource, SeenSink, SeenJournal, SeenLink}
 use Rattle.gd_outside.specs.Told.{told}
@@ -226,6 +227,19 @@ module _ {input input' : SeenSource} {output output' : SeenSink} (journal : Seen
       → EndsAs (IsSome input'.left) (snapshotted (told input.left)) no_effects (ended_by (told input.left)) s (outside input output journal link steps) (outside input' output' journal link steps')
       → Carried (Some Snapshot) s (outside input output journal link steps) (outside input' output' journal link steps')
   carried_snapshot unread ends = record {
+    ends = inl ends;
+    kind = kind;
+    untouched = (refl, refl);
+    silent = (λ q. silent (silent_by s q), unread);
+    named = tt;
+    keeps = tt;
+    opens_first = opens_none _ _ s (λ e. subst IsReaderEnd e kind);
+  }
+
+  pub carried_board : {steps steps' : ℕ} (counts : Bool) → (s ≡ ReadFault → steps' ≡ steps)
+      → EndsAs (IsSome input'.left) (boarded counts (told input.left)) no_effects (board_end (told input.left)) s (outside input output journal link steps) (outside input' output' journal link steps')
+      → Carried (Some (Board counts)) s (outside input output journal link steps) (outside input' output' journal link steps')
+  carried_board counts unread ends = record {
     ends = inl ends;
     kind = kind;
     untouched = (refl, refl);

@@ -2,8 +2,9 @@
 
 ghost use Rattle.std.specs.Prelude.{◌≡◌, ℕ, Bool, List, Option, Some, length};
 ghost use Rattle.std.specs.Str.Parse.{digits_value};
+ghost use Rattle.gd_boarding.specs.Boarding.{boarded};
 ghost use Rattle.gd_commands.specs.Commands.{command_of};
-ghost use Rattle.gd_commands.specs.Plain.Plain.{Churn, Node, Rehearse, Rejoin, Replay, Snapshot, Upgrade, View};
+ghost use Rattle.gd_commands.specs.Plain.Plain.{Board, Churn, Node, Rehearse, Rejoin, Replay, Snapshot, Upgrade, View};
 ghost use Rattle.gd_commands.specs.Plain.{IsPlain, Plain, format_meant, plain_command, plain_words};
 ghost use Rattle.gd_options.specs.declared.format.Format.{Format};
 ghost use Rattle.gd_outside.specs.Seen.{Entry};
@@ -38,6 +39,9 @@ pub fn plain_words_are_carried_out()
     ensures view { (contents input : List ℕ) (entries : List Entry)
         → effects_of (command_of (plain_words View)) contents input entries
         ≡ view_effects input }
+    ensures board { (counts : Bool) (contents input : List ℕ) (entries : List Entry)
+        → effects_of (command_of (plain_words (Board counts))) contents input entries
+        ≡ boarded counts input }
     ensures node { (n s j : List ℕ) (addresses : List (List ℕ)) (contents input : List ℕ)
         (entries : List Entry) → IsPlain (Node n s j addresses)
         → effects_of (command_of (plain_words (Node n s j addresses))) contents input entries

@@ -8,6 +8,7 @@ ghost use Rattle.groupdesign.specs.Carrying.{Carried};
 ghost use Rattle.groupdesign.specs.Headline.{Headline};
 
 use gd_base::Steps;
+use gd_board::board;
 use gd_commands::{Command, CommandFault, read_command};
 use gd_effects::{print, status_of};
 use gd_log::{replay, upgrade};
@@ -19,8 +20,8 @@ use gd_world::{churn, rehearse};
 use std::alloc::Global;
 use std::sync::ledger::Ledger;
 
-/// Carries out the command that the words ask for: `replay`, `upgrade`, `snapshot`, `view`, `node`, `node --resume`, `rehearse`
-/// or `churn`.
+/// Carries out the command that the words ask for: `replay`, `upgrade`, `snapshot`, `view`, `board`, `node`, `node --resume`,
+/// `rehearse` or `churn`.
 ///
 /// `Usage` after the usage line, where the words ask for none of these; `NoMemory` where memory ran out; else what the command
 /// returns. The steps rise by what the arrivals of events cost.
@@ -73,6 +74,7 @@ fn carry_out<S: Source, K: Sink, J: Journal, N: Link, L: Ledger>(
         Command::Upgrade => upgrade(alloc, input, output),
         Command::Snapshot => snapshot(alloc, input, output, steps),
         Command::View => view(alloc, input, output, steps),
+        Command::Board { counts } => board(alloc, input, output, counts, steps),
         Command::Node {
             session,
             site,

@@ -1,11 +1,12 @@
 //! Rows worked by hand, cuts and faults, each through `run` over objects in memory; nodes, alone and together, rehearsals and
-//! churns over such objects too; snapshots, and who looks on; standard input and output over readers and writers of their own;
-//! late events on the history of a drawing; and how each two operations bear on each other.
+//! churns over such objects too; snapshots, and who looks on; card boards; standard input and output over readers and writers of
+//! their own; late events on the history of a drawing; and how each two operations bear on each other.
 
 ghost use Rattle.std.specs.Prelude.{◌≡◌, ◌<◌};
 
 mod altered;
 mod arrivals;
+mod boards;
 mod changed_snapshots;
 mod changes;
 mod churns;

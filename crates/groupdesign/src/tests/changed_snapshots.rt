@@ -72,38 +72,37 @@ fn fill(at: usize, byte: usize, value: u8) -> Fate {
 
 /// The length of the label, in front of that many bytes, which have control characters among them.
 fn label(at: usize, value: u8) -> Fate {
-    let behind = TIE_SNAPSHOT.len().saturating_sub(at + 1);
+    let behind = TIE_SNAPSHOT.len().saturating_sub(at.saturating_add(1));
     if value > 200 {
         Fate::Bad("Field", at)
     } else if usize::from(value) > behind {
         Fate::Bad("Short", TIE_SNAPSHOT.len())
     } else {
-        Fate::Bad("Field", at + 1)
+        Fate::Bad("Field", at.saturating_add(1))
     }
 }
 
 /// The flag of a link, whose group would be of the site 0.
 fn link(at: usize, value: u8) -> Fate {
-    field(if value == 1 { at + 7 } else { at }, false)
+    let place = if value == 1 { at.saturating_add(7) } else { at };
+    field(place, false)
 }
 
-/// A byte of an object behind its id.
-fn object(start: usize, at: usize, value: u8) -> Fate {
-    match at - start {
+/// A byte of an object, so many behind the first one that isn't of its id.
+fn object(at: usize, offset: usize, value: u8) -> Fate {
+    match offset {
         0 => field(at, value >= 1 && value <= 5),
-        1..=4 => place(start + 1, at - start - 1, value),
-        5..=8 => place(start + 5, at - start - 5, value),
-        9..=12 => size(start + 9, at - start - 9, value),
-        13..=16 => size(start + 13, at - start - 13, value),
+        1 | 5 => place(at, 0, value),
+        9 | 13 => size(at, 0, value),
+        10 | 14 => size(at.saturating_sub(1), 1, value),
         17 => field(at, false),
-        18..=20 => Fate::Shown,
-        21..=24 => fill(start + 21, at - start - 21, value),
+        21 => fill(at, 0, value),
+        22..=24 => field(at.saturating_sub(offset.saturating_sub(21)), false),
         25 => field(at, value >= 1 && value <= 64),
         26 => label(at, value),
         27 => link(at, value),
-        28 => field(at, value <= 1),
-        29 => field(at, value <= 1),
-        35 => field(start + 30, value != 0),
+        28 | 29 => field(at, value <= 1),
+        35 => field(at.saturating_sub(5), value != 0),
         36 => field(at, is_site(value)),
         _ => Fate::Shown,
     }
@@ -157,9 +156,9 @@ fn fate_of(at: usize, value: u8) -> Fate {
         13..=18 | 21..=26 => Fate::Shown,
         27..=30 => objects(at, value),
         31..=37 => first_id(at, value),
-        38..=74 => object(38, at, value),
+        38..=74 => object(at, at.saturating_sub(38), value),
         75..=81 => second_id(at, value),
-        82..=118 => object(82, at, value),
+        82..=118 => object(at, at.saturating_sub(82), value),
         _ => Fate::Bad("Field", 119),
     }
 }
@@ -196,7 +195,9 @@ fn a_snapshot_with_a_changed_byte_is_bad_or_shown(rt: HostRuntime) -> Result<(),
         for change in [1, 2, 4, 8, 16, 32, 64, 128, 255] {
             let value = *was ^ change;
             let mut bytes = TIE_SNAPSHOT;
-            bytes[at] = value;
+            if let Some(byte) = bytes.get_mut(at) {
+                *byte = value;
+            }
             let fate = fate_of(at, value);
             assert!(rt;
                 is_met(rt.alloc(), &bytes, fate)?,

@@ -20,11 +20,11 @@ fn a_log_is_handed_on_without_its_history(rt: HostRuntime) -> Result<(), test::F
     let (status, output) = ran_over(rt.alloc(), &["snapshot"], &TIE)?;
     assert_eq!(rt; status, Status::Done);
     assert_eq!(rt; output.bytes(), TIE_SNAPSHOT.as_slice());
-    let (status, output) = ran_over(rt.alloc(), &["snapshot"], &TIE[..40])?;
+    let (status, output) = ran_over(rt.alloc(), &["snapshot"], &TIE[..41])?;
     assert_eq!(rt; status, Status::BadLog);
     assert_eq!(rt;
         output.bytes(),
-        bad_log(rt.alloc(), 40, "Short")?.as_bytes()
+        bad_log(rt.alloc(), 41, "Short")?.as_bytes()
     );
     Ok(())
 }

@@ -1,6 +1,6 @@
 use Rattle.std.proofs.Common.{ap}
 use Rattle.gd_commands.proofs.PlainForms.{plain_is_asked}
-use Rattle.gd_commands.specs.Plain.Plain.{Churn, Node, Rehearse, Rejoin, Replay, Snapshot, Upgrade, View}
+use Rattle.gd_commands.specs.Plain.Plain.{Board, Churn, Node, Rehearse, Rejoin, Replay, Snapshot, Upgrade, View}
 use Rattle.gd_run.specs.Runs.{effects_of, end_of}
 use Rattle.groupdesign.proofs.laws.plain_words_are_carried_out.Goals as goal
 
@@ -21,6 +21,9 @@ returns-clause-snapshot c = λ contents input entries. returns-clause-effects c 
 
 pub returns-clause-view : goal.returns-clause-view
 returns-clause-view c = λ contents input entries. returns-clause-effects c View contents input entries tt
+
+pub returns-clause-board : goal.returns-clause-board
+returns-clause-board c = λ counts contents input entries. returns-clause-effects c (Board counts) contents input entries tt
 
 pub returns-clause-node : goal.returns-clause-node
 returns-clause-node c = λ session site journal addresses contents input entries is. returns-clause-effects c (Node session site journal addresses) contents input entries is

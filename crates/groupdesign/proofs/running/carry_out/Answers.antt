@@ -1,4 +1,4 @@
-use Rattle.groupdesign.proofs.Carried.{carried_as, carried_churn, carried_node, carried_rehearse, carried_rejoin, carried_replay, carried_snapshot, carried_upgrade, carried_view, named_node, named_rejoin}
+use Rattle.groupdesign.proofs.Carried.{carried_as, carried_board, carried_churn, carried_node, carried_rehearse, carried_rejoin, carried_replay, carried_snapshot, carried_upgrade, carried_view, named_node, named_rejoin}
 use Rattle.groupdesign.proofs.running.carry_out.Goals as goal
 
 pub returns-in-Replay : goal.returns-in-Replay
@@ -16,6 +16,10 @@ returns-in-Snapshot g c =
 pub returns-in-View : goal.returns-in-View
 returns-in-View g c =
     carried_as c.in-View.is (carried_view _ _ c.view.result c.view.ensures.kinds (c.view.ensures.ends _ _))
+
+pub returns-in-Board : goal.returns-in-Board
+returns-in-Board g c =
+    carried_as c.in-Board.is (carried_board _ _ c.board.result c.board.ensures.kinds c.board.ensures.silent _ c.board.ensures.unread (c.board.ensures.ends _ _))
 
 pub returns-in-Node : goal.returns-in-Node
 returns-in-Node g c =
