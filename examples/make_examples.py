@@ -22,6 +22,14 @@ A log is a header, then each event behind an open gate, then a closed gate. Numb
     tag 8    ungroup: id (7)
     tag 9    raise: id (7)
     tag 10   lower, in version 2 alone: id (7)
+
+A log of cards has the letters GDOB and version 1, and other events behind the number:
+
+    tag 1    add: column (1); the length of the title (1); the title
+    tag 2    title: id (7); the length of the title (1); the title
+    tag 3    column: id (7); column (1)
+    tag 4    vote: id (7)
+    tag 5    remove: id (7)
 """
 
 from pathlib import Path
@@ -84,13 +92,33 @@ def lower(clock, site):
     return b"\x0A" + stamp(clock, site)
 
 
-def header(drawing, site, sites, version=1):
-    return b"GDOL" + bytes([version]) + pack(">I", drawing) + bytes([site, sites])
+def add_card(column, title):
+    return bytes([1, column]) + labelled(title)
 
 
-def log(drawing, site, sites, events, version=1):
+def title_card(clock, site, title):
+    return b"\x02" + stamp(clock, site) + labelled(title)
+
+
+def put_card(clock, site, column):
+    return b"\x03" + stamp(clock, site) + bytes([column])
+
+
+def vote(clock, site):
+    return b"\x04" + stamp(clock, site)
+
+
+def remove_card(clock, site):
+    return b"\x05" + stamp(clock, site)
+
+
+def header(drawing, site, sites, version=1, magic=b"GDOL"):
+    return magic + bytes([version]) + pack(">I", drawing) + bytes([site, sites])
+
+
+def log(drawing, site, sites, events, version=1, magic=b"GDOL"):
     """The bytes of a log. An event is (clock, site, what it does); its number is counted here."""
-    counts, parts = {}, [header(drawing, site, sites, version)]
+    counts, parts = {}, [header(drawing, site, sites, version, magic)]
     for clock, by, what in events:
         counts[by] = counts.get(by, 0) + 1
         parts.append(OPEN + stamp(clock, by) + pack(">H", counts[by]) + what)
@@ -107,6 +135,37 @@ TWO_SHAPES = log(7, 1, 2, TWO_EVENTS)
 LONG_LABEL = log(7, 1, 1, [
     (1, 1, create(RECT, 0, 0, 900, 20, "0123456789" * 20)),
 ], version=2)
+
+# What `snapshot` makes of two-shapes: what is known of both sites, and the two objects, each with its rank.
+TWO_SHAPES_SNAPSHOT = (
+    b"GDOS" + b"\x02" + pack(">I", 7) + bytes([1, 2])
+    + 2 * (pack(">H", 1) + (1).to_bytes(6, "big"))
+    + pack(">I", 2)
+    + stamp(1, 1) + bytes([ELLIPSE]) + pack(">iiii", 0, 0, 20, 20) + pack(">II", 0, NONE) + b"\x01\0\0\0\x01" + stamp(1, 1)
+    + stamp(1, 2) + bytes([RECT]) + pack(">iiii", 5, 5, 10, 10) + pack(">II", 0, NONE) + b"\x01\0\0\0\x01" + stamp(1, 2)
+    + pack(">I", 0)
+)
+
+# A frame of site 2 to site 1, with its second event, which moves the ellipse.
+MOVED = (
+    b"GDOF" + b"\x02" + pack(">I", 7) + bytes([2, 1]) + pack(">HH", 0, 2) + (2).to_bytes(6, "big") + bytes(2 + 7 + 1)
+    + b"\x01" + stamp(2, 2) + pack(">H", 2) + move(1, 1, 7, 8)
+)
+TWO_SHAPES_VIEW = TWO_SHAPES_SNAPSHOT + pack(">H", len(MOVED)) + MOVED
+
+# Site 1 keeps the log. It hears of a title before the card that it is of, and of a vote after that card is gone.
+CARDS = log(7, 1, 2, [
+    (1, 1, add_card(1, "Ship")),
+    (2, 2, title_card(2, 1, "All hands")),
+    (2, 1, add_card(2, "Crew")),
+    (3, 1, vote(1, 1)),
+    (4, 1, title_card(2, 1, "Hands")),
+    (5, 1, remove_card(1, 1)),
+    (6, 1, add_card(1, "Sails")),
+    (3, 2, vote(1, 1)),
+    (4, 2, vote(2, 1)),
+    (7, 2, put_card(2, 1, 1)),
+], magic=b"GDOB")
 
 # Site 3 only watches. It hears all of site 2 first, and then all of site 1.
 EFFECTS_BEFORE_CAUSES = log(7, 3, 3, [
@@ -215,6 +274,12 @@ def stored_run():
     return log(7, 3, 3, events)[:-len(CLOSED)]
 
 
+# What isn't a log of a drawing.
+OTHERS = {
+    "two-shapes.snapshot": TWO_SHAPES_SNAPSHOT,
+    "two-shapes.view": TWO_SHAPES_VIEW,
+    "cards.board": CARDS,
+}
 EXAMPLES = {
     "two-shapes": TWO_SHAPES,
     # What upgrade makes of it.
@@ -236,4 +301,6 @@ EXAMPLES = {
 if __name__ == "__main__":
     for name, content in EXAMPLES.items():
         Path(__file__).with_name(name + ".log").write_bytes(content)
+    for name, content in OTHERS.items():
+        Path(__file__).with_name(name).write_bytes(content)
     (Path(__file__).resolve().parent.parent / "crates/groupdesign/stdin").write_bytes(stored_run())
