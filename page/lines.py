@@ -1,0 +1,109 @@
+"""Typed lines and printed ones: what a page may have typed, where an answer ends, what a shown line says.
+
+Nothing here judges a drawing. docs/LINES.md has the lines, and the node alone says what becomes of them.
+"""
+
+MOST_BYTES = 1024
+EDITS = frozenset(b"create delete move resize stroke fill width text group ungroup raise lower undo".split())
+NOTES = frozenset([b"name", b"focus"])
+# How the last line of an answer begins, by the first word of what was typed. Any other has one line.
+LAST = {b"poll": (b"polled ", b"link fault "), b"show": (b"end ",), b"who": (b"end ",)}
+ECHOES = ("applied", "dropped", "reworked")
+
+
+class Refused(Exception):
+    """A line isn't typed. Its text is the name that the node gives to such a fault."""
+
+
+def first_word(line):
+    """The first word of a line of bytes, or none. A space is the one byte that parts words."""
+    return next((word for word in line.split(b" ") if word), b"")
+
+
+def typed(text):
+    """The bytes of the one line that `text` is, without its LF. Raises `Refused` where it is more than one line, or none
+    of those that a page may have typed: an edit, an undo, a name or a focus, each of which has one line of answer."""
+    if not isinstance(text, str):
+        raise Refused("UnknownCommand")
+    # A lone half of a pair of surrogates has no bytes in UTF-8.
+    if "\n" in text or "\r" in text or any("\ud800" <= letter <= "\udfff" for letter in text):
+        raise Refused("BadLabel")
+    line = text.encode()
+    if len(line) > MOST_BYTES:
+        raise Refused("LongLine")
+    if first_word(line) not in EDITS | NOTES:
+        raise Refused("UnknownCommand")
+    return line
+
+
+def last_of(line):
+    """How the last line of the answer to a typed line begins."""
+    return LAST.get(first_word(line), (b"",))
+
+
+def item_of(line):
+    """What a line of `show` says of an object, with the keys that the JSON of a drawing has."""
+    words = line.split(" ", 17)
+    item = {"kind": words[0], "id": words[1], "in": None if words[3] == "-" else words[3]}
+    item["at"] = [int(words[5]), int(words[6])]
+    if words[0] != "group":
+        item["size"] = [int(words[8]), int(words[9])]
+        item["stroke"] = words[11]
+        item["fill"] = None if words[13] == "none" else words[13]
+        item["width"] = int(words[15])
+        item["label"] = words[17] if len(words) > 17 else ""
+    return item
+
+
+def note_of(line):
+    """What a line of `who` says of a site."""
+    _, site, name, _, focus = line.split(" ")
+    return {"site": int(site), "name": None if name == "-" else name, "focus": None if focus == "-" else focus}
+
+
+def standing_of(line):
+    """What the answer to `status` says: how many events are held and kept, the line, and the clock."""
+    words = line.split(" ")
+    return {name: int(number) for name, number in zip(words[::2], words[1::2])}
+
+
+def news_of(line):
+    """What a line of a poll's answer says, for the list of what happened: an echo, or a line as it is."""
+    words = line.split(" ")
+    if words[0] != "echo" or words[2] not in ECHOES:
+        return {"what": "said", "line": line}
+    news = {"what": words[2], "event": words[1]}
+    if words[2] == "dropped":
+        news["by"] = words[4]
+    if words[2] == "reworked":
+        news["count"] = int(words[3])
+    return news
+
+
+def datagrams_of(line):
+    """How many datagrams a poll took, by the last line of its answer."""
+    return int(line.split(" ")[-1])
+
+
+# What an end of the node means, by its status (docs/FORMATS.md, section 5).
+MEANINGS = {
+    0: "it was told to end, or its input ended",
+    2: "its words ask for no command",
+    3: "its journal is no log that it can go on from",
+    4: "a read of its input failed",
+    5: "a write of its answers failed",
+    6: "its journal failed: a new one was there already, one to go on from wasn't, or its disk has no room",
+    7: "its link wasn't opened: the address may be taken, or isn't one of this machine",
+    8: "memory ran out",
+    9: "it had answered as many lines as one run takes",
+    11: "its journal is one of another session, site or number of sites",
+    13: "its words couldn't be had",
+    70: "the program isn't built, and the build failed",
+}
+
+
+def meaning_of(status):
+    """What the status of a node's end means, in plain words."""
+    if status < 0:
+        return f"it was ended by signal {-status}"
+    return MEANINGS.get(status, "a status that the program never has")

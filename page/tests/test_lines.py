@@ -1,0 +1,83 @@
+"""Typed and printed lines, against docs/LINES.md and docs/FORMATS.md."""
+
+import unittest
+
+from page.lines import Refused, datagrams_of, item_of, last_of, meaning_of, news_of, note_of, standing_of, typed
+
+
+class Typed(unittest.TestCase):
+    def refused(self, text, why):
+        with self.assertRaises(Refused) as found:
+            typed(text)
+        self.assertEqual(str(found.exception), why, repr(text))
+
+    def test_a_line_is_one_line(self):
+        self.assertEqual(typed("text 1.1  a b "), b"text 1.1  a b ")
+        self.assertEqual(typed("  move 1.1 5 5"), b"  move 1.1 5 5")
+        self.assertEqual(typed("text 1.1 \u00e9\u2028\u0085"), "text 1.1 \u00e9\u2028\u0085".encode())
+
+    def test_line_breaks_never_go_through(self):
+        for text in ("text 1.1 a\nquit", "text 1.1 a\r", "\ntext 1.1 a", "text 1.1 a\n", "text 1.1 a\r\nquit", "\n", "\r"):
+            self.refused(text, "BadLabel")
+
+    def test_what_has_no_bytes_is_refused(self):
+        self.refused("text 1.1 \ud800", "BadLabel")
+
+    def test_the_longest_line(self):
+        self.assertEqual(len(typed("text 1.1 " + "a" * 1015)), 1024)
+        self.refused("text 1.1 " + "a" * 1016, "LongLine")
+        self.refused("text 1.1 " + "\u00e9" * 508, "LongLine")
+
+    def test_only_lines_with_one_line_of_answer_go_through(self):
+        for verb in ("create", "delete", "move", "resize", "stroke", "fill", "width", "text", "group", "ungroup"):
+            self.assertEqual(typed(verb), verb.encode())
+        for verb in ("raise", "lower", "undo", "name", "focus"):
+            self.assertEqual(typed(verb), verb.encode())
+        for text in ("", "   ", "quit", " quit", "poll", "show", "who", "status", "Create", "\tundo", "undo\t", "paint"):
+            self.refused(text, "UnknownCommand")
+
+    def test_what_is_no_text_is_refused(self):
+        for wrong in (None, 1, ["undo"], {"line": "undo"}, True):
+            self.refused(wrong, "UnknownCommand")
+
+
+class Printed(unittest.TestCase):
+    def test_a_shape(self):
+        line = "ellipse 12.16 in 3.1 at -5 0 size 20 -7 stroke 00FFAA fill none width 64"
+        wanted = {"kind": "ellipse", "id": "12.16", "in": "3.1", "at": [-5, 0], "size": [20, -7]}
+        self.assertEqual(item_of(line), {**wanted, "stroke": "00FFAA", "fill": None, "width": 64, "label": ""})
+
+    def test_a_label_is_all_that_follows_one_space(self):
+        line = "text 1.1 in - at 0 0 size 9 9 stroke 000000 fill FFFFFF width 1 text  end 3  text x "
+        item = item_of(line)
+        self.assertEqual((item["label"], item["fill"], item["in"]), (" end 3  text x ", "FFFFFF", None))
+
+    def test_a_group(self):
+        self.assertEqual(item_of("group 3.1 in - at 4 -5"), {"kind": "group", "id": "3.1", "in": None, "at": [4, -5]})
+
+    def test_notes_and_numbers(self):
+        self.assertEqual(note_of("who 2 Ada focus 1.1"), {"site": 2, "name": "Ada", "focus": "1.1"})
+        self.assertEqual(note_of("who 16 - focus -"), {"site": 16, "name": None, "focus": None})
+        standing = {"held": 8, "kept": 1, "line": 7, "clock": 12}
+        self.assertEqual(standing_of("held 8 kept 1 line 7 clock 12"), standing)
+        self.assertEqual(datagrams_of("polled 3"), 3)
+        self.assertEqual(datagrams_of("link fault after 2"), 2)
+
+    def test_what_a_poll_says(self):
+        self.assertEqual(news_of("echo 1.2 applied"), {"what": "applied", "event": "1.2"})
+        self.assertEqual(news_of("echo 1.2 dropped by 2.1"), {"what": "dropped", "event": "1.2", "by": "2.1"})
+        self.assertEqual(news_of("echo 1.2 reworked 17"), {"what": "reworked", "event": "1.2", "count": 17})
+        for line in ("event 1.2 refused: Backdated 1 3", "frame refused: Short at 0", "frame refused: Session"):
+            self.assertEqual(news_of(line), {"what": "said", "line": line})
+
+    def test_where_answers_end(self):
+        self.assertEqual(last_of(b"show"), (b"end ",))
+        self.assertEqual(last_of(b"  who "), (b"end ",))
+        self.assertEqual(last_of(b"poll"), (b"polled ", b"link fault "))
+        self.assertEqual(last_of(b"text 1.1 show"), (b"",))
+
+    def test_each_status_of_a_node_has_a_meaning(self):
+        meanings = [meaning_of(status) for status in (0, 2, 3, 4, 5, 6, 7, 8, 9, 11, 13)]
+        self.assertEqual(len(set(meanings)), 11)
+        self.assertNotIn(meaning_of(1), meanings)
+        self.assertEqual(meaning_of(-9), "it was ended by signal 9")
