@@ -64,7 +64,7 @@ module _ {O : Type 0} where
 
 module _ {O : Type 0} (independent covers : Stamped O → Stamped O → Bool) where
   -- an arrival undoes no more events than there are
-  arrived_undone : (done : List (EventValue O)) (e : EventValue O) → undone_in (arrival_of (outcome_of independent covers done e)) ≤ length done
+  pub arrived_undone : (done : List (EventValue O)) (e : EventValue O) → undone_in (arrival_of (outcome_of independent covers done e)) ≤ length done
   arrived_undone done e =
       let is_later : EventValue O → Bool = λ f. is_before e.stamp f.stamp in
       let events : List (EventValue O) = filter is_later (order.ordered done) in

@@ -2,9 +2,7 @@
 #![tactic(auto)]
 
 mod arriving;
-mod keeping;
 mod tally;
 
-pub use arriving::arrived;
-pub use keeping::Keeping;
+pub use arriving::{arrived, arrived_from};
 pub use tally::Tally;

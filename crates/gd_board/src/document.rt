@@ -3,6 +3,7 @@
 use crate::card_board::CardBoard;
 use crate::kept::Kept;
 use crate::{keys, relations, splices};
+use gd_arrivals::Keeping;
 use gd_base::{Stamp, Steps};
 use gd_cards::{CardBefore, CardOp, PackedCardOp};
 use gd_repair::Document;
@@ -88,5 +89,11 @@ impl Document for CardBoard {
 
     fn key(stamp: Stamp, event: &Kept, _place: usize) -> u64 {
         keys::key(stamp, event)
+    }
+}
+
+impl Keeping for CardBoard {
+    fn keep_packed(alloc: Global, op: PackedCardOp) -> Result<Kept, AllocError> {
+        Kept::new(alloc, op)
     }
 }

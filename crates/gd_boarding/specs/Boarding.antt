@@ -15,9 +15,8 @@ use Rattle.gd_grammar.specs.LogBytes.{LogMisread, log}
 use Rattle.gd_grammar.specs.Reading.{place}
 use Rattle.gd_lines.specs.declared.reply.Reply.TheVariants as reply
 use Rattle.gd_outside.specs.declared.status.Status.{Status}
-use Rattle.gd_outside.specs.declared.status.Status.TheVariants as status
 use Rattle.gd_reference.specs.Said.{says}
-use Rattle.gd_reference.specs.SlowRun.{counts_lines}
+use Rattle.gd_reference.specs.SlowRun.{counts_lines, ended_as}
 
 -- what is done for the events of a log
 abbrev pub board_effects : Bool → List CardEvent → List Effect
@@ -34,10 +33,6 @@ boarded_as counts bytes (Err fault) = says (reply.BadLog (place bytes fault.left
 abbrev pub boarded : Bool → List ℕ → List Effect
 boarded counts bytes = boarded_as counts bytes (log cards bytes)
 
-abbrev pub board_end_as : Result (Header × List CardEvent) LogMisread → Status
-board_end_as (Ok found) = status.Done
-board_end_as (Err fault) = status.BadLog
-
 -- and how that ends
 abbrev pub board_end : List ℕ → Status
-board_end bytes = board_end_as (log cards bytes)
+board_end bytes = ended_as (log cards bytes)

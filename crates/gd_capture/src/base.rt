@@ -21,7 +21,8 @@ pub(crate) fn base_of<L: Ledger>(
     history: &History<Canvas>,
     steps: &mut Steps<L>,
 ) -> Result<Canvas, AllocError>
-    ensures board { IfOk result (λ base. board_of base ≡ base_of drawing_rules board_of history.now) }
+    ensures board { IfOk result (λ base.
+        board_of base ≡ base_of drawing_rules board_of history.now) }
     ensures steps { OnOk result (steps.new ≡ steps.old + length history.now.entries) }
     ensures err_steps { OnErr result (steps.new ≤ steps.old + length history.now.entries) }
     ensures err_rose { OnErr result (steps.old ≤ steps.new) }

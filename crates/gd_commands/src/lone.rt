@@ -17,7 +17,8 @@ pub fn read_lone<S: AsStr>(
     command: Command,
     words: &[S],
 ) -> Result<Command, CommandFault>
-    ensures asked { IfOk result (λ c. asked_by (lone_form name.now command) (map S.text words.now) ≡ Some c) }
+    ensures asked { IfOk result (λ c.
+        asked_by (lone_form name.now command) (map S.text words.now) ≡ Some c) }
     ensures usage { result ≡ Err CommandFault.Usage
         → asked_by (lone_form name.now command) (map S.text words.now) ≡ None }
 {

@@ -68,7 +68,8 @@ impl Ahead {
     pub fn read<S: Source>(&mut self, source: &mut S, most: usize) -> Result<usize, Failed>
         requires room { length self.old < SIZE }
         requires more { length self.old < most }
-        ensures grown { Grown self.old self.new (S.seen source.old) (S.seen source.new) (IsErr result) }
+        ensures grown { Grown self.old self.new (S.seen source.old) (S.seen source.new)
+            (IsErr result) }
         ensures came { IfOk result (λ count. length self.new ≡ length self.old + count) }
         ensures few { IfOk result (λ count. length self.new ≤ most) }
         ensures end { result ≡ Ok 0 → IsSome (S.seen source.new).left

@@ -16,9 +16,9 @@ use gd_snapshots::Known;
 use gd_wire::Bytes;
 
 /// GDOS.
-const MAGIC: u32 = 0x4744_4F53;
+pub(crate) const MAGIC: u32 = 0x4744_4F53;
 
-const VERSION: u8 = 2;
+pub(crate) const VERSION: u8 = 2;
 
 /// A label of an object has at most this many bytes.
 const MOST_LABEL: u8 = 200;

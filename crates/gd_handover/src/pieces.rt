@@ -8,16 +8,12 @@ ghost use Rattle.gd_snapshots.specs.ObjectBytes.{rank_bytes, object_bytes};
 ghost use Rattle.gd_snapshots.specs.SnapshotBytes.{front_bytes, known_bytes, placed_bytes};
 ghost use Rattle.gd_snapshots.specs.Snapshots.{IsKnown};
 
+use crate::fields::{MAGIC, VERSION};
 use crate::snapshot::Snapshot;
 use gd_base::Stamp;
 use gd_model::{Kind, Link, Object, Rank};
 use gd_snapshots::Known;
 use gd_wire::{EventBytes, NO_FILL};
-
-/// GDOS.
-const MAGIC: u32 = 0x4744_4F53;
-
-const VERSION: u8 = 2;
 
 /// The kind of a group, behind those of shapes.
 const GROUP: u8 = 5;

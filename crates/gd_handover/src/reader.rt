@@ -62,7 +62,8 @@ impl Reader {
     /// Takes a piece off the bytes ahead. Else their first fault, and then they stay as they were.
     fn take<P: Piece>(&mut self) -> Result<P, FieldFault>
         requires near { self.old.place ≤ 2 ^ 62 }
-        ensures stands { IfOk result (λ x. Stands P.read P.least self.old.ahead (x, self.new.ahead)) }
+        ensures stands { IfOk result (λ x.
+            Stands P.read P.least self.old.ahead (x, self.new.ahead)) }
         ensures are { IfOk result (λ _. AreBytes self.old.ahead) }
         ensures moved { IfOk result (λ _. self.new.place + length self.new.ahead
             ≡ self.old.place + length self.old.ahead) }
@@ -92,7 +93,8 @@ impl Reader {
         requires near { self.old.place ≤ 2 ^ 62 }
         requires inside { fault.left ≤ length self.old.ahead }
         requires beginning { fault.why ≡ Short → length self.old.ahead < EVENT_BYTES }
-        ensures { GoesOn fault least result self.old self.new (S.seen source.old) (S.seen source.new) }
+        ensures { GoesOn fault least result self.old self.new
+            (S.seen source.old) (S.seen source.new) }
     {
         match fault.why {
             FieldWhy::Short => {

@@ -31,7 +31,8 @@ pub fn a_viewer_prints_its_frames()
 pub fn a_bad_item_ends_a_view()
     ensures effects { AllByRecursion (λ v. view_effects (tie_snapshot_bytes ++ v.behind) ≡ v.done)
         bad_views }
-    ensures end { AllByRecursion (λ v. view_end (tie_snapshot_bytes ++ v.behind) ≡ v.end) bad_views }
+    ensures end { AllByRecursion (λ v. view_end (tie_snapshot_bytes ++ v.behind) ≡ v.end)
+        bad_views }
 {}
 
 /// Bytes that are no snapshot have their fault.

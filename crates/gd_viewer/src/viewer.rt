@@ -1,7 +1,6 @@
 ghost use Rattle.std.specs.Prelude.{◌≡◌, ◌++◌, ◌+◌, ◌≤◌, ℕ, List, sum, IfOk, IsTrue, OnErr, OnOk};
 ghost use Rattle.gd_base.specs.Sites.{is_site};
 ghost use Rattle.gd_base.specs.declared.offer.Offer.TheVariants.{Next};
-ghost use Rattle.gd_canvas.specs.Kept.{op_of};
 ghost use Rattle.gd_history.specs.Histories.{arrival_of};
 ghost use Rattle.gd_model.specs.Arrivals.{cost_of, costs, outcome_of};
 ghost use Rattle.gd_model.specs.Shown.{items};
@@ -15,7 +14,7 @@ ghost use Rattle.gd_viewing.specs.SlowViewer.{SlowViewer, opened, viewed, viewer
 use crate::opening::{canvas_of, heard_of, history_of, snapshot_holds};
 use gd_base::{FrameFault, Offer, Steps};
 use gd_canvas::{Canvas, Kept};
-use gd_events::{Event, Op, PackedOp};
+use gd_events::Event;
 use gd_handover::Snapshot;
 use gd_history::{Arrival, History};
 use gd_site::Taken;
@@ -166,7 +165,7 @@ impl Viewer {
         ensures session { self.new.session ≡ self.old.session }
         ensures sites { self.new.heard.sites ≡ self.old.heard.sites }
     {
-        let kept = kept_of(self.alloc, event.op())?;
+        let kept = Kept::of(self.alloc, event.op())?;
         let stamp = event.stamp();
         let arrival = self.history.arrive(stamp, kept, steps)?;
         self.heard.took(stamp.site(), stamp.clock());
@@ -202,11 +201,4 @@ fn line_of(heard: &Heard) -> u64
     ensures { result ≡ heard_line heard.now }
 {
     heard.least_but(0, heard.sure(1))
-}
-
-/// The operation for the history, with room for its before-value. `AllocError` where memory ran out.
-fn kept_of(alloc: Global, op: &Op) -> Result<Kept, AllocError>
-    ensures { IfOk result (λ kept. op_of kept ≡ op.now) }
-{
-    Kept::new(alloc, PackedOp::of(alloc, op)?)
 }

@@ -19,7 +19,8 @@ ghost use Rattle.gd_viewing.specs.Views.{IsViewOf, taken_by, taken_frames, taken
 pub fn a_viewer_of_a_snapshot_shows_the_site()
     ensures drawing { (slow : SlowSite) → IsWell slow
         → viewed (opened (snapshot_of slow)) ≡ picture slow.held }
-    ensures line { (slow : SlowSite) → IsWell slow → viewer_line (opened (snapshot_of slow)) ≡ line slow }
+    ensures line { (slow : SlowSite) → IsWell slow
+        → viewer_line (opened (snapshot_of slow)) ≡ line slow }
     ensures counts { (slow : SlowSite) (t : ℕ) → IsTrue (is_site slow.sites t)
         → (opened (snapshot_of slow)).count t ≡ count slow t }
     ensures sures { (slow : SlowSite) (t : ℕ) → IsTrue (is_site slow.sites t)
@@ -68,8 +69,8 @@ pub fn viewers_stay_views()
 /// What holds of each viewer of a site's snapshot: what it shows, that its line is no lower than the site's was, that the next
 /// event of a site lies above that one, and that what comes of such an event is what comes of it where all events are held.
 pub fn views_show_all_that_is_held()
-    ensures drawing { (slow : SlowSite) (v : SlowViewer) (fresh : List Event) → IsViewOf slow v fresh
-        → viewed v ≡ picture (slow.held ++ fresh) }
+    ensures drawing { (slow : SlowSite) (v : SlowViewer) (fresh : List Event)
+        → IsViewOf slow v fresh → viewed v ≡ picture (slow.held ++ fresh) }
     ensures line { (slow : SlowSite) (v : SlowViewer) (fresh : List Event) → IsWell slow
         → IsViewOf slow v fresh → line slow ≤ viewer_line v }
     ensures above { (slow : SlowSite) (v : SlowViewer) (fresh : List Event) (e : Event)

@@ -15,8 +15,6 @@ use Rattle.gd_logs.proofs.UpgradeLemmas.{has-newest}
 use Rattle.gd_logs.specs.Steps.{IsFault}
 use Rattle.gd_logs.specs.Written.{AreNext, IsRuled}
 use Rattle.gd_model.specs.Arrivals.{costs}
-use Rattle.gd_outside.specs.declared.end.End.{End}
-use Rattle.gd_outside.specs.declared.status.Status.{Status}
 use Rattle.gd_outside.specs.declared.status.Status.TheVariants as status
 use Rattle.gd_reference.specs.Said.{says}
 use Rattle.gd_reference.specs.SlowRun.{ended_as, ended_by}

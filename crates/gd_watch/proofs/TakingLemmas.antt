@@ -2,17 +2,14 @@
 use Rattle.std.proofs.Common.{◌≡◌, ℕ, ◌+◌, ◌≤◌, Bool, true, false, cond, ◌==◌, List, [], ◌∷◌, ◌++◌, length, refl, sym, ap, ◌∙◌, subst, eqb-true, arith, IsTrue}
 use Rattle.std.proofs.lemmas.Bool.{and_parts}
 use Rattle.std.proofs.lemmas.List.{length-map}
-use Rattle.std.proofs.lemmas.List.Sums.{length-filter, count_by-le-length}
-use Rattle.std.specs.List.{filter}
 use Rattle.std.specs.Prelude.{Option, Some, None, Result, Ok, Err, OnOk}
-use Rattle.gd_answers.specs.Arriving.{IsShort, arrival_reply}
+use Rattle.gd_answers.proofs.Undone.{undone_within}
+use Rattle.gd_answers.specs.Arriving.{arrival_reply}
 use Rattle.gd_base.specs.Sites.{is_site}
-use Rattle.gd_base.specs.Stamps.{is_before}
 use Rattle.gd_base.specs.declared.offer.Offer.{Offer}
 use Rattle.gd_base.specs.declared.offer.Offer.TheVariants.{Next, Repeat, Gap, Backdated}
 use Rattle.gd_base.specs.declared.refusal.FrameFault.{FrameFault}
 use Rattle.gd_base.specs.declared.refusal.FrameFault.TheVariants.{Session, NoSuchSite}
-use Rattle.gd_drawing.proofs.Sizes.{length-ordered}
 use Rattle.gd_effects.proofs.Doing.{does_as, does_then}
 use Rattle.gd_effects.proofs.OneRecord.{nothing_done, worked}
 use Rattle.gd_effects.specs.Done.{DoesAll}
@@ -20,7 +17,6 @@ use Rattle.gd_effects.specs.Effects.{Effect}
 use Rattle.gd_effects.specs.Outside.{outside}
 use Rattle.gd_effects.specs.Prints.{Prints, PrintsInSteps}
 use Rattle.gd_events.specs.Events.{Event}
-use Rattle.gd_events.specs.Ordered.{ordered}
 use Rattle.gd_events.specs.declared.op.Op.{Op}
 use Rattle.gd_grammar.specs.FrameBytes.{AreInTurn, Frame, IsFrame, last_of}
 use Rattle.gd_grammar.specs.Reading.{AllFollow}
@@ -30,12 +26,12 @@ use Rattle.gd_history.specs.Entries.{stamp_of}
 use Rattle.gd_history.specs.Histories.{arrival_of}
 use Rattle.gd_lines.specs.declared.reply.Reply.{Reply}
 use Rattle.gd_lines.specs.declared.reply.Reply.TheVariants as reply
-use Rattle.gd_model.specs.Arrivals.{all_drawn, are_independent, cost_of, drawn, is_covered, outcome_of}
+use Rattle.gd_model.specs.Arrivals.{cost_of, outcome_of}
 use Rattle.gd_outside.specs.Seen.{SeenSource, SeenSink, SeenJournal, SeenLink}
 use Rattle.gd_outside.specs.declared.end.End.{End}
 use Rattle.gd_reference.specs.Said.{all_said, says}
 use Rattle.gd_reference.specs.SiteEffects.{echo, offer_replies}
-use Rattle.gd_repair.specs.Repair.{Stamped, Outcome, applied, closure, closure_from, dropped, is_free, outcome_by, reworked}
+use Rattle.gd_repair.specs.Repair.{Stamped, Outcome, applied, dropped, reworked}
 use Rattle.gd_site.specs.Answers.{checked}
 use Rattle.gd_site.specs.declared.answers.Taken.{Taken}
 use Rattle.gd_viewer.proofs.Counted.{counted_to-few}
@@ -81,32 +77,6 @@ event_done v e t r {old} {new} {a} is paid prints = λ input journal link.
 
 -- ---- an arrival undoes no more events than a session can have
 
-shorter : {E : Type 0} (t : Bool) (f : E) (xs ys fs : List E) → length xs ≤ length fs → length ys ≤ length fs → length (cond t xs (f ∷ ys)) ≤ length (f ∷ fs)
-shorter true f xs ys fs h k = omega arith
-shorter false f xs ys fs h k = omega arith
-
-length-closure : {E : Type 0} (independent : E → E → Bool) (e : E) (cs fs : List E) → length (closure_from independent e cs fs) ≤ length fs
-length-closure independent e cs [] = omega arith
-length-closure independent e cs (f ∷ fs) =
-    shorter (is_free independent (e ∷ cs) f) f (closure_from independent e cs fs) (closure_from independent e (cs ++ f ∷ []) fs) fs
-    (length-closure independent e cs fs) (length-closure independent e (cs ++ f ∷ []) fs)
-
-short_by : {O : Type 0} (covers : Stamped O → Stamped O → Bool) (e : Stamped O) (cs : List (Stamped O)) → length cs ≤ 1048560 → IsShort (arrival_of (outcome_by covers e cs))
-short_by covers e [] h = tt
-short_by {O} covers e (c ∷ cs) h = go (covers c e)
-  where
-    go : (t : Bool) → IsShort (arrival_of (cond t (dropped c) (reworked (c ∷ cs))))
-    go true = tt
-    go false = omega (arith, h, length-map (c ∷ cs) stamp_of)
-
-undone_few : (held : List Event) → length held ≤ 1048560 → (e : Event) → IsShort (arrival_of (outcome_of held e))
-undone_few held held_few e =
-    let is_later : Event → Bool = λ f. is_before e.stamp f.stamp in
-    let events : List Event = filter is_later (ordered held) in
-    let few = length-closure are_independent (drawn e) [] (all_drawn events) in
-    short_by is_covered (drawn e) (closure are_independent (drawn e) (all_drawn events))
-    (omega (arith, few, length-map events drawn, length-filter is_later (ordered held), count_by-le-length is_later (ordered held), length-ordered held, held_few))
-
 held_few : (v : SlowViewer) (s : ViewerValue) → StandsFor v s → length v.held ≤ 1048560
 held_few v s stands = omega (arith, stands.well.made, stands.well.few, counted_to-few v.count v.sites stands.well.numbered)
 
@@ -114,7 +84,7 @@ pub has_few : (v : SlowViewer) (s : ViewerValue) → StandsFor v s → (e : Even
 has_few v s stands e t is = subst HasFew (sym is) (go (viewer_offer v e))
   where
     go : (o : Offer) → HasFew (taken_by o v e)
-    go Next = undone_few v.held (held_few v s stands) e
+    go Next = undone_within v.held (held_few v s stands) e
     go Repeat = tt
     go Gap = tt
     go (Backdated clock sure) = tt

@@ -1,7 +1,6 @@
 //! Frames behind a snapshot, and their events.
 
 ghost use Rattle.std.specs.Prelude.{◌≡◌, OnOk, IsTrue};
-ghost use Rattle.gd_answers.specs.Arriving.{IsShort, arrival_reply};
 ghost use Rattle.gd_base.specs.Sites.{is_site};
 ghost use Rattle.gd_effects.specs.Prints.{PrintsInSteps};
 ghost use Rattle.gd_viewer.specs.Viewers.{StandsFor};
@@ -10,10 +9,9 @@ ghost use Rattle.gd_viewing.specs.ViewerEffects.{of_viewer_event, of_viewer_even
 ghost use Rattle.gd_viewing.specs.Viewing.{after_item, of_item};
 ghost use Rattle.gd_watch.specs.Taking.{AreInside, HasFew, taken_reply};
 
-use gd_answers::say;
+use gd_answers::{arrival_reply, say};
 use gd_base::{Stamp, Steps};
 use gd_events::Event;
-use gd_history::Arrival;
 use gd_outside::{End, Sink};
 use gd_site::Taken;
 use gd_viewer::Viewer;
@@ -123,20 +121,5 @@ fn taken_reply(id: Stamp, taken: &Taken) -> Option<Reply>
             clock: *clock,
             sure: *sure,
         }),
-    }
-}
-
-/// What is said of an event with that stamp that was taken.
-fn arrival_reply(id: Stamp, arrival: &Arrival) -> Reply
-    requires { IsShort arrival.now }
-    ensures { result ≡ arrival_reply id arrival.now }
-{
-    match arrival {
-        Arrival::Applied => Reply::Applied { id },
-        Arrival::Dropped { by } => Reply::Dropped { id, by: *by },
-        Arrival::Reworked { undone } => {
-            let count = undone.len() as u32;
-            Reply::Reworked { id, count }
-        }
     }
 }
