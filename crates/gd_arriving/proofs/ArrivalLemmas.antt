@@ -11,6 +11,7 @@ use Rattle.gd_base.specs.Stamps.{Stamp, is_same, is_before}
 use Rattle.gd_base.specs.declared.ranges.TheConstants.{SESSION_EVENTS}
 use Rattle.gd_base.proofs.StampLemmas.{is_same-refl, is_same-comm}
 use Rattle.gd_base.proofs.Insertions.{all-inserted, length-all_inserted}
+use Rattle.gd_base.proofs.Lists.{Every-back}
 use Rattle.gd_events.specs.Events.{EventValue, IsSoundWith}
 use Rattle.gd_events.specs.Ordered as order
 use Rattle.gd_repair.specs.Repair.{Stamped, stamped, Rules, Laws, Outcome, after, recorded, outcome, cost}
@@ -22,7 +23,7 @@ use Rattle.gd_history.specs.declared.arrival.Arrival.{Arrival}
 use Rattle.gd_history.proofs.Holding.{seen-every, seen-later, seen-entered}
 use Rattle.gd_arrivals.specs.Arrivals.{drawn, all_drawn, outcome_of, cost_of, costs_from, costs}
 use Rattle.gd_arrivals.specs.Tally.{Tally, no_tally, tally}
-use Rattle.gd_arriving.specs.Arriving.{PaidFront, counted, undone_in}
+use Rattle.gd_arriving.specs.Arriving.{AreAbove, PaidFront, counted, undone_in}
 use Rattle.gd_arriving.proofs.TallyLemmas.{Tallied, tallied_none, tallied_more, undone_most}
 
 -- ---- distinct stamps
@@ -85,56 +86,67 @@ pub paid_if : {T : Type 0} (r : Result T AllocError) (all : List ℕ) (old now :
 paid_if (Ok x) all old now h = tt
 paid_if (Err x) all old now h = h
 
+-- where no event has arrived
+pub paid_none : {T : Type 0} (r : Result T AllocError) (all : List ℕ) (now : ℕ) → OnErr r (PaidFront all now now)
+paid_none r all now = paid_if r all now now (record { front = []; back = all; split = refl; paid = omega arith })
+
 -- ---- the history so far
 
--- the history after these events arrived, untrimmed
-abbrev pub Arrived : {D O B M : Type 0} → Rules (Stamped O) B M → (D → M) → M → List (EventValue O) → HistoryValue D O B → Type 0
-Arrived d meaning start done h = Holds d meaning start (all_drawn (order.ordered done)) 0 h
+-- the history after these events arrived
+abbrev pub Arrived : {D O B M : Type 0} → Rules (Stamped O) B M → (D → M) → M → ℕ → List (EventValue O) → HistoryValue D O B → Type 0
+Arrived d meaning start line done h = Holds d meaning start (all_drawn (order.ordered done)) line h
 
 -- the events in front of those that are left arrived, at these steps, and were counted
-pub record Arriving {D O B M : Type 0} (d : Rules (Stamped O) B M) (meaning : D → M) (start : M)
+pub record Arriving {D O B M : Type 0} (d : Rules (Stamped O) B M) (meaning : D → M) (start : M) (line : ℕ)
     (all : List (EventValue O)) (h : HistoryValue D O B) (t : Tally) (left : List (EventValue O)) (old now : ℕ) : Type 0 where
   pub done : List (EventValue O)
   pub split : all ≡ done ++ left
-  pub arrived : Arrived d meaning start done h
+  pub arrived : Arrived d meaning start line done h
   pub counted : Tallied d.independent d.covers done t
   pub paid : now ≡ old + sum (costs d.independent d.covers done)
 
-module _ {D O B M : Type 0} (d : Rules (Stamped O) B M) (meaning : D → M) (start : M) where
+module _ {D O B M : Type 0} (d : Rules (Stamped O) B M) (meaning : D → M) (start : M) (line : ℕ) where
   -- the event that arrives is new to it
-  arrived_fresh : (done rest : List (EventValue O)) (e : EventValue O) (h : HistoryValue D O B) → Arrived d meaning start done h
+  arrived_fresh : (done rest : List (EventValue O)) (e : EventValue O) (h : HistoryValue D O B) → Arrived d meaning start line done h
       → order.are_distinct (done ++ e ∷ rest) ≡ true → HasNone e.stamp (events_of h.entries)
   arrived_fresh done rest e h a distinct =
-      seen-every drawn d meaning start done 0 h a (λ f. f.stamp ≢ e.stamp)
+      seen-every drawn d meaning start done line h a (λ f. f.stamp ≢ e.stamp)
       (none-same e.stamp (order.ordered done) (new-fold done [] e refl (new-between done rest e distinct)))
 
   -- what comes of it is what the definition says
-  arrived_outcome : (done : List (EventValue O)) (e : EventValue O) (h : HistoryValue D O B) → Arrived d meaning start done h → 0 < e.stamp.clock
+  arrived_outcome : (done : List (EventValue O)) (e : EventValue O) (h : HistoryValue D O B) → Arrived d meaning start line done h → line < e.stamp.clock
       → outcome d.independent d.covers (drawn e) (later_than e.stamp (events_of h.entries)) ≡ outcome_of d.independent d.covers done e
-  arrived_outcome done e h a above = ap (outcome d.independent d.covers (drawn e)) (seen-later drawn d meaning start done 0 h a e.stamp above)
+  arrived_outcome done e h a above = ap (outcome d.independent d.covers (drawn e)) (seen-later drawn d meaning start done line h a e.stamp above)
 
   module _ (all : List (EventValue O)) (old now : ℕ) where
     -- no event so far
-    pub arriving_start : (h : HistoryValue D O B) (t : Tally) → h.entries ≡ [] → h.line ≡ 0 → meaning h.document ≡ start → t ≡ no_tally → now ≡ old
-        → Arriving d meaning start all h t all old now
-    arriving_start h t none zero empty uncounted same = record {
+    pub arriving_start : (h : HistoryValue D O B) (t : Tally) → h.entries ≡ [] → h.line ≡ line → meaning h.document ≡ start → t ≡ no_tally → now ≡ old
+        → Arriving d meaning start line all h t all old now
+    arriving_start h t none at_line same_start uncounted same = record {
       done = [];
       split = refl;
-      arrived = record { line_is = zero; entries = ap all_held none; document = empty };
+      arrived = record { line_is = at_line; entries = ap all_held none; document = same_start };
       counted = subst (Tallied d.independent d.covers []) (sym uncounted) (tallied_none d.independent d.covers);
       paid = omega (arith, same);
     }
 
     module _ {h : HistoryValue D O B} {t : Tally} {e : EventValue O} {were left : List (EventValue O)} (first : were ≡ e ∷ left)
-        (a : Arriving d meaning start all h t were old now) (distinct : order.are_distinct all ≡ true)
+        (a : Arriving d meaning start line all h t were old now) (distinct : order.are_distinct all ≡ true) (all_above : AreAbove line all)
         {stamp : Stamp} {op : O} (at_stamp : stamp ≡ e.stamp) (has_op : op ≡ e.op) {IsOp : Stamp → O → Type 0} (sound : IsSoundWith IsOp e) where
-      above : 0 < e.stamp.clock
-      above = omega (arith, sound.stamp.clock_above)
+      split_here : all ≡ a.done ++ e ∷ left
+      split_here = a.split ∙ ap (λ l. a.done ++ l) first
 
-      -- the next one is new
+      above : line < e.stamp.clock
+      above = (Every-back _ a.done (e ∷ left) (subst (AreAbove line) split_here all_above)).0 sound.stamp.clock_above
+
+      -- the next one lies above the line
+      pub arriving_above : h.line < stamp.clock
+      arriving_above = omega (arith, above, a.arrived.line_is, ap (λ (s : Stamp). s.clock) at_stamp)
+
+      -- and is new
       pub arriving_fresh : HasNone stamp (events_of h.entries)
       arriving_fresh = subst (λ s. HasNone s (events_of h.entries)) (sym at_stamp)
-          (arrived_fresh a.done left e h a.arrived (ap order.are_distinct (ap (λ l. a.done ++ l) (sym first) ∙ sym a.split) ∙ distinct))
+          (arrived_fresh a.done left e h a.arrived (ap order.are_distinct (sym split_here) ∙ distinct))
 
       -- what the history says comes of it
       abbrev found : Outcome (Stamped O)
@@ -170,16 +182,16 @@ module _ {D O B M : Type 0} (d : Rules (Stamped O) B M) (meaning : D → M) (sta
         -- and it stands among the others afterwards
         pub arriving_next : Laws d → {new : HistoryValue D O B} {now_counted : Tally} {after_it : ℕ}
             → all_held new.entries ≡ recorded d with_it (base_of d meaning h) → meaning new.document ≡ after d with_it (base_of d meaning h) → new.line ≡ h.line
-            → after_it ≡ now + cost found → now_counted ≡ counted t arrival → Arriving d meaning start all new now_counted left old after_it
-        arriving_next laws {new} {now_counted} entries document line steps one =
+            → after_it ≡ now + cost found → now_counted ≡ counted t arrival → Arriving d meaning start line all new now_counted left old after_it
+        arriving_next laws {new} {now_counted} entries document same_line steps one =
             let pieces = costs-append d.independent d.covers [] a.done (e ∷ []) in
             record {
               done = a.done ++ e ∷ [];
-              split = a.split ∙ ap (λ l. a.done ++ l) first ∙ sym (append_assoc a.done (e ∷ []) left);
-              arrived = seen-entered drawn d meaning start a.done 0 h a.arrived laws e above new (record {
+              split = split_here ∙ sym (append_assoc a.done (e ∷ []) left);
+              arrived = seen-entered drawn d meaning start a.done line h a.arrived laws e above new (record {
                 entries = entries ∙ (λ i. recorded d (inserted (same i) (events_of h.entries)) (base_of d meaning h));
                 document = document ∙ (λ i. after d (inserted (same i) (events_of h.entries)) (base_of d meaning h));
-                line = line;
+                line = same_line;
               });
               counted = tallied_more d.independent d.covers a.done t now_counted e arrival a.counted came_is undoes_few one (length-append a.done (e ∷ []));
               paid = omega (
@@ -192,7 +204,7 @@ module _ {D O B M : Type 0} (d : Rules (Stamped O) B M) (meaning : D → M) (sta
               );
             }
 
-    module _ (h : HistoryValue D O B) (t : Tally) (left : List (EventValue O)) (a : Arriving d meaning start all h t left old now) where
+    module _ (h : HistoryValue D O B) (t : Tally) (left : List (EventValue O)) (a : Arriving d meaning start line all h t left old now) where
       -- an early end leaves the first steps
       pub arriving_paid : PaidFront (costs d.independent d.covers all) old now
       arriving_paid = record {
@@ -202,16 +214,21 @@ module _ {D O B M : Type 0} (d : Rules (Stamped O) B M) (meaning : D → M) (sta
         paid = a.paid;
       }
 
-    module _ (h : HistoryValue D O B) (t : Tally) (a : Arriving d meaning start all h t [] old now) where
+    module _ (h : HistoryValue D O B) (t : Tally) (a : Arriving d meaning start line all h t [] old now) where
       -- all of them arrived
       whole : a.done ≡ all
       whole = sym (a.split ∙ append-nil a.done)
 
-      pub arriving_holds : Arrived d meaning start all h
-      arriving_holds = subst (λ es. Arrived d meaning start es h) whole a.arrived
+      pub arriving_holds : Arrived d meaning start line all h
+      arriving_holds = subst (λ es. Arrived d meaning start line es h) whole a.arrived
 
       pub arriving_tally : t ≡ tally d.independent d.covers all
       arriving_tally = a.counted.is ∙ ap (tally d.independent d.covers) whole
 
       pub arriving_steps : now ≡ old + sum (costs d.independent d.covers all)
       arriving_steps = a.paid ∙ ap (λ es. old + sum (costs d.independent d.covers es)) whole
+
+-- no event lies at the line of no events
+pub all-above_none : {O : Type 0} (es : List (EventValue O)) → AreAbove 0 es
+all-above_none [] = tt
+all-above_none (e ∷ es) = (λ has_clock. has_clock, all-above_none es)

@@ -1,16 +1,19 @@
 -- A viewer that begins with a good snapshot keeps itself well, and stands for the reference viewer that does.
-use Rattle.std.proofs.Common.{◌≡◌, ℕ, zero, suc, ◌+◌, ◌-◌, ◌<◌, ◌≤◌, Bool, true, false, nat_le, nat_lt, cond, List, [], ◌∷◌, ◌++◌, length, get_or, take, refl, sym, ap, ◌∙◌, subst, arith, Option}
+use Rattle.std.proofs.Common.{◌≡◌, ℕ, zero, suc, ◌+◌, ◌-◌, ◌<◌, ◌≤◌, Bool, true, false, nat_le, nat_lt, cond, List, [], ◌∷◌, ◌++◌, length, get_or, take, refl, sym, ap, ◌∙◌, subst, arith, Option, IsTrue}
 use Rattle.std.proofs.lemmas.Bool.{and_parts, leb-false, leb-true}
 use Rattle.std.proofs.lemmas.List.{get_or_past, take_all, take_more}
 use Rattle.std.proofs.lemmas.List.Sums.{sum-map, sum_by_push}
 use Rattle.std.specs.FinMap as map_of
 use Rattle.std.specs.List.{AllByRecursion as Every, sum_by}
+use Rattle.gd_arriving.specs.Arriving.{AreAbove}
 use Rattle.gd_base.specs.Stamps.{Stamp, stamp_cmp}
+use Rattle.gd_base.specs.declared.ranges.TheConstants.{SESSION_EVENTS}
 use Rattle.gd_base.proofs.Lists.{Every-get_or, Every-weaker}
 use Rattle.gd_base.proofs.SiteLemmas.{is_site-within}
 use Rattle.gd_base.proofs.StampLemmas.{stamp_cmp-total}
 use Rattle.gd_canvas.specs.Slots.{Slots, board_of}
 use Rattle.gd_events.specs.Events.{Event}
+use Rattle.gd_events.specs.Ordered.{are_distinct}
 use Rattle.gd_grammar.specs.Reading.{AllFollow}
 use Rattle.gd_model.specs.declared.object.Object.{Object}
 use Rattle.gd_model.specs.Board.{Board}
@@ -20,7 +23,8 @@ use Rattle.gd_stable.specs.Heard.{HeardValue}
 use Rattle.gd_viewing.specs.SlowViewer.{opened, viewer_line}
 use Rattle.gd_viewer.specs.Opening.{Hears, Rise}
 use Rattle.gd_viewer.specs.Viewers.{ViewerValue, IsWellViewer, StandsFor, HasSlowViewer, counted_to, heard_line}
-use Rattle.gd_viewer.proofs.Rising.{rise_follow}
+use Rattle.gd_viewer.proofs.Counted.{counted_to-few}
+use Rattle.gd_viewer.proofs.Rising.{rise_distinct, rise_follow}
 use Rattle.gd_viewer.proofs.Standing.{History, Keeps, line_agrees, line_below}
 
 -- ---- how many events there were
@@ -91,8 +95,8 @@ all_bounded known last (e ∷ es) h = (bounded known last e h.0, all_bounded kno
 pub objects_rise : (s : Snapshot) → IsSnapshot s → Rise (λ p. p.0) s.objects
 objects_rise s good = rise_follow (λ p. p.0) IsPlaced (λ last p k. k.above) _ s.objects good.objects
 
-pub kept_rise : (s : Snapshot) → IsSnapshot s → Rise (λ e. e.stamp) s.kept
-kept_rise s good = rise_follow (λ e. e.stamp) (IsKept s.known) (λ last e k. k.above) _ s.kept good.kept
+pub kept_distinct : (s : Snapshot) → IsSnapshot s → IsTrue (are_distinct s.kept)
+kept_distinct s good = rise_distinct s.kept (rise_follow (λ e. e.stamp) (IsKept s.known) (λ last e k. k.above) _ s.kept good.kept)
 
 -- ---- the viewer
 
@@ -109,6 +113,10 @@ module _ (s : Snapshot) (good : IsSnapshot s) where
       go : (b : Bool) → nat_lt (t - 1) (length s.known) ≡ b → (known_of s.known t).count ≤ 65535
       go true inside = let fits = (Every-get_or IsKnown s.known (t - 1) unknown good.known (leb-true (suc (t - 1)) (length s.known) inside)).count in omega (arith, fits)
       go false outside = omega (arith, ap (λ (k : Known). k.count) (get_or_past s.known (t - 1) unknown (past (leb-false (suc (t - 1)) (length s.known) outside))))
+
+  -- no more events than a session can have
+  pub kept_few : length s.kept ≤ SESSION_EVENTS
+  kept_few = omega (arith, good.made, counted_all s.known, good.few, counted_to-few (λ t. (known_of s.known t).count) (length s.known) counts_few)
 
   pub well_begun : IsWellViewer (opened s)
   unfolding opened
@@ -138,8 +146,8 @@ module _ (s : Snapshot) (good : IsSnapshot s) where
         let below : viewer_line (opened s) ≤ (known_of s.known (i + 1)).sure = line_below (opened s) (i + 1) (is_site-within (length s.known) (i + 1) (omega arith) (omega (arith, inside))) in
         omega (arith, line_is, below, here))
 
-    pub kept_above : Every (λ e. heard_line h < e.stamp.clock) s.kept
-    kept_above = Every-weaker _ _ (λ (e : Event) (b : IsBounded s.known e). omega (arith, b.above, line_low)) s.kept fine
+    pub kept_above : AreAbove (heard_line h) s.kept
+    kept_above = Every-weaker _ _ (λ (e : Event) (b : IsBounded s.known e) (some : 1 ≤ e.stamp.clock). omega (arith, b.above, line_low)) s.kept fine
 
     module _ (canvas : Slots) (drawn : board_of canvas ≡ map_of.from_entries s.objects) (history : History) (keeps : Keeps (board_of canvas) s.kept (heard_line h) history) where
       abbrev pub begun : ViewerValue

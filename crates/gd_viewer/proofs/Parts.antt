@@ -1,32 +1,21 @@
 -- The loops over the parts of a snapshot.
-use Rattle.std.proofs.Common.{◌≡◌, ◌≢◌, ℕ, ◌+◌, ◌<◌, ◌≤◌, List, [], ◌∷◌, ◌++◌, length, sum, None, refl, sym, ap, ◌∙◌, subst, append_assoc, append-nil, arith, IsTrue, inl, inr}
+use Rattle.std.proofs.Common.{◌≡◌, ℕ, ◌+◌, ◌<◌, ◌≤◌, List, [], ◌∷◌, ◌++◌, length, None, refl, sym, ap, ◌∙◌, subst, append_assoc, append-nil, arith, IsTrue, inl, inr}
 use Rattle.std.proofs.lemmas.Bool.{cases_eq}
-use Rattle.std.proofs.lemmas.List.Sums.{sum_by-append}
-use Rattle.std.specs.Prelude.{Result, Ok, Err, OnErr}
 use Rattle.std.specs.FinMap as map_of
 use Rattle.std.specs.List.{AllByRecursion as Every}
 use Rattle.gd_base.specs.Sites.{is_site}
-use Rattle.gd_base.specs.Stamps.{Stamp, stamp_cmp, is_before}
-use Rattle.gd_base.proofs.Lists.{Every-back, Every-weaker}
+use Rattle.gd_base.specs.Stamps.{Stamp, stamp_cmp}
 use Rattle.gd_base.proofs.SiteLemmas.{is_site-bounds, is_site-within}
-use Rattle.gd_base.proofs.StampLemmas.{is_before-apart, is_same-refl, stamp_cmp-IsAntisymmetric, stamp_cmp-total}
-use Rattle.gd_canvas.specs.Slots.{board_of}
-use Rattle.gd_events.specs.declared.op.Op.{Op}
-use Rattle.gd_events.specs.Events.{Event}
-use Rattle.gd_history.specs.Entries.{all_held, events_of}
-use Rattle.gd_history.specs.Orders.{HasNone, later_than}
+use Rattle.gd_base.proofs.StampLemmas.{stamp_cmp-IsAntisymmetric, stamp_cmp-total}
 use Rattle.gd_model.specs.declared.object.Object.{Object}
-use Rattle.gd_model.specs.Arrivals.{are_independent, cost_of, costs, costs_from, drawn, is_covered}
 use Rattle.gd_model.specs.Board.{Board}
 use Rattle.gd_protocol.proofs.Lists.{put_other, put_same}
-use Rattle.gd_repair.specs.Repair.{cost, outcome, stamped}
 use Rattle.gd_site.proofs.Numbers.{of_site-put}
 use Rattle.gd_snapshots.specs.Snapshots.{Placed, known_of}
 use Rattle.gd_snapshots.specs.declared.known.Known.{Known}
 use Rattle.gd_stable.specs.Heard.{HeardValue, IsHeard, new_heard, of_site, put_at, with_heard}
-use Rattle.gd_viewer.specs.Opening.{Hears, PaidFront, Rise}
+use Rattle.gd_viewer.specs.Opening.{Hears, Rise}
 use Rattle.gd_viewer.proofs.Rising.{find-behind, rise_front}
-use Rattle.gd_viewer.proofs.Standing.{Enters, History, Keeps, keeps_entered, keeps_every, keeps_outcome}
 use Rattle.gd_viewer.proofs.Taking.{sized_with}
 
 -- ---- what is heard of the first sites
@@ -104,83 +93,3 @@ module _ {all were left : List Placed} {board : Board} (p : Placing all were boa
 
 pub placing_end : {all left : List Placed} {board : Board} → Placing all left board → left ≡ [] → board ≡ map_of.from_entries all
 placing_end p none = p.board_is ∙ ap map_of.from_entries (sym (append-nil p.done) ∙ ap (λ (l : List Placed). p.done ++ l) (sym none) ∙ sym p.split)
-
--- ---- the events that arrive
-
--- the events in front of those that are left arrived, at these steps
-pub record Arriving (base : Board) (line : ℕ) (all left : List Event) (h : History) (old now : ℕ) : Type 0 where
-  pub done : List Event
-  pub split : all ≡ done ++ left
-  pub keeps : Keeps base done line h
-  pub front : List ℕ
-  pub costs_are : costs all ≡ front ++ costs_from done left
-  pub paid : now ≡ old + sum front
-
-pub arriving_start : (base : Board) (line : ℕ) (all : List Event) (h : History) (old : ℕ) → h.entries ≡ [] → h.line ≡ line → board_of h.document ≡ base → Arriving base line all all h old old
-arriving_start base line all h old bare at_line is = record {
-  done = [];
-  split = refl;
-  keeps = record { line_is = at_line; entries = ap all_held bare; document = is };
-  front = [];
-  costs_are = refl;
-  paid = omega arith;
-}
-
--- those in front of an event have other stamps
-others : (done : List Event) (e : Event) → Every (λ f. IsTrue (is_before f.stamp e.stamp)) done → Every (λ f. f.stamp ≢ e.stamp) done
-others done e before = Every-weaker _ (λ f. f.stamp ≢ e.stamp) apart done before
-  where
-    apart : (f : Event) → IsTrue (is_before f.stamp e.stamp) → f.stamp ≢ e.stamp
-    apart f first same =
-        let no = is_before-apart e.stamp e.stamp (subst (λ (s : Stamp). IsTrue (is_before s e.stamp)) same first) in
-        let yes_same = is_same-refl e.stamp in
-        cc
-
-module _ {base : Board} {line : ℕ} {all were left : List Event} {h : History} {old now : ℕ} (a : Arriving base line all were h old now) {e : Event} (first : were ≡ e ∷ left) (above : Every (λ f. line < f.stamp.clock) all) (rise : Rise (λ f. f.stamp) all)
-    {stamp : Stamp} {op : Op} (at_stamp : stamp ≡ e.stamp) (has_op : op ≡ e.op) where
-  split_here : all ≡ a.done ++ e ∷ left
-  split_here = a.split ∙ ap (λ (l : List Event). a.done ++ l) first
-
-  is_above : line < e.stamp.clock
-  is_above = (Every-back _ a.done (e ∷ left) (subst (Every (λ f. line < f.stamp.clock)) split_here above)).0
-
-  pub arriving_above : h.line < stamp.clock
-  arriving_above = omega (arith, is_above, a.keeps.line_is, ap (λ (s : Stamp). s.clock) at_stamp)
-
-  pub arriving_fresh : HasNone stamp (events_of h.entries)
-  arriving_fresh =
-      subst (λ (s : Stamp). HasNone s (events_of h.entries)) (sym at_stamp)
-      (keeps_every base a.done line h a.keeps (λ f. f.stamp ≢ e.stamp) (others a.done e (rise_front (λ f. f.stamp) a.done e left (subst (Rise (λ f. f.stamp)) split_here rise))))
-
-  same : stamped stamp op ≡ drawn e
-  same = λ i. stamped (at_stamp i) (has_op i)
-
-  module _ {new : History} {after : ℕ} (enters : Enters h e new) (steps : after ≡ now + cost (outcome are_independent is_covered (drawn e) (later_than e.stamp (events_of h.entries)))) where
-    pub arriving_next : Arriving base line all left new old after
-    arriving_next = record {
-      done = a.done ++ e ∷ [];
-      split = split_here ∙ sym (append_assoc a.done (e ∷ []) left);
-      keeps = keeps_entered base a.done line h a.keeps e is_above new enters;
-      front = a.front ++ cost_of a.done e ∷ [];
-      costs_are =
-          a.costs_are ∙ ap (λ (l : List Event). a.front ++ costs_from a.done l) first
-          ∙ sym (append_assoc a.front (cost_of a.done e ∷ []) (costs_from (a.done ++ e ∷ []) left));
-      paid = omega (arith, steps, a.paid, ap cost (keeps_outcome base a.done line h a.keeps e is_above), sum_by-append (λ (n : ℕ). n) a.front (cost_of a.done e ∷ []));
-    }
-
-module _ {base : Board} {line : ℕ} {all left : List Event} {h : History} {old now : ℕ} (a : Arriving base line all left h old now) where
-  -- an early end leaves the first steps
-  pub arriving_paid : PaidFront (costs all) old now
-  arriving_paid = (a.front, costs_from a.done left, a.costs_are, a.paid)
-
-  module _ (none : left ≡ []) where
-    pub arriving_holds : Keeps base all line h
-    arriving_holds = subst (λ (l : List Event). Keeps base l line h) (sym (append-nil a.done) ∙ ap (λ (l : List Event). a.done ++ l) (sym none) ∙ sym a.split) a.keeps
-
-    pub arriving_steps : now ≡ old + sum (costs all)
-    arriving_steps = a.paid ∙ ap (λ (l : List ℕ). old + sum l) (sym (a.costs_are ∙ ap (λ (l : List Event). a.front ++ costs_from a.done l) none ∙ append-nil a.front))
-
--- where memory ran out
-pub paid_if : {T E : Type 0} (r : Result T E) (all : List ℕ) (old now : ℕ) → PaidFront all old now → OnErr r (PaidFront all old now)
-paid_if (Ok x) all old now h = tt
-paid_if (Err x) all old now h = h

@@ -1,10 +1,12 @@
 -- Objects by their ids and events by their stamps, each before those behind it.
-use Rattle.std.proofs.Common.{◌≡◌, true, false, List, [], ◌∷◌, ◌++◌, Option, Some, None, refl, ◌∙◌, IsTrue}
+use Rattle.std.proofs.Common.{◌≡◌, true, false, not, ◌&&◌, List, [], ◌∷◌, ◌++◌, Option, Some, None, refl, ◌∙◌, IsTrue}
 use Rattle.std.specs.FinMap as map_of
 use Rattle.std.specs.List.{AllByRecursion as Every}
 use Rattle.gd_base.specs.Stamps.{Stamp, stamp_cmp, is_before, is_same}
 use Rattle.gd_base.proofs.Lists.{Every-back, Every-weaker}
 use Rattle.gd_base.proofs.StampLemmas.{is_before-apart, is_before-trans, is_same-comm}
+use Rattle.gd_events.specs.Events.{Event}
+use Rattle.gd_events.specs.Ordered.{are_distinct, is_new}
 use Rattle.gd_events.specs.Sound.{is_above}
 use Rattle.gd_grammar.specs.Reading.{AllFollow}
 use Rattle.gd_snapshots.specs.Snapshots.{Placed}
@@ -33,3 +35,12 @@ rise_front key (y ∷ ys) x left h = ((Every-back _ ys (x ∷ left) h.0).0, rise
 pub find-behind : (id : Stamp) (ps : List Placed) → Every (λ p. IsTrue (is_before p.0 id)) ps → map_of.find stamp_cmp id ps ≡ None
 find-behind id [] h = refl
 find-behind id (p ∷ ps) h = let apart : is_same id p.0 ≡ false = is_same-comm id p.0 ∙ is_before-apart p.0 id h.0 in rw apart (find-behind id ps h.1)
+
+-- events that rise are distinct
+pub rise_distinct : (es : List Event) → Rise (λ e. e.stamp) es → IsTrue (are_distinct es)
+rise_distinct [] h = refl
+rise_distinct (e ∷ es) h = λ i. new es h.0 i && rise_distinct es h.1 i
+  where
+    new : (fs : List Event) → Every (λ f. IsTrue (is_before e.stamp f.stamp)) fs → is_new fs e ≡ true
+    new [] k = refl
+    new (f ∷ fs) k = λ i. not (is_before-apart e.stamp f.stamp k.0 i) && new fs k.1 i

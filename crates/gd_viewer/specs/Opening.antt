@@ -1,5 +1,5 @@
 -- What is made of the parts of a snapshot.
-use Rattle.std.specs.Prelude.{◌≡◌, ℕ, ◌+◌, List, [], ◌∷◌, ◌++◌, length, sum, IsTrue}
+use Rattle.std.specs.Prelude.{◌≡◌, ℕ, List, [], ◌∷◌, length, IsTrue}
 use Rattle.std.specs.List.{AllByRecursion}
 use Rattle.gd_base.specs.Sites.{is_site}
 use Rattle.gd_base.specs.Stamps.{Stamp, is_before}
@@ -18,7 +18,3 @@ pub record Hears (known : List Known) (h : HeardValue) : Type 0 where
 abbrev pub Rise : {X : Type 0} → (X → Stamp) → List X → Type 0
 Rise key [] = Unit {0}
 Rise key (x ∷ xs) = AllByRecursion (λ y. IsTrue (is_before (key x) (key y))) xs × Rise key xs
-
--- the steps rose by some of the first costs
-abbrev pub PaidFront : List ℕ → ℕ → ℕ → Type 0
-PaidFront all old new = (front : List ℕ) × (back : List ℕ) × (all ≡ front ++ back) × (new ≡ old + sum front)

@@ -1,4 +1,5 @@
-ghost use Rattle.std.specs.Prelude.{◌≡◌, ◌++◌, ◌+◌, ◌≤◌, ℕ, List, sum, IfOk, IsTrue, OnErr, OnOk};
+ghost use Rattle.std.specs.Prelude.{◌≡◌, ◌+◌, ◌≤◌, sum, IfOk, IsTrue, OnErr, OnOk};
+ghost use Rattle.gd_arriving.specs.Arriving.{PaidFront};
 ghost use Rattle.gd_base.specs.Sites.{is_site};
 ghost use Rattle.gd_base.specs.declared.offer.Offer.TheVariants.{Next};
 ghost use Rattle.gd_history.specs.Histories.{arrival_of};
@@ -11,7 +12,8 @@ ghost use Rattle.gd_viewer.specs.Answers.{refused_by, steps_by, taken_by};
 ghost use Rattle.gd_viewer.specs.Viewers.{heard_line};
 ghost use Rattle.gd_viewing.specs.SlowViewer.{SlowViewer, opened, viewed, viewer_arrived, viewer_beat, viewer_offer, viewer_refusal, with_viewed};
 
-use crate::opening::{canvas_of, heard_of, history_of, snapshot_holds};
+use crate::opening::{canvas_of, heard_of, snapshot_holds};
+use gd_arriving::arrived_from;
 use gd_base::{FrameFault, Offer, Steps};
 use gd_canvas::{Canvas, Kept};
 use gd_events::Event;
@@ -61,8 +63,7 @@ impl Viewer {
     ) -> Result<Self, AllocError>
         ensures stands { IfOk result (λ v. StandsFor (opened snapshot) v) }
         ensures steps { OnOk result (steps.new ≡ steps.old + sum (costs snapshot.kept)) }
-        ensures err_steps { OnErr result ((front : List ℕ) × (back : List ℕ)
-            × (costs snapshot.kept ≡ front ++ back) × (steps.new ≡ steps.old + sum front)) }
+        ensures err_steps { OnErr result (PaidFront (costs snapshot.kept) steps.old steps.new) }
     {
         snapshot_holds(&snapshot);
         let session = snapshot.session();
@@ -70,7 +71,7 @@ impl Viewer {
         let line = line_of(&heard);
         let (objects, kept) = snapshot.into_parts();
         let canvas = canvas_of(alloc, objects)?;
-        let history = history_of(alloc, canvas, line, kept, steps)?;
+        let (history, _tally) = arrived_from::<Canvas, L>(alloc, canvas, line, kept, steps)?;
         Ok(Viewer {
             alloc,
             session,

@@ -1,6 +1,7 @@
 -- How a view ends, by how it was carried out.
 use Rattle.std.proofs.Common.{◌≡◌, ℕ, ◌+◌, List, [], ◌∷◌, ◌++◌, map, sum, refl, sym, ap, ◌∙◌, subst, arith}
 use Rattle.std.specs.Prelude.{Some, Result, Ok, Err, IfOk, IsErrAnd, IsSome}
+use Rattle.gd_arriving.specs.Arriving.{PaidFront}
 use Rattle.gd_base.specs.declared.fault.ViewWhy.{ViewWhy}
 use Rattle.gd_effects.proofs.Doing.{did_as, did_then, does_as, does_more, does_some_works, does_then, does_when, does_works, told_before}
 use Rattle.gd_effects.proofs.NodeEnds.{ends_as, runs_then}
@@ -195,12 +196,12 @@ module _ (a : SeenSource) (output : SeenSink) (journal : SeenJournal) (link : Se
   runs_opened paid h = runs_then {T = Unit {0}} (does_works tt works a output journal link steps steps' paid) (record { was = λ t. t; now = λ t. refl }) h
 
   -- with some of them, before memory ran out
-  pub runs_unopened : (xs : List Effect) (cut : List ℕ → List Effect) (whole : Status) (r : Result Status End) → IsErrAnd r (λ y. y ≡ early.NoMemory) → (front : List ℕ) × (back : List ℕ) × (works ≡ front ++ back) × (steps' ≡ steps + sum front)
+  pub runs_unopened : (xs : List Effect) (cut : List ℕ → List Effect) (whole : Status) (r : Result Status End) → IsErrAnd r (λ y. y ≡ early.NoMemory) → PaidFront works steps steps'
       → RunsAs (map Work works ++ xs) cut whole r (outside a output journal link steps) (outside a output journal link steps')
   runs_unopened xs cut whole r is paid =
       subst (λ (q : Result Status End). RunsAs (map Work works ++ xs) cut whole q (outside a output journal link steps) (outside a output journal link steps')) (sym (err_is r is))
       (record {
-        does = does_more xs (does_as (ap (map Work) paid.2) (does_some_works paid.0 paid.1 a output journal link steps steps' paid.3));
+        does = does_more xs (does_as (ap (map Work) paid.split) (does_some_works paid.front paid.back a output journal link steps steps' paid.paid));
         end = λ t. tt;
         read = λ e. absurd cc;
       })

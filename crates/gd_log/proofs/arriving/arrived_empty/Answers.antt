@@ -1,4 +1,4 @@
-use Rattle.std.proofs.Common.{[], refl, subst, arith}
+use Rattle.std.proofs.Common.{subst}
 use Rattle.std.specs.Prelude.{IfOk}
 use Rattle.gd_events.specs.Ordered.{ordered}
 use Rattle.gd_history.specs.Holding.{Holds}
@@ -6,7 +6,7 @@ use Rattle.gd_model.specs.Arrivals.{all_drawn, costs}
 use Rattle.gd_model.specs.Board.{Board}
 use Rattle.gd_drawing.specs.Rules.{drawing_rules}
 use Rattle.gd_canvas.specs.Slots.{board_of}
-use Rattle.gd_arriving.proofs.ArrivalLemmas.{paid_if}
+use Rattle.gd_arriving.proofs.ArrivalLemmas.{paid_none}
 use Rattle.gd_log.proofs.arriving.arrived_empty.Goals as goal
 
 pub returns-clause-history : goal.returns-clause-history
@@ -15,6 +15,4 @@ returns-clause-history g c =
     c.in_ok-empty.ensures.board c.arrived.ensures.history
 
 pub returns-in_err-empty-clause-err : goal.returns-in_err-empty-clause-err
-returns-in_err-empty-clause-err g c =
-    paid_if c.from_residual.result (costs c.args.events) c.args.steps.now c.args.steps.now
-    (record { front = []; back = costs c.args.events; split = refl; paid = omega arith })
+returns-in_err-empty-clause-err g c = paid_none c.from_residual.result (costs c.args.events) c.args.steps.now

@@ -1,4 +1,6 @@
-use Rattle.gd_viewer.proofs.Begun.{begun_is_viewer, begun_stands, kept_above, kept_rise, objects_rise, some_heard}
+use Rattle.gd_arriving.proofs.ArrivalLemmas.{paid_none}
+use Rattle.gd_model.specs.Arrivals.{costs}
+use Rattle.gd_viewer.proofs.Begun.{begun_is_viewer, begun_stands, kept_above, kept_distinct, kept_few, objects_rise, some_heard}
 use Rattle.gd_viewer.proofs.viewer.Viewer.open.Goals as goal
 
 pub heard_of-heard-requires : goal.heard_of-heard-requires
@@ -10,12 +12,18 @@ line_of-line-requires g c = some_heard c.args.snapshot c.snapshot_holds.ensures 
 pub canvas_of-requires : goal.canvas_of-requires
 canvas_of-requires g c = rw c.into_parts-objects.ensures.objects (objects_rise c.args.snapshot c.snapshot_holds.ensures)
 
-pub history_of-requires-clause-above : goal.history_of-requires-clause-above
-history_of-requires-clause-above g c =
+pub arrived_from-requires-clause-few : goal.arrived_from-requires-clause-few
+arrived_from-requires-clause-few g c = rw c.into_parts-objects.ensures.kept (kept_few c.args.snapshot c.snapshot_holds.ensures)
+
+pub arrived_from-requires-clause-distinct : goal.arrived_from-requires-clause-distinct
+arrived_from-requires-clause-distinct g c = rw c.into_parts-objects.ensures.kept (kept_distinct c.args.snapshot c.snapshot_holds.ensures)
+
+pub arrived_from-requires-clause-above : goal.arrived_from-requires-clause-above
+arrived_from-requires-clause-above g c =
     rw (c.into_parts-objects.ensures.kept, c.line_of-line.ensures) (kept_above c.args.snapshot c.snapshot_holds.ensures _ (rw c.known.ensures at c.heard_of-heard.ensures))
 
-pub history_of-requires-clause-rise : goal.history_of-requires-clause-rise
-history_of-requires-clause-rise g c = rw c.into_parts-objects.ensures.kept (kept_rise c.args.snapshot c.snapshot_holds.ensures)
+pub returns-in_err-canvas-clause-err_steps : goal.returns-in_err-canvas-clause-err_steps
+returns-in_err-canvas-clause-err_steps g c = paid_none c.from_residual.result (costs c.args.snapshot.kept) c.args.steps.now
 
 pub invariant_of-result : goal.invariant_of-result
 invariant_of-result g c =
