@@ -43,7 +43,7 @@ use Rattle.gd_snapshots.specs.SnapshotBytes.{kept_at, known_at, number_within, p
 use Rattle.gd_snapshots.specs.Snapshots.{least_sure}
 use Rattle.gd_viewing.specs.Handing.{known_behind, snapshot_of}
 use Rattle.gd_viewing.specs.SlowViewer.{opened, viewer_all_arrived, viewer_taken}
-use Rattle.gd_viewing.specs.ViewerEffects.{of_viewer_events, viewer_events_replies}
+use Rattle.gd_viewing.specs.ViewerEffects.{of_viewer_events}
 use Rattle.gd_viewing.specs.Viewing.{end_behind, item_at, items_of, shown_behind, whole_behind}
 use Rattle.gd_worlds.specs.Churn.{churned, line_for, times, with_line}
 use Rattle.gd_worlds.specs.Rehearsal.{rehearsal_lines}
@@ -70,7 +70,7 @@ worlds_compute = tt
 
 -- snapshots and viewers
 unfoldable pub snapshots_compute : ⊤
-unfolding flag_at kind_at link_at object_at object_bytes rank_at some_link_at thin_at snapshots.head_at kept_at known_at number_within placed_at snapshot_at snapshot_bytes least_sure known_behind snapshot_of opened viewer_all_arrived viewer_taken of_viewer_events viewer_events_replies end_behind item_at items_of shown_behind whole_behind
+unfolding flag_at kind_at link_at object_at object_bytes rank_at some_link_at thin_at snapshots.head_at kept_at known_at number_within placed_at snapshot_at snapshot_bytes least_sure known_behind snapshot_of opened viewer_all_arrived viewer_taken of_viewer_events end_behind item_at items_of shown_behind whole_behind
 snapshots_compute = tt
 
 unfoldable pub computing : ⊤

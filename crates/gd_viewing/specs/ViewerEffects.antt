@@ -20,26 +20,9 @@ use Rattle.gd_reference.specs.Said.{all_said}
 use Rattle.gd_reference.specs.SiteEffects.{offer_replies}
 use Rattle.gd_viewing.specs.SlowViewer.{SlowViewer, viewer_arrived, viewer_offer, viewer_refusal}
 
--- ---- replies
-
--- of an event that arrives
+-- what is said of an event that arrives
 abbrev pub viewer_event_replies : SlowViewer → Event → List Reply
 viewer_event_replies v e = offer_replies v.held e (viewer_offer v e)
-
--- of events that arrive one after the other
-unfoldable pub viewer_events_replies : SlowViewer → List Event → List Reply
-viewer_events_replies v [] = []
-viewer_events_replies v (e ∷ es) = viewer_event_replies v e ++ viewer_events_replies (viewer_arrived v e) es
-
-abbrev pub viewer_replies_unless : SlowViewer → Frame → Option FrameFault → List Reply
-viewer_replies_unless v f None = viewer_events_replies v f.events
-viewer_replies_unless v f (Some why) = reply.NotTaken why ∷ []
-
--- of a frame
-abbrev pub viewer_frame_replies : SlowViewer → Frame → List Reply
-viewer_frame_replies v f = viewer_replies_unless v f (viewer_refusal v f.head)
-
--- ---- effects
 
 -- the steps of an event with that offer, where it is taken
 abbrev pub viewing : List Event → Event → Offer → List Effect

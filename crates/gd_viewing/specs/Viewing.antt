@@ -10,7 +10,6 @@ use Rattle.gd_effects.specs.Effects.{Effect, Print, Work}
 use Rattle.gd_grammar.specs.FrameBytes.{Frame, Misread, frame, half_at}
 use Rattle.gd_grammar.specs.Reading.{bytes_at, place}
 use Rattle.gd_grammar.specs.declared.sizes.TheConstants.{FRAME_BYTES}
-use Rattle.gd_lines.specs.declared.reply.Reply.{Reply}
 use Rattle.gd_lines.specs.declared.reply.Reply.TheVariants as reply
 use Rattle.gd_model.specs.Arrivals.{costs}
 use Rattle.gd_outside.specs.declared.status.Status.{Status}
