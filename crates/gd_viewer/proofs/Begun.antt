@@ -147,7 +147,9 @@ module _ (s : Snapshot) (good : IsSnapshot s) where
         omega (arith, line_is, below, here))
 
     pub kept_above : AreAbove (heard_line h) s.kept
-    kept_above = Every-weaker _ _ (λ (e : Event) (b : IsBounded s.known e) (some : 1 ≤ e.stamp.clock). omega (arith, b.above, line_low)) s.kept fine
+    kept_above =
+        Every-weaker _ (λ (e : Event). 1 ≤ e.stamp.clock → heard_line h < e.stamp.clock) (λ (e : Event) (b : IsBounded s.known e) (some : 1 ≤ e.stamp.clock). omega (arith, b.above, line_low))
+        s.kept fine
 
     module _ (canvas : Slots) (drawn : board_of canvas ≡ map_of.from_entries s.objects) (history : History) (keeps : Keeps (board_of canvas) s.kept (heard_line h) history) where
       abbrev pub begun : ViewerValue
