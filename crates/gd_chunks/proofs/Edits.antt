@@ -1,42 +1,9 @@
 -- Edits of rows, and of where they start.
-use Rattle.std.proofs.Common.{◌≡◌, ℕ, ◌+◌, ◌-◌, ◌<◌, ◌≤◌, List, [], ◌∷◌, ◌++◌, length, take, drop, set, map, get_or, append_assoc, append-nil, length-append, length-drop, take-append-drop, sym, ap, ◌∙◌, arith}
-use Rattle.std.specs.List.{insert}
-use Rattle.std.proofs.lemmas.List.{drop_more, take_more, set_at, get_or_at, get_or_push, take_at, take-append-le, drop-append-le, map-append, length_push, length-take-le, length-map}
-use Rattle.std.proofs.lemmas.List.Edits.{insert-append_right}
-use Rattle.gd_chunks.specs.Rows.{joined, starts_from, row_at, IsPlace, HasRoom, raised, parted}
+use Rattle.std.proofs.Common.{◌≡◌, ℕ, ◌+◌, ◌-◌, ◌<◌, ◌≤◌, List, [], ◌∷◌, ◌++◌, length, take, drop, append_assoc, append-nil, length-append, length-drop, take-append-drop, sym, ap, ◌∙◌, arith}
+use Rattle.std.proofs.lemmas.List.{take_more, get_or_at, get_or_push, take_at, length_push, length-take-le}
+use Rattle.gd_chunks.specs.Rows.{joined, starts_from, row_at, IsPlace, HasRoom, parted}
 use Rattle.gd_chunks.proofs.Lists.{joined-append, split}
-use Rattle.gd_chunks.proofs.Starts.{starts-joined, length-starts}
-
--- ---- numbers raised one by one
-
-length-raised : (from : ℕ) (ns : List ℕ) → length (raised from ns) ≡ length ns
-length-raised from ns =
-    length-append (take from ns) (map (λ n. n + 1) (drop from ns))
-    ∙ ap (λ m. length (take from ns) + m) (length-map (drop from ns) (λ n. n + 1))
-    ∙ sym (length-append (take from ns) (drop from ns))
-    ∙ ap length (take-append-drop from ns)
-
-raised-push : (from : ℕ) (ns : List ℕ) (n : ℕ) → from ≤ length ns → raised from (ns ++ n ∷ []) ≡ raised from ns ++ (n + 1) ∷ []
-raised-push from ns n within =
-    (λ j. take-append-le from ns (n ∷ []) within j ++ map (λ m. m + 1) (drop-append-le from ns (n ∷ []) within j))
-    ∙ ap (λ l. take from ns ++ l) (map-append (λ m. m + 1) (drop from ns) (n ∷ []))
-    ∙ sym (append_assoc (take from ns) (map (λ m. m + 1) (drop from ns)) ((n + 1) ∷ []))
-
-pub raised_more : (ns now : List ℕ) (from at x : ℕ) → from ≤ at → at < length ns → now ≡ raised from (take at ns) ++ drop at ns → x ≡ get_or now at x → set now at (x + 1) ≡ raised from (take (at + 1) ns) ++ drop (at + 1) ns
-raised_more ns now from at x low inside is read =
-    let front = raised from (take at ns) in
-    let y = get_or ns at 0 in
-    let rest = drop (at + 1) ns in
-    let long : length front ≡ at = length-raised from (take at ns) ∙ length-take-le at ns (omega arith) in
-    let parts : now ≡ front ++ y ∷ rest = is ∙ ap (λ l. front ++ l) (drop_more ns at 0 inside) in
-    let same : x ≡ y = read ∙ ap (λ l. get_or l at x) parts ∙ get_or_at front y rest x at long in
-    let within : from ≤ length (take at ns) = omega (arith, length-take-le at ns (omega arith)) in
-    ap (λ l. set l at (x + 1)) parts
-    ∙ set_at front y rest (x + 1) at long
-    ∙ ap (λ n. front ++ (n + 1) ∷ rest) same
-    ∙ sym (append_assoc front ((y + 1) ∷ []) rest)
-    ∙ ap (λ l. l ++ rest) (sym (raised-push from (take at ns) y within))
-    ∙ ap (λ l. raised from l ++ rest) (sym (take_more ns at 0 inside))
+use Rattle.gd_chunks.proofs.RowStarts.{starts-joined}
 
 -- ---- a row more
 
@@ -83,6 +50,9 @@ module _ {X : Type 0} (rows : List (List X)) (k n : ℕ) (within : k < length ro
   length-second : length (drop n row) ≡ length row - n
   length-second = length-drop n row
 
+  pub take-parted : take k (parted rows k n) ≡ left
+  take-parted = take_at left (take n row ∷ drop n row ∷ right) k length-left
+
   pub joined-parted : joined (parted rows k n) ≡ joined rows
   joined-parted =
       joined-append left (take n row ∷ drop n row ∷ right)
@@ -90,23 +60,8 @@ module _ {X : Type 0} (rows : List (List X)) (k n : ℕ) (within : k < length ro
       ∙ sym (joined-append left (row ∷ right))
       ∙ ap joined (sym (split rows k within))
 
-  pub starts-parted : (starts : List ℕ) (x : ℕ) → starts ≡ starts_from 0 rows → x ≡ get_or starts k x → insert starts (k + 1) (x + n) ≡ starts_from 0 (parted rows k n)
-  starts-parted starts x are read =
-      let m = length (joined left) in
-      let front = starts_from 0 left in
-      let long : length front ≡ k = length-starts 0 left ∙ length-left in
-      let rest = starts_from (m + length row) right in
-      let parts : starts ≡ front ++ m ∷ rest = are ∙ ap (starts_from 0) (split rows k within) ∙ starts-joined left (row ∷ right) in
-      let same : x ≡ m = read ∙ ap (λ l. get_or l k x) parts ∙ get_or_at front m rest x k long in
-      let one : (k + 1) - k ≡ 1 = omega arith in
-      let first : m + length (take n row) ≡ m + n = omega (arith, length-first) in
-      let second : (m + length (take n row)) + length (drop n row) ≡ m + length row = omega (arith, length-first, length-second) in
-      ap (λ l. insert l (k + 1) (x + n)) parts
-      ∙ insert-append_right front (m ∷ rest) k (k + 1) (x + n) long (omega arith)
-      ∙ ap (λ j. front ++ insert (m ∷ rest) j (x + n)) one
-      ∙ ap (λ y. front ++ m ∷ (y + n) ∷ rest) same
-      ∙ (λ j. front ++ m ∷ (sym first j) ∷ starts_from (sym second j) right)
-      ∙ sym (starts-joined left (take n row ∷ drop n row ∷ right))
+  pub length-parted : length (parted rows k n) ≡ length rows + 1
+  length-parted = omega (arith, length-append left (take n row ∷ drop n row ∷ right), length-left, length-drop (k + 1) rows)
 
   abbrev both : List (List X)
   both = left ++ take n row ∷ []
@@ -117,18 +72,14 @@ module _ {X : Type 0} (rows : List (List X)) (k n : ℕ) (within : k < length ro
   apart : parted rows k n ≡ both ++ drop n row ∷ right
   apart = sym (append_assoc left (take n row ∷ []) (drop n row ∷ right))
 
-  length-parted : k + 1 < length (parted rows k n)
-  length-parted = omega (arith, ap length apart, length-append both (drop n row ∷ right), length-both)
-
   -- the place of an element once its row is in two
   pub parted_front : (at i : ℕ) → IsPlace rows at k i → i ≤ n → IsPlace (parted rows k n) at k i
   parted_front at i place low =
       let first : row_at (parted rows k n) k ≡ take n row = get_or_at left (take n row) (drop n row ∷ right) [] k length-left in
-      let front : take k (parted rows k n) ≡ left = take_at left (take n row ∷ drop n row ∷ right) k length-left in
       record {
         row = omega (arith, length-parted);
         column = omega (arith, ap length first, length-first);
-        here = place.here ∙ ap (λ l. length (joined l) + i) (sym front);
+        here = place.here ∙ ap (λ l. length (joined l) + i) (sym take-parted);
       }
 
   pub parted_back : (at i : ℕ) → IsPlace rows at k i → n ≤ i → IsPlace (parted rows k n) at (k + 1) (i - n)
@@ -140,7 +91,7 @@ module _ {X : Type 0} (rows : List (List X)) (k n : ℕ) (within : k < length ro
       let column = place.column in
       let here = place.here in
       record {
-        row = length-parted;
+        row = omega (arith, length-parted);
         column = omega (arith, ap length second, length-second);
         here = omega (arith, joined_both, ap (λ l. length (joined l)) front);
       }

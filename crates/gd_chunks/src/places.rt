@@ -1,9 +1,10 @@
 //! Where an element stands in rows, and what changes the rows around it.
 
 ghost use Rattle.std.specs.Prelude.{◌≡◌, ℕ, ◌+◌, ◌-◌, ◌^◌, nat_lt, ◌<◌, ◌≤◌, [], ◌∷◌, ◌++◌, length, take, drop, slice_index, if◌then◌else◌, vec_len, vec_capacity};
-ghost use Rattle.gd_chunks.specs.Rows.{joined, starts_from, row_at, IsPlace, IsLastUpto, HasRoom, raised, parted};
+ghost use Rattle.gd_chunks.specs.Rows.{joined, starts_from, row_at, IsPlace, IsLastUpto, HasRoom, parted};
 
 use crate::row::{HALF, ROW, Row};
+use crate::starts::Starts;
 use std::alloc::Global;
 use std::mem;
 
@@ -16,19 +17,19 @@ pub(crate) struct Place {
 
 /// The place of the last of the rising numbers that is not above `n`, by halving. It looks at the last one first, since
 /// most elements come at the end.
-fn last_upto(starts: &[usize], n: usize) -> usize
-    requires some { 0 < length starts.now }
-    requires first { slice_index starts.now 0 ≤ n }
-    ensures { IsLastUpto starts.now n result }
+fn last_upto(starts: &Starts, n: usize) -> usize
+    requires some { 0 < length starts.now.items }
+    requires first { slice_index starts.now.items 0 ≤ n }
+    ensures { IsLastUpto starts.now.items n result }
 {
     let mut low = 0;
     let mut high = starts.len();
-    if starts[high - 1] <= n {
+    if starts.get(high - 1) <= n {
         return high - 1;
     }
     while low + 1 < high {
         let middle = low + (high - low) / 2;
-        (low, high) = narrowed(low, high, middle, n < starts[middle]);
+        (low, high) = narrowed(low, high, middle, n < starts.get(middle));
     }
     low
 }
@@ -41,9 +42,9 @@ fn narrowed(low: usize, high: usize, middle: usize, above: bool) -> (usize, usiz
 }
 
 /// The place of element `at`, or, at the end, the place behind the last row.
-pub(crate) fn find<T>(rows: &[Row<T>], starts: &[usize], at: usize) -> Place
+pub(crate) fn find<T>(rows: &[Row<T>], starts: &Starts, at: usize) -> Place
     requires some { 0 < length rows.now }
-    requires starts { starts.now ≡ starts_from 0 rows.now }
+    requires starts { starts.now.items ≡ starts_from 0 rows.now }
     requires at { at ≤ length (joined rows.now) }
     ensures place { IsPlace rows.now at result.row result.column }
     ensures inside { at < length (joined rows.now) → result.column < length (row_at rows.now result.row) }
@@ -51,29 +52,18 @@ pub(crate) fn find<T>(rows: &[Row<T>], starts: &[usize], at: usize) -> Place
     let row = last_upto(starts, at);
     Place {
         row,
-        column: at - starts[row],
-    }
-}
-
-/// Raises the numbers from place `from` on by one.
-pub(crate) fn raise(starts: &mut Vec<usize>, from: usize)
-    requires from { from ≤ length starts.old.items }
-    requires room { (k : ℕ) → k < length starts.old.items → slice_index starts.old.items k + 1 < 2 ^ 64 }
-    ensures { starts.new.items ≡ raised from starts.old.items }
-{
-    for at in from..starts.len() {
-        starts[at] += 1;
+        column: at - starts.get(row),
     }
 }
 
 /// Puts an empty row at the end, for an element behind all.
-fn open<T>(rows: &mut Vec<Row<T>>, starts: &mut Vec<usize>, blank: Vec<T>, at: usize) -> Place
+fn open<T>(rows: &mut Vec<Row<T>>, starts: &mut Starts, blank: Vec<T>, at: usize) -> Place
     requires starts { starts.old.items ≡ starts_from 0 rows.old.items }
     requires at { at ≡ length (joined rows.old.items) }
     requires blank { blank.items ≡ [] }
     requires blank_room { ROW ≤ vec_capacity blank }
     requires rows_room { vec_len rows.old < vec_capacity rows.old }
-    requires starts_room { vec_len starts.old < vec_capacity starts.old }
+    requires starts_room { 0 < starts.old.room }
     ensures { HasRoom rows.old.items rows.new.items starts.new.items at result.row result.column }
 {
     let row = rows.len();
@@ -82,8 +72,21 @@ fn open<T>(rows: &mut Vec<Row<T>>, starts: &mut Vec<usize>, blank: Vec<T>, at: u
     Place { row, column: 0 }
 }
 
-/// Parts the full row of a place in halves.
-fn part<T: Drop>(rows: &mut Vec<Row<T>>, starts: &mut Vec<usize>, blank: Vec<T>, row: usize)
+/// Parts a full row in halves.
+fn part_row<T: Drop>(rows: &mut Vec<Row<T>>, blank: Vec<T>, row: usize)
+    requires row { row < length rows.old.items }
+    requires full { length (row_at rows.old.items row) ≡ ROW }
+    requires blank { blank.items ≡ [] }
+    requires blank_room { ROW ≤ vec_capacity blank }
+    requires rows_room { vec_len rows.old < vec_capacity rows.old }
+    ensures { rows.new.items ≡ parted rows.old.items row HALF }
+{
+    let second = rows[row].part(blank);
+    let _row = rows.insert(row + 1, second);
+}
+
+/// Parts a full row in halves, and counts anew where it and each later row starts.
+fn part<T: Drop>(rows: &mut Vec<Row<T>>, starts: &mut Starts, blank: Vec<T>, row: usize)
     requires starts { starts.old.items ≡ starts_from 0 rows.old.items }
     requires row { row < length rows.old.items }
     requires full { length (row_at rows.old.items row) ≡ ROW }
@@ -91,14 +94,13 @@ fn part<T: Drop>(rows: &mut Vec<Row<T>>, starts: &mut Vec<usize>, blank: Vec<T>,
     requires blank { blank.items ≡ [] }
     requires blank_room { ROW ≤ vec_capacity blank }
     requires rows_room { vec_len rows.old < vec_capacity rows.old }
-    requires starts_room { vec_len starts.old < vec_capacity starts.old }
+    requires starts_room { 0 < starts.old.room }
     ensures rows { rows.new.items ≡ parted rows.old.items row HALF }
     ensures starts { starts.new.items ≡ starts_from 0 (parted rows.old.items row HALF) }
 {
-    let second = rows[row].part(blank);
-    let start = starts[row] + HALF;
-    let _row = rows.insert(row + 1, second);
-    let _start = starts.insert(row + 1, start);
+    let start = starts.get(row);
+    part_row(rows, blank, row);
+    count_again(rows.as_slice(), starts, row, start);
 }
 
 /// Where a place of a row is once that row was parted in halves.
@@ -121,7 +123,7 @@ fn halved(place: Place) -> Place
 /// an empty row is put, so that rows that are filled in order stay full.
 pub(crate) fn room_for<T: Drop>(
     rows: &mut Vec<Row<T>>,
-    starts: &mut Vec<usize>,
+    starts: &mut Starts,
     blank: &mut Vec<T>,
     alloc: Global,
     at: usize,
@@ -132,14 +134,14 @@ pub(crate) fn room_for<T: Drop>(
     requires blank { blank.old.items ≡ [] }
     requires blank_room { ROW ≤ vec_capacity blank.old }
     requires rows_room { vec_len rows.old < vec_capacity rows.old }
-    requires starts_room { vec_len starts.old < vec_capacity starts.old }
+    requires starts_room { 0 < starts.old.room }
     ensures room { HasRoom rows.old.items rows.new.items starts.new.items at result.row result.column }
     ensures blank { blank.new.items ≡ [] }
 {
     if rows.is_empty() {
         return open(rows, starts, mem::replace(blank, Vec::new(alloc)), at);
     }
-    let place = find(rows.as_slice(), starts.as_slice(), at);
+    let place = find(rows.as_slice(), starts, at);
     if rows[place.row].len() < ROW {
         return place;
     }
@@ -151,17 +153,21 @@ pub(crate) fn room_for<T: Drop>(
     halved(place)
 }
 
-/// Counts the elements in front of each row anew.
-fn count_again<T>(rows: &[Row<T>], starts: &mut Vec<usize>)
-    requires room { length rows.now ≤ vec_capacity starts.old }
+/// Counts the elements in front of each row anew, from a row on that has `count` in front of it.
+fn count_again<T>(rows: &[Row<T>], starts: &mut Starts, from: usize, count: usize)
+    requires from { from ≤ length rows.now }
+    requires known { from ≤ length starts.old.items }
+    requires starts { take from starts.old.items ≡ starts_from 0 (take from rows.now) }
+    requires count { count ≡ length (joined (take from rows.now)) }
+    requires room { length rows.now ≤ length starts.old.items + starts.old.room }
     requires fits { length (joined rows.now) < 2 ^ 64 }
     ensures { starts.new.items ≡ starts_from 0 rows.now }
 {
-    starts.clear();
-    let mut count = 0;
-    for at in 0..rows.len() {
-        starts.push_reserved(count);
-        count += rows[at].len();
+    starts.truncate(from);
+    let mut start = count;
+    for at in from..rows.len() {
+        starts.push_reserved(start);
+        start += rows[at].len();
     }
 }
 
@@ -174,7 +180,7 @@ fn drop_rows<T: Drop>(rows: &mut Vec<Row<T>>, count: usize)
 }
 
 /// Takes the first `count` elements away.
-pub(crate) fn shed<T: Drop>(rows: &mut Vec<Row<T>>, starts: &mut Vec<usize>, count: usize)
+pub(crate) fn shed<T: Drop>(rows: &mut Vec<Row<T>>, starts: &mut Starts, count: usize)
     requires some { 0 < length rows.old.items }
     requires starts { starts.old.items ≡ starts_from 0 rows.old.items }
     requires count { count ≤ length (joined rows.old.items) }
@@ -182,8 +188,8 @@ pub(crate) fn shed<T: Drop>(rows: &mut Vec<Row<T>>, starts: &mut Vec<usize>, cou
     ensures items { joined rows.new.items ≡ drop count (joined rows.old.items) }
     ensures starts { starts.new.items ≡ starts_from 0 rows.new.items }
 {
-    let place = find(rows.as_slice(), starts.as_slice(), count);
+    let place = find(rows.as_slice(), starts, count);
     drop_rows(rows, place.row);
     rows[0].shed(place.column);
-    count_again(rows.as_slice(), starts);
+    count_again(rows.as_slice(), starts, 0, 0);
 }

@@ -3,13 +3,17 @@
 #![tactic(auto)]
 
 mod file;
+mod held;
 mod input;
+mod look;
 mod output;
 mod socket;
+mod synced;
 #[cfg(test)]
 mod tests;
 
 pub use file::FileJournal;
 pub use input::StandardInput;
+pub use look::{FileState, look_at};
 pub use output::StandardOutput;
 pub use socket::SocketLink;

@@ -1,14 +1,18 @@
-ghost use Rattle.std.specs.Prelude.{◌≡◌, ◌≤◌, All, IfSome, IsErr, OnOk};
+ghost use Rattle.std.specs.Prelude.{◌≡◌, ◌≤◌, ◌<◌, ◌↔◌, None, Ok, length, take, IfSome, IsErr, OnErr, OnOk};
+ghost use Rattle.std.specs.IoError.{error_kind};
 ghost use Rattle.gd_outside.specs.Causes.{Rose};
 ghost use Rattle.gd_outside.specs.Links.{FitsBuffer, IsOpen, LinkCalled};
 ghost use Rattle.gd_outside.specs.Told.{Stays};
-ghost use Rattle.gd_real.specs.Addresses.{IsAddress};
+ghost use Rattle.gd_real.specs.Addresses.{AreWritten, IsBoundFor, address_at};
 ghost use Rattle.gd_real.specs.Untold.{seen_socket};
+ghost use Rattle.std.specs.Net.Grammar.{IsSocketText};
+ghost use Rattle.gd_real.specs.declared.socket.TheConstants.{SPACE};
 
 use gd_outside::{Failed, Link, Received, Sent, Word, WordList};
 use mio::net::UdpSocket;
-use std::io::ErrorKind;
-use std::net::{Net, SocketAddr, SocketAddrV4};
+use std::alloc::Global;
+use std::io::{Error, ErrorKind, Result as IoResult};
+use std::net::{Net, SocketAddr};
 
 /// How many sites a session has at most.
 const SITES: usize = 16;
@@ -16,26 +20,27 @@ const SITES: usize = 16;
 /// One byte more than a datagram has at most, so that a longer one is seen.
 const SPACE: usize = 8193;
 
-/// The address of each site, where there is one.
-type Addresses = [Option<SocketAddr>; SITES];
+/// So many datagrams that came from elsewhere are passed over in one receive.
+const STRANGERS: u32 = 1024;
 
-/// A socket that is bound to the own address.
+/// A socket that is bound to the own address, and the address of each site.
 #[derive(Drop)]
 struct Bound {
     socket: UdpSocket,
-    addresses: Addresses,
+    addresses: Vec<SocketAddr>,
 }
 
-/// A UDP socket that never waits, with the number of the calls on it that failed. Who sent a datagram isn't looked at.
+/// A UDP socket that never waits, with the number of the calls on it that failed. A datagram that came from none of the
+/// addresses is passed over, as if it hadn't come.
 #[derive(Drop)]
-pub struct SocketLink<R: Net + Drop> {
+pub struct SocketLink<R: Net + AllocGlobal + Drop> {
     rt: R,
     bound: Option<Bound>,
     space: [u8; SPACE],
     faults: u64,
 }
 
-impl<R: Net + Drop> SocketLink<R> {
+impl<R: Net + AllocGlobal + Drop> SocketLink<R> {
     /// No socket so far.
     pub fn new(rt: R) -> Self
         ensures { result.faults ≡ 0 }
@@ -51,28 +56,36 @@ impl<R: Net + Drop> SocketLink<R> {
     fn count_fault(&mut self)
         ensures count { self.old.faults ≤ self.new.faults }
         ensures rose { Rose self.old.faults self.new.faults }
+        ensures bound { self.new.bound ≡ self.old.bound }
     {
         self.faults = self.faults.saturating_add(1);
     }
 
     fn bind(&self, words: &[Word], me: u8) -> Option<Bound>
-        ensures { IfSome result (λ _. All IsAddress words.now) }
+        ensures { IfSome result (λ bound. AreWritten words.now bound.addresses.items) }
     {
-        let addresses = read_addresses(words)?;
-        let socket = UdpSocket::bind(&self.rt, address_of(&addresses, me)?).ok()?;
+        let addresses = read_addresses(self.rt.alloc(), words)?;
+        let own = address_of(addresses.as_slice(), me)?;
+        if !are_alike(addresses.as_slice(), own) {
+            return None;
+        }
+        let socket = UdpSocket::bind(&self.rt, own).ok()?;
         Some(Bound { socket, addresses })
     }
 
     /// Sends the frame whole.
-    fn try_send(&self, to: u8, frame: &[u8]) -> Option<()> {
-        let bound = self.bound.as_ref()?;
-        let target = address_of(&bound.addresses, to)?;
-        let count = bound.socket.send_to(frame, target).ok()?;
-        (count == frame.len()).then_some(())
+    fn try_send(&self, to: u8, frame: &[u8]) -> Sent {
+        let Some(bound) = &self.bound else {
+            return Sent::Lost;
+        };
+        let Some(target) = address_of(bound.addresses.as_slice(), to) else {
+            return Sent::Lost;
+        };
+        sent_of(bound.socket.send_to(frame, target), frame.len())
     }
 }
 
-impl<R: Net + Drop> Link for SocketLink<R> {
+impl<R: Net + AllocGlobal + Drop> Link for SocketLink<R> {
     ghost seen = { λ s. seen_socket s.faults };
 
     fn open(&mut self, addresses: &WordList, me: u8) -> Result<(), Failed>
@@ -84,9 +97,10 @@ impl<R: Net + Drop> Link for SocketLink<R> {
         ensures called { LinkCalled (seen_socket self.old.faults) (seen_socket self.new.faults)
             (IsErr result) }
 
-        // What doesn't read as an IPv4 address with a port is a fault, as are more than 16 addresses, and an own
+        // What doesn't read as an IP address with a port is a fault, as are addresses of both kinds, more than 16, and an own
         // number to which none belongs. A socket that was open before is closed.
-        ensures addresses { OnOk result (All IsAddress addresses.now) }
+        ensures bound { OnOk result (IsBoundFor addresses.now self.new.bound) }
+        ensures closed { OnErr result (self.new.bound ≡ None) }
     {
         self.bound = None;
         match self.bind(addresses.as_slice(), me) {
@@ -107,26 +121,31 @@ impl<R: Net + Drop> Link for SocketLink<R> {
             self.count_fault();
             return Received::Failed;
         };
-        match bound.socket.recv_from(&mut self.space) {
-            Ok((count, _)) => copy_whole(&self.space[..count], buf),
-            Err(error) => match error.kind() {
-                ErrorKind::WouldBlock => Received::Nothing,
-                _ => {
-                    self.count_fault();
-                    Received::Failed
+        for _ in 0..STRANGERS {
+            match bound.socket.recv_from(&mut self.space) {
+                Ok((count, source)) => {
+                    if bound.addresses.as_slice().contains(&source) {
+                        return copy_whole(&self.space[..count], buf);
+                    }
                 }
-            },
+                Err(error) => {
+                    let received = without_datagram(&error);
+                    if received == Received::Failed {
+                        self.count_fault();
+                    }
+                    return received;
+                }
+            }
         }
+        Received::Nothing
     }
 
     fn send(&mut self, to: u8, frame: &[u8]) -> Sent {
-        match self.try_send(to, frame) {
-            Some(()) => Sent::Out,
-            None => {
-                self.count_fault();
-                Sent::Lost
-            }
+        let sent = self.try_send(to, frame);
+        if sent == Sent::Lost {
+            self.count_fault();
         }
+        sent
     }
 }
 
@@ -134,35 +153,73 @@ impl<R: Net + Drop> Link for SocketLink<R> {
 fn copy_whole(datagram: &[u8], buf: &mut [u8]) -> Received
     ensures size { FitsBuffer result buf.new }
     ensures sure { ¬ result ≡ Received.Failed }
+    ensures some { ¬ result ≡ Received.Nothing }
+    ensures whole { length datagram.now ≤ length buf.old → length datagram.now < SPACE
+        → result ≡ Received.Datagram (length datagram.now) }
+    ensures bytes { length datagram.now ≤ length buf.old → length datagram.now < SPACE
+        → take (length datagram.now) buf.new ≡ datagram.now }
 {
-    if datagram.len() > buf.len() || datagram.len() == SPACE {
+    if datagram.len() > buf.len() || datagram.len() >= SPACE {
         return Received::TooLong;
     }
     buf[..datagram.len()].copy_from_slice(datagram);
     Received::Datagram(datagram.len())
 }
 
-/// The addresses that the words write, at most as many as there are sites.
-fn read_addresses(words: &[Word]) -> Option<Addresses>
-    ensures { IfSome result (λ _. All IsAddress words.now) }
+/// What a receive came to that got no datagram: a pause, or a failure.
+fn without_datagram(error: &Error) -> Received
+    ensures pause { error_kind error.now ≡ ErrorKind.WouldBlock → result ≡ Received.Nothing }
+    ensures failed { ¬ (error_kind error.now ≡ ErrorKind.WouldBlock) → result ≡ Received.Failed }
+{
+    match error.kind() {
+        ErrorKind::WouldBlock => Received::Nothing,
+        _ => Received::Failed,
+    }
+}
+
+/// A frame of that size is out where all of it was taken.
+fn sent_of(answer: IoResult<usize>, size: usize) -> Sent
+    ensures { (result ≡ Sent.Out) ↔ (answer ≡ Ok size) }
+{
+    match answer {
+        Ok(count) if count == size => Sent::Out,
+        _ => Sent::Lost,
+    }
+}
+
+/// The addresses that the words write, if there are no more than sites.
+pub(crate) fn read_addresses(alloc: Global, words: &[Word]) -> Option<Vec<SocketAddr>>
+    ensures { IfSome result (λ addresses. AreWritten words.now addresses.items) }
 {
     if words.len() > SITES {
         return None;
     }
-    let mut addresses = [None; SITES];
-    for (k, word) in words.iter().enumerate() {
-        addresses[k] = Some(read_address(word)?);
+    let mut addresses = Vec::new(alloc);
+    for word in words {
+        addresses.push(read_address(word)?).ok()?;
     }
     Some(addresses)
 }
 
 fn read_address(word: &Word) -> Option<SocketAddr>
-    ensures { IfSome result (λ _. IsAddress word.now) }
+    ensures { IfSome result (IsSocketText word.now) }
 {
-    let address = word.as_str().parse::<SocketAddrV4>().ok()?;
-    Some(SocketAddr::V4(address))
+    word.as_str().parse::<SocketAddr>().ok()
 }
 
-fn address_of(addresses: &Addresses, site: u8) -> Option<SocketAddr> {
-    *addresses.get(usize::from(site).checked_sub(1)?)?
+/// Whether all addresses are of the kind of this one, IPv4 or IPv6: a socket sends to its own kind alone.
+fn are_alike(addresses: &[SocketAddr], own: SocketAddr) -> bool {
+    addresses
+        .iter()
+        .all(|address| address.is_ipv4() == own.is_ipv4())
+}
+
+/// The address of the site with that number, counted from 1.
+fn address_of(addresses: &[SocketAddr], site: u8) -> Option<SocketAddr>
+    ensures { result ≡ address_at addresses.now site }
+{
+    if site == 0 {
+        return None;
+    }
+    addresses.get(usize::from(site) - 1).copied()
 }

@@ -14,11 +14,12 @@ use Rattle.gd_effects.specs.Outside.{IsTold, Outside, outside}
 use Rattle.gd_effects.specs.Prints.{Prints}
 use Rattle.gd_lines.specs.Replies.{usage_line}
 use Rattle.gd_node.specs.Configs.{ConfigValue}
-use Rattle.gd_node.specs.Rejoining.{IsRejoinEnd, IsRenamedBy, IsToldAll, KeepsFound, found_in, rejoins, rejoins_for_part}
-use Rattle.gd_node.specs.Serving.{IsNamedBy, IsNodeEnd, KeepsBegun, OnceBegun, served, served_of_part}
+use Rattle.gd_node.specs.Rejoining.{IsRejoinEnd, IsRenamed, IsToldAll, KeepsFound, OnceFound, OnlySynced, found_in, rejoins, rejoins_for_part}
+use Rattle.gd_node.specs.Serving.{IsNamed, IsNodeEnd, KeepsBegun, OnceLogged, OnlyOpened, served, served_of_part}
 use Rattle.gd_asked.specs.declared.command.Command.{Command}
 use Rattle.gd_asked.specs.declared.command.Command.TheVariants.{Replay, Upgrade, Snapshot, View, Board, Node, Rejoin, Rehearse, Churn}
 use Rattle.gd_options.specs.declared.format.Format.{Format}
+use Rattle.gd_outside.proofs.ToldLemmas.{grows_nothing}
 use Rattle.gd_outside.specs.Seen.{SeenSource, SeenSink, SeenJournal, SeenLink}
 use Rattle.gd_outside.specs.Told.{told}
 use Rattle.gd_outside.specs.declared.end.End.{End}
@@ -40,7 +41,7 @@ use Rattle.gd_worlds.specs.Rehearsal.{rehearsal_effects, rehearsal_end, rehearsa
 use Rattle.groupdesign.proofs.Rejoined.{closes_found, is_unread}
 use Rattle.groupdesign.proofs.Sentences.{completes, did_whole, left_at, unopened_at}
 use Rattle.groupdesign.specs.Carrying.{Carried}
-use Rattle.groupdesign.specs.Commands.{HasLogOf, IsEnd, IsSilentEnd, IsUnread, Keeps, Named, OpensFirst, Silent, Untouched, config}
+use Rattle.groupdesign.specs.Commands.{HasLogOf, IfBegun, IsEnd, IsSilentEnd, IsUnread, Keeps, Named, OpensFirst, Silent, Untouched, config}
 use Rattle.groupdesign.specs.Headline.{Headline}
 use Rattle.groupdesign.specs.Runs.{IsToldFor, Run, Told, Whole, asked, contents, entries, input, owed, owed_for_part, owed_status}
 
@@ -82,7 +83,7 @@ module _ (run : Run) (h : Carried (asked run) run.status run.before run.after) w
     frames = λ w. (did_whole run.status ends w.0 w.1).0.tried;
     steps = λ w. (did_whole run.status ends w.0 w.1).0.steps;
     memory = λ t is. left_at ends NoMemory is t;
-    read = λ t is. (left_at ends ReadFault is t).1;
+    read = λ t is. left_at ends ReadFault is t;
     write = λ t is. left_at ends WriteFault is t;
     torn = λ t is. inl (left_at ends JournalFault is t);
     unopened = unopened_at ends;
@@ -137,12 +138,22 @@ headline_for run e h = headline run (subst (λ k. Carried k run.status run.befor
 
 -- ---- memory ran out before anything was done
 
+-- so the link is opened at most, and the journal read
+opened_none : (o : Outside) → OnlyOpened o o
+opened_none o =
+    record { input = refl; output = refl; entries = grows_nothing o.link.entries; tried = grows_nothing o.link.tried }
+
+synced_none : (j : SeenJournal) → OnlySynced j j
+synced_none j = record { contents = grows_nothing j.contents; images = λ t. inl refl }
+
 unmoved : (asked : Option Command) (o : Outside)
     → IsEnd asked NoMemory × Untouched asked o o × Silent asked NoMemory o o × Named asked NoMemory o o × Keeps asked NoMemory o o
 unmoved None o = (tt, (refl, refl, refl, refl), (λ s. refl, λ s. refl), tt, tt)
 unmoved (Some View) o = (tt, (refl, refl), tt, tt, tt)
-unmoved (Some (Node session site journal addresses)) o = (tt, tt, tt, inl refl, inl refl)
-unmoved (Some (Rejoin session site journal addresses)) o = (tt, tt, tt, inl refl, inl refl)
+unmoved (Some (Node session site journal addresses)) o =
+    (tt, tt, tt, inl refl, inl (opened_none o, refl, refl))
+unmoved (Some (Rejoin session site journal addresses)) o =
+    (tt, tt, tt, inl refl, inl (opened_none o, synced_none o.journal))
 unmoved (Some (Rehearse sites)) o = (tt, (refl, refl), tt, tt, tt)
 unmoved (Some (Churn seed steps)) o = (tt, (refl, refl, refl), (λ s. refl, λ s. refl), tt, tt)
 unmoved (Some other) o = (tt, (refl, refl), (λ s. refl, λ s. refl), tt, tt)
@@ -274,13 +285,17 @@ abbrev rejoin_of : ConfigValue → Command
 rejoin_of c = Rejoin c.session c.me c.journal c.addresses
 
 module _ (a b : Outside) where
+  begun : {P : Type 0} (s : Status) → P → IfBegun s a b P
+  begun NoMemory p = inr p
+  begun other p = p
+
   -- where the link wasn't opened, no step was taken either
   opens_first : (s : Status) → (s ≡ LinkFault → (b.input ≡ a.input) × (b.output ≡ a.output) × (b.journal ≡ a.journal)) → IfUnopened s a b → OpensFirst s a b
   opens_first LinkFault same h = let kept = same refl in (kept.0, kept.1, kept.2, omega (arith, h.did.steps))
   opens_first other same h = tt
 
-  pub carried_node : (c : ConfigValue) (s : Status) → IsNodeEnd s → IsNamedBy c s a.output b.output b.journal b.link
-      → OnceBegun s a.output b.output (KeepsBegun c (told a.link.entries) (told a.input.left) s a b)
+  pub carried_node : (c : ConfigValue) (s : Status) → IsNodeEnd s → IsNamed c s a b
+      → OnceLogged s a b (KeepsBegun c (told a.link.entries) (told a.input.left) s a b)
       → (s ≡ LinkFault → (b.input ≡ a.input) × (b.output ≡ a.output) × (b.journal ≡ a.journal))
       → EndsAs (IsTold b) (served c (told a.link.entries) (told a.input.left)) (served_of_part c (told a.link.entries)) (end_after (node_lines (told a.input.left))) s a b
       → Carried (Some (node_of c)) s a b
@@ -289,15 +304,15 @@ module _ (a b : Outside) where
     kind = kind;
     untouched = tt;
     silent = tt;
-    named = named;
+    named = begun s named;
     keeps = keeps;
     opens_first = opens_first s untouched ends.unopened;
   }
 
   pub carried_rejoin : (c : ConfigValue) (s : Status) → IsRejoinEnd s
       → let there = found_in c (told a.journal.contents) in let entries = told a.link.entries in let bytes = told a.input.left in
-      IsRenamedBy c there s a.output b.output b.journal b.link
-      → OnceBegun s a.output b.output (IsToldAll b → KeepsFound c there entries bytes s a b)
+      IsRenamed c there s a b
+      → OnceFound s a b (IsToldAll b → KeepsFound c there entries bytes s a b)
       → (s ≡ LinkFault → (b.input ≡ a.input) × (b.output ≡ a.output) × (b.journal ≡ a.journal))
       → EndsAs (IsToldAll b) (rejoins c there entries bytes) (rejoins_for_part c there entries) (rejoined_end there (node_lines bytes)) s a b ⊎ Unread s a b
       → Carried (Some (rejoin_of c)) s a b
@@ -306,7 +321,7 @@ module _ (a b : Outside) where
     kind = kind;
     untouched = tt;
     silent = tt;
-    named = named;
+    named = begun s named;
     keeps = keeps;
     opens_first = ⊎_elim (λ done. opens_first s untouched done.unopened)
         (λ unread. subst (λ z. OpensFirst z a b) (sym unread.failed) tt) ends;

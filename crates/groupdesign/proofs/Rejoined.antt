@@ -8,11 +8,11 @@ use Rattle.gd_events.specs.Events.{Event}
 use Rattle.gd_grammar.specs.Closing.{Closes}
 use Rattle.gd_grammar.specs.Drawings.{drawings}
 use Rattle.gd_node.specs.Configs.{ConfigValue}
-use Rattle.gd_node.specs.Rejoining.{IsToldAll, KeepsFound, resumed_by}
-use Rattle.gd_node.specs.Serving.{OnceBegun, gone_on, header_of}
+use Rattle.gd_node.specs.Rejoining.{IsToldAll, KeepsFound, OnceFound, resumed_by}
+use Rattle.gd_node.specs.Serving.{gone_on, header_of}
 use Rattle.gd_asked.specs.declared.command.Command.{Command}
 use Rattle.gd_asked.specs.declared.command.Command.TheVariants.{Rejoin}
-use Rattle.gd_outside.specs.Seen.{Entry, SeenSink}
+use Rattle.gd_outside.specs.Seen.{Entry}
 use Rattle.gd_outside.specs.Told.{told}
 use Rattle.gd_outside.specs.declared.status.Status.{Status}
 use Rattle.gd_outside.specs.declared.status.Status.TheVariants.{Done, Usage, BadLog, LineLimit, OtherJournal, BadView}
@@ -29,7 +29,7 @@ is_unread (Some (Rejoin session site journal addresses)) s a b h = h
 is_unread other s a b h = absurd h
 
 -- what holds once a node has its log holds where nothing cut its run short
-uncut_once : (s : Status) (old new : SeenSink) {P : Type 0} → IsUncut s → OnceBegun s old new P → P
+uncut_once : (s : Status) (old new : Outside) {P : Type 0} → IsUncut s → OnceFound s old new P → P
 uncut_once Done old new u p = p
 uncut_once Usage old new u p = p
 uncut_once BadLog old new u p = p
@@ -46,10 +46,10 @@ held_found c events entries input = held_of_answers (resumed_by c events) entrie
 
 -- the log that was found has what was recorded besides
 pub closes_found : (c : ConfigValue) (there : Found) (entries : List Entry) (input : List ℕ) (s : Status) (a b : Outside) → IsUncut s → IsToldAll b
-    → OnceBegun s a.output b.output (IsToldAll b → KeepsFound c there entries input s a b)
+    → OnceFound s a b (IsToldAll b → KeepsFound c there entries input s a b)
     → ClosesFound there (header_of c) (rejoined_held c.me (length c.addresses) c.session there entries (node_lines input)) b.journal
 closes_found c (Events events) entries input s a b u t once = λ some.
-    let k = uncut_once s a.output b.output u once t in
+    let k = uncut_once s a b u once t in
     let slow = resumed_by c events in
     let journal = (did_whole s k.ends t.told u).0.journal in
     let adds = journal.crash some (no_head_of_answers slow entries (node_lines input)) (header_of c) events (k.stands (journal.was some)) in

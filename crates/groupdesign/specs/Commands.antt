@@ -1,5 +1,5 @@
 -- What holds of the runs of one command alone.
-use Rattle.std.specs.Prelude.{◌≡◌, ℕ, List, Option, Some, None, IsSome, length}
+use Rattle.std.specs.Prelude.{◌≡◌, ◌⊎◌, ℕ, List, Option, Some, None, IsSome, length}
 use Rattle.gd_effects.specs.Endings.{Unread}
 use Rattle.gd_effects.specs.Outside.{Outside}
 use Rattle.gd_events.specs.Events.{Event}
@@ -7,8 +7,8 @@ use Rattle.gd_grammar.specs.Closing.{Closes}
 use Rattle.gd_grammar.specs.Drawings.{drawings, logged}
 use Rattle.gd_grammar.specs.HeaderBytes.{Header}
 use Rattle.gd_node.specs.Configs.{ConfigValue}
-use Rattle.gd_node.specs.Rejoining.{IsRejoinEnd, IsRenamedBy, IsToldAll, KeepsFound}
-use Rattle.gd_node.specs.Serving.{IsNamedBy, IsNodeEnd, KeepsBegun, OnceBegun}
+use Rattle.gd_node.specs.Rejoining.{IsRejoinEnd, IsRenamed, IsToldAll, KeepsFound, OnceFound}
+use Rattle.gd_node.specs.Serving.{IsNamed, IsNodeEnd, KeepsBegun, OnceLogged}
 use Rattle.gd_asked.specs.declared.command.Command.{Command}
 use Rattle.gd_asked.specs.declared.command.Command.TheVariants.{View, Node, Rejoin, Rehearse, Churn}
 use Rattle.gd_outside.specs.Seen.{Entry, SeenJournal}
@@ -96,15 +96,15 @@ HasLogOf (Some (Rejoin session site journal addresses)) contents input entries a
     (rejoined_held site (length addresses) session there entries (node_lines input)) after
 HasLogOf other contents input entries after = Unit {0}
 
--- Once a node has begun its log, or found it, and before that nothing is printed, a crash leaves that log with a front of what
--- was recorded.
+-- Once a node has begun its log, or found it, and before that it opens the link at most, and reads what it goes on from, a crash
+-- leaves that log with a front of what was recorded.
 abbrev pub Keeps : Option Command → Status → Outside → Outside → Type 0
 Keeps (Some (Node session site journal addresses)) status before after =
-    OnceBegun status before.output after.output
+    OnceLogged status before after
     (KeepsBegun (config session site journal addresses) (told before.link.entries)
     (told before.input.left) status before after)
 Keeps (Some (Rejoin session site journal addresses)) status before after =
-    OnceBegun status before.output after.output
+    OnceFound status before after
     (IsToldAll after → KeepsFound (config session site journal addresses)
     (found_by session site addresses (told before.journal.contents))
     (told before.link.entries) (told before.input.left) status before after)
@@ -116,15 +116,18 @@ IsUnread (Some (Rejoin session site journal addresses)) status before after =
     Unread status before after
 IsUnread other status before after = ⊥
 
--- the journal's path, and the link's addresses and own number, are those of the words once `ready` is printed
+-- this holds unless memory ran out before anything was done
+abbrev pub IfBegun : Status → Outside → Outside → Type 0 → Type 0
+IfBegun NoMemory before after P = (after ≡ before) ⊎ P
+IfBegun other before after P = P
+
+-- The link's addresses and own number are those of the words, and so is the journal's path once its log is begun, or found.
 abbrev pub Named : Option Command → Status → Outside → Outside → Type 0
 Named (Some (Node session site journal addresses)) status before after =
-    IsNamedBy (config session site journal addresses)
-    status before.output after.output after.journal after.link
+    IfBegun status before after (IsNamed (config session site journal addresses) status before after)
 Named (Some (Rejoin session site journal addresses)) status before after =
-    IsRenamedBy (config session site journal addresses)
-    (found_by session site addresses (told before.journal.contents))
-    status before.output after.output after.journal after.link
+    IfBegun status before after (IsRenamed (config session site journal addresses)
+    (found_by session site addresses (told before.journal.contents)) status before after)
 Named other status before after = Unit {0}
 
 -- where the link wasn't opened, nothing else was touched

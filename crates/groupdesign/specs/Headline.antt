@@ -32,7 +32,8 @@ pub record Headline (run : Run) : Type 0 where
   -- without memory, a front of what is owed was done
   pub memory : Told run → run.status ≡ NoMemory → DidFront run.before (owed run) run.after
   -- after a failed read, what is owed for the whole lines that were read before
-  pub read : Told run → run.status ≡ ReadFault → DidRead run.before (owed_for_part run) run.after
+  pub read : Told run → run.status ≡ ReadFault
+      → DidFront run.before (owed run) run.after × DidRead run.before (owed_for_part run) run.after
   -- after a failed write, a front, and a front of the next line
   pub write : Told run → run.status ≡ WriteFault → DidHalfPrint run.before (owed run) run.after
   -- After a failed call of the journal, a front; and the journal is a log with the next event or without. Where nothing was
@@ -68,5 +69,5 @@ pub record Headline (run : Run) : Type 0 where
   pub untouched : Untouched (asked run) run.before run.after
   -- a command that reads a log printed nothing where it couldn't read it, or had no memory for it
   pub silent : Silent (asked run) run.status run.before run.after
-  -- the journal's path, and the link's addresses and own number, are those of the words once `ready` is printed
+  -- the link's addresses and own number are those of the words, and so is the journal's path once its log is begun, or found
   pub named : Named (asked run) run.status run.before run.after

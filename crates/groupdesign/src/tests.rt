@@ -1,44 +1,23 @@
-//! Rows worked by hand, cuts and faults, each through `run` over objects in memory; nodes, alone and together, rehearsals and
-//! churns over such objects too; snapshots, and who looks on; card boards; standard input and output over readers and writers of
-//! their own; late events on the history of a drawing; and how each two operations bear on each other.
+//! Each call of each device failing in turn, through `run` over objects in memory: of the commands that read an input, of nodes,
+//! and of nodes that go on from a journal; standard input and output over readers and writers of their own; late events on the
+//! history of a drawing; and how each two operations bear on each other. What the built program does of words, logs, lines,
+//! frames and journals is tested from outside, in the folder tests/ of the repository.
 
 ghost use Rattle.std.specs.Prelude.{◌≡◌, ◌<◌};
 
-mod altered;
-mod arrivals;
-mod boards;
-mod changed_snapshots;
-mod changes;
-mod churns;
+mod advising;
 mod counting;
-mod cuts;
-mod deep;
 mod devices;
 mod documents;
 mod faults;
-mod formats;
 mod frames;
-mod groups;
 mod ids;
-mod journals;
-mod labels;
-mod limits;
-mod logs;
 mod nodes;
 mod pairs;
 mod refusing;
-mod rehearsals;
 mod rejoins;
-mod rows;
-mod showing;
-mod snapshots;
 mod standard;
 mod texts;
-mod together;
-mod typed;
-mod usage;
-mod versions;
-mod views;
 
 use crate::running::run;
 use gd_base::Steps;
@@ -50,7 +29,7 @@ use std::alloc::{AllocError, Global};
 use std::marker::Brand;
 use std::sync::ledger::{Blank, Ledger};
 
-/// More than any of these runs prints, but for those of large drawings.
+/// More than any of these runs prints.
 const ROOM: usize = 10_000;
 
 /// A rect of site 2 and an ellipse of site 1, both at clock 1.
@@ -62,11 +41,6 @@ const TIE: [u8; 70] = [
 
 const TIE_TEXT: &str =
     "ellipse 1.1 in - at 0 0 size 20 20 stroke 000000 fill none width 1\nrect 1.2 in - at 5 5 size 10 10 stroke 000000 fill none width 1\nend 2\n";
-
-/// The line of a log's first fault.
-fn bad_log(alloc: Global, at: usize, why: &str) -> Result<String, AllocError> {
-    format!(in alloc; "bad log at {at}: {why}\n")
-}
 
 fn words_of(alloc: Global, texts: &[&str]) -> Result<WordList, AllocError> {
     let mut words = WordList::new(alloc);
@@ -118,19 +92,9 @@ fn ran<S: Source, K: Sink>(
 
 /// How a run of these words over these bytes ends, and what it prints.
 fn ran_over(alloc: Global, texts: &[&str], bytes: &[u8]) -> Result<(Status, SureSink), AllocError> {
-    ran_in(alloc, ROOM, texts, bytes)
-}
-
-/// The same, with room for so many printed bytes.
-fn ran_in(
-    alloc: Global,
-    room: usize,
-    texts: &[&str],
-    bytes: &[u8],
-) -> Result<(Status, SureSink), AllocError> {
     let words = words_of(alloc, texts)?;
     let mut input = SureSource::new(alloc, bytes)?;
-    let mut output = SureSink::new(alloc, room)?;
+    let mut output = SureSink::new(alloc, ROOM)?;
     let status = ran(alloc, &words, &mut input, &mut output)?;
     Ok((status, output))
 }

@@ -8,14 +8,11 @@ use std::alloc::{AllocError, Global};
 pub const ROOM: usize = 100_000;
 
 /// The frame with a rect at 0 0, which is the one event of site 2.
-pub const FRAME: [u8; 60] = [
+const FRAME: [u8; 60] = [
     b'G', b'D', b'O', b'F', 2, 0, 0, 0, 7, 2, 1, 0, 0, 0, 1, 0, 0, 0, 0, 0, 1, 0, 0, 0, 0, 0, 0, 0,
     0, 0, 0, 1, 0, 0, 0, 0, 0, 1, 2, 0, 1, 1, 1, 0, 0, 0, 0, 0, 0, 0, 0, 0, 0, 0, 10, 0, 0, 0, 10,
     0,
 ];
-
-/// Where the event of that frame begins.
-pub const EVENT: usize = 32;
 
 /// What an event does.
 #[derive(Clone, Copy)]
@@ -23,7 +20,6 @@ pub enum Deed {
     /// Makes a rect at 0 0, of size 10 10, without a label.
     Rect,
     Move(Id, i32),
-    Raise(Id),
 }
 
 /// An event of site 2: its clock, its number, and what it does.
@@ -32,9 +28,9 @@ pub type Told = (u64, u16, Deed);
 /// A frame: how many events site 2 has, its clock, and the events that the frame has.
 pub type Sheet = (u16, u64, &'static [Told]);
 
-pub const RECT: Told = (1, 1, Deed::Rect);
+const RECT: Told = (1, 1, Deed::Rect);
 
-pub const MOVED: Told = (2, 2, Deed::Move((1, 2), 1));
+const MOVED: Told = (2, 2, Deed::Move((1, 2), 1));
 
 /// The frames with one of these events each.
 pub const FIRST: Sheet = (1, 1, &[RECT]);
@@ -62,10 +58,6 @@ fn push_deed(bytes: &mut Vec<u8>, deed: Deed) -> Result<(), AllocError> {
             bytes.extend_from_slice(&place.to_be_bytes())?;
             bytes.extend_from_slice(&place.to_be_bytes())
         }
-        Deed::Raise(id) => {
-            bytes.extend_from_slice(&[9])?;
-            push_id(bytes, id)
-        }
     }
 }
 
@@ -77,7 +69,7 @@ fn push_event(bytes: &mut Vec<u8>, told: Told) -> Result<(), AllocError> {
 }
 
 /// The bytes of a frame.
-pub fn frame_of(alloc: Global, sheet: Sheet) -> Result<Vec<u8>, AllocError> {
+fn frame_of(alloc: Global, sheet: Sheet) -> Result<Vec<u8>, AllocError> {
     let (count, clock, events) = sheet;
     let mut bytes = Vec::new(alloc);
     bytes.extend_from_slice(&FRAME[..13])?;
@@ -90,31 +82,6 @@ pub fn frame_of(alloc: Global, sheet: Sheet) -> Result<Vec<u8>, AllocError> {
         push_event(&mut bytes, *told)?;
     }
     Ok(bytes)
-}
-
-/// Puts these bytes into these places.
-pub fn change(bytes: &mut [u8], changes: &[(usize, u8)]) {
-    for (at, value) in changes {
-        if let Some(byte) = bytes.get_mut(*at) {
-            *byte = *value;
-        }
-    }
-}
-
-/// The worked frame with these bytes in these places.
-pub fn changed(changes: &[(usize, u8)]) -> [u8; 60] {
-    let mut bytes = FRAME;
-    change(&mut bytes, changes);
-    bytes
-}
-
-/// A link that hands out these datagrams.
-pub fn link_of(alloc: Global, datagrams: &[&[u8]]) -> Result<MemoryLink, AllocError> {
-    let mut link = MemoryLink::new(alloc, ROOM, &[])?;
-    for datagram in datagrams {
-        link.add_datagram(datagram)?;
-    }
-    Ok(link)
 }
 
 /// What a link hands out: a frame, or a failure.

@@ -30,16 +30,6 @@ impl Node {
         str::from_utf8(self.output.bytes()).unwrap_or("no text")
     }
 
-    /// Whether these frames were tried, each for that site, and no others.
-    pub fn has_tried(&self, wanted: &[(u8, &[u8])]) -> bool {
-        for (k, frame) in wanted.iter().enumerate() {
-            if self.link.tried(k) != Some(*frame) {
-                return false;
-            }
-        }
-        self.link.tried(wanted.len()).is_none()
-    }
-
     /// How many frames were tried.
     pub fn tries(&self) -> usize {
         for k in 0..FRAMES {
@@ -49,41 +39,15 @@ impl Node {
         }
         FRAMES
     }
-
-    /// The last frame that was tried for that site.
-    pub fn last_frame(&self, to: u8) -> Option<&[u8]> {
-        let mut last = None;
-        for k in 0..FRAMES {
-            let Some((site, frame)) = self.link.tried(k) else {
-                return last;
-            };
-            if site == to {
-                last = Some(frame);
-            }
-        }
-        last
-    }
 }
 
 /// The number of a site, and how many sites there are.
 pub type Seat = (u8, usize);
 
 /// The words of a node at that seat, behind `node` and perhaps a flag.
-fn words_behind(
-    alloc: Global,
-    front: &[&str],
-    session: &str,
-    seat: Seat,
-) -> Result<WordList, AllocError> {
+fn words_behind(alloc: Global, front: &[&str], seat: Seat) -> Result<WordList, AllocError> {
     let site = format!(in alloc; "{}", seat.0)?;
-    let texts = [
-        "--session",
-        session,
-        "--site",
-        site.as_str(),
-        "--journal",
-        "j",
-    ];
+    let texts = ["--session", "7", "--site", site.as_str(), "--journal", "j"];
     let mut words = words_of(alloc, front)?;
     for text in texts {
         words.push(Word::new(alloc, text)?)?;
@@ -95,8 +59,8 @@ fn words_behind(
 }
 
 /// The words of a node at that seat.
-pub fn node_words(alloc: Global, seat: Seat) -> Result<WordList, AllocError> {
-    words_behind(alloc, &["node"], "7", seat)
+fn node_words(alloc: Global, seat: Seat) -> Result<WordList, AllocError> {
+    words_behind(alloc, &["node"], seat)
 }
 
 /// A node to which these lines are typed, with that link.
@@ -137,24 +101,17 @@ pub fn answered_failing(
     })
 }
 
-/// A node that is alone, to which these lines are typed.
-pub fn alone(alloc: Global, lines: &[u8]) -> Result<Node, AllocError> {
-    let link = MemoryLink::new(alloc, ROOM, &[])?;
-    answered(alloc, (1, 1), lines, link)
-}
-
-/// A node at that seat of that session that goes on from this journal, to which these lines are typed, where these calls on the
-/// input and the output fail.
+/// A node at that seat that goes on from this journal, to which these lines are typed, where these calls on the input and the
+/// output fail.
 pub fn gone_on(
     alloc: Global,
-    session: &str,
     seat: Seat,
     mut journal: MemoryJournal,
     lines: &[u8],
     mut link: MemoryLink,
     fails: &[Fail],
 ) -> Result<Node, AllocError> {
-    let words = words_behind(alloc, &["node", "--resume"], session, seat)?;
+    let words = words_behind(alloc, &["node", "--resume"], seat)?;
     let mut input = MemorySource::new(alloc, lines, fails)?;
     let mut output = MemorySink::new(alloc, ROOM, fails)?;
     let status = ran_on(

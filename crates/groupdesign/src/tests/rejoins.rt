@@ -1,8 +1,7 @@
-//! Nodes that go on from their journals: rows, what a crash left, each call of each device failing in turn, and what is written
-//! behind what was found.
+//! Nodes that go on from their journals: what a crash left, and each call of each device failing in turn.
 
 use super::frames::{FIRST, ROOM, link_with};
-use super::nodes::{Node, answered, answered_failing, gone_on};
+use super::nodes::{Node, answered_failing, gone_on};
 use super::ran_over;
 use gd_outside::{Call, Fail, MemoryJournal, MemoryLink, Status};
 use std::alloc::{AllocError, Global};
@@ -14,11 +13,6 @@ const ONE: [u8; 41] = [
     0, 0, 0, 0, 0, 0, 0, 10, 0, 0, 0, 10, 0, 0,
 ];
 
-/// A rect of site 1 behind that, at its open gate, with a closing gate behind it.
-const OWN: [u8; 30] = [
-    0xC3, 0, 0, 0, 0, 0, 2, 1, 0, 1, 1, 1, 0, 0, 0, 0, 0, 0, 0, 0, 0, 0, 0, 10, 0, 0, 0, 10, 0, 0,
-];
-
 /// What is typed, and what is printed, where no call fails.
 const LINES: &[u8] = b"status\ncreate rect 0 0 10 10\nstatus\n";
 
@@ -27,41 +21,6 @@ const TEXT: &str =
 
 fn quiet(alloc: Global) -> Result<MemoryLink, AllocError> {
     MemoryLink::new(alloc, ROOM, &[])
-}
-
-/// Site 1 of 2, gone on from these contents in that session.
-fn over(alloc: Global, session: &str, contents: &[u8], lines: &[u8]) -> Result<Node, AllocError> {
-    let journal = MemoryJournal::holding(alloc, ROOM, "old", contents, &[])?;
-    gone_on(alloc, session, (1, 2), journal, lines, quiet(alloc)?, &[])
-}
-
-#[test]
-fn rows_of_journals(rt: HostRuntime) -> Result<(), test::Fail> {
-    let link = link_with(rt.alloc(), &[Some(FIRST)], &[])?;
-    let before = answered(rt.alloc(), (1, 2), b"poll\n", link)?;
-    assert_eq!(rt; before.journal.bytes(), ONE.as_slice());
-    let one = ONE;
-    let rows = [
-        (
-            "7",
-            one.as_slice(),
-            Status::Done,
-            "ready 1 of 2\nheld 1 kept 0 line 1 clock 1\n",
-        ),
-        ("8", one.as_slice(), Status::OtherJournal, "other journal\n"),
-        ("7", &one[..40], Status::BadLog, "bad log at 40: Short\n"),
-        ("7", &one[..39], Status::BadLog, "bad log at 39: Short\n"),
-        ("8", &one[..40], Status::BadLog, "bad log at 40: Short\n"),
-        ("7", &one[..0], Status::BadLog, "bad log at 0: Short\n"),
-    ];
-    for (session, contents, status, text) in rows {
-        let node = over(rt.alloc(), session, contents, b"status\n")?;
-        assert_eq!(rt; node.status, status, "{}", contents.len());
-        assert_eq!(rt; node.text(), text, "{}", contents.len());
-        assert_eq!(rt; node.journal.bytes(), contents, "{}", contents.len());
-        assert!(rt; node.has_tried(&[]), "{}", contents.len());
-    }
-    Ok(())
 }
 
 /// A node whose journal failed at its second sync, in the midst of its first event.
@@ -91,7 +50,7 @@ fn what_a_crash_left_is_gone_on_from(rt: HostRuntime) -> Result<(), test::Fail> 
             }
             let left = node.journal.image(rt.alloc(), k, fill)?;
             let link = quiet(rt.alloc())?;
-            let again = gone_on(rt.alloc(), "7", (1, 2), left, b"status\n", link, &[])?;
+            let again = gone_on(rt.alloc(), (1, 2), left, b"status\n", link, &[])?;
             assert_eq!(rt;
                 again.text(),
                 "ready 1 of 2\nheld 0 kept 0 line 0 clock 0\n",
@@ -101,46 +60,6 @@ fn what_a_crash_left_is_gone_on_from(rt: HostRuntime) -> Result<(), test::Fail> 
             );
         }
     }
-    Ok(())
-}
-
-#[test]
-fn what_stood_behind_the_closing_gate_stays(rt: HostRuntime) -> Result<(), test::Fail> {
-    for (closing, behind) in [(0, 0), (0xFF, 1), (1, 29), (0, 40)] {
-        let mut contents = Vec::new(rt.alloc());
-        contents.extend_from_slice(&ONE[..40])?;
-        contents.push(closing)?;
-        for _ in 0..behind {
-            contents.push(9)?;
-        }
-        let node = over(rt.alloc(), "7", &contents, LINES)?;
-        assert_eq!(rt; node.text(), TEXT, "{}", behind);
-        let mut wanted = Vec::new(rt.alloc());
-        wanted.extend_from_slice(&ONE[..40])?;
-        wanted.extend_from_slice(&OWN)?;
-        for _ in 29..behind {
-            wanted.push(9)?;
-        }
-        assert_eq!(rt; node.journal.bytes(), wanted.as_slice(), "{}", behind);
-    }
-    Ok(())
-}
-
-#[test]
-fn a_node_that_goes_on_is_as_before_but_for_its_notes(rt: HostRuntime) -> Result<(), test::Fail> {
-    let lines = b"create rect 0 0 10 10\nname Ada\n";
-    let before = answered(rt.alloc(), (1, 2), lines, quiet(rt.alloc())?)?;
-    let left = before.journal.bytes();
-    let again = over(
-        rt.alloc(),
-        "7",
-        left,
-        b"undo\nwho\nname Ada\nshow\ndelete 1.1\n",
-    )?;
-    assert_eq!(rt;
-        again.text(),
-        "ready 1 of 2\nrefused: NothingBack\nend 0\nnoted 1\nrect 1.1 in - at 0 0 size 10 10 stroke 000000 fill none width 1\nend 1\nok 2.1\n"
-    );
     Ok(())
 }
 
@@ -184,7 +103,7 @@ fn each_call_of_each_device_fails_in_turn(rt: HostRuntime) -> Result<(), test::F
         let fails = [Fail { call, number }];
         let journal = MemoryJournal::holding(rt.alloc(), ROOM, "old", &ONE, &fails)?;
         let link = MemoryLink::new(rt.alloc(), ROOM, &fails)?;
-        let node = gone_on(rt.alloc(), "7", (1, 2), journal, LINES, link, &fails)?;
+        let node = gone_on(rt.alloc(), (1, 2), journal, LINES, link, &fails)?;
         assert_eq!(rt; node.status, status, "{:?} {}", call, number);
         assert_eq!(rt; node.text(), printed, "{:?} {}", call, number);
         let (ended, output) = ran_over(rt.alloc(), &["replay"], node.journal.bytes())?;

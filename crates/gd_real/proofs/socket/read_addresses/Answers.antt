@@ -1,11 +1,9 @@
-use Rattle.std.proofs.Common.{rules, arith, sym}
-use Rattle.std.proofs.lemmas.List.{take_all}
-use Rattle.std.proofs.lemmas.List.Elements.{All-more, All-same}
-use Rattle.gd_real.specs.Addresses.{IsAddress}
+use Rattle.std.proofs.Common.{rules, ◌≡◌, ◌∷◌, ◌++◌, []}
+use Rattle.gd_real.proofs.AddressLemmas.{one-more}
 use Rattle.gd_real.proofs.socket.read_addresses.Goals as goal
 
-pub loop-k-preserved : goal.loop-k-preserved
-loop-k-preserved c = All-more IsAddress c.args.words.now c.loop-k.k c.index-words-k.result c.loop-k-test.true c.loop-k.invariant (search rules)
-
-pub returns : goal.returns
-returns c = All-same IsAddress c.args.words.now _ (sym (take_all c.loop-k.k c.args.words.now (omega arith))) c.loop-k.invariant
+pub loop-word-preserved : goal.loop-word-preserved
+loop-word-preserved c =
+    let pushed : c.push.new.self.items ≡ c.loop-word.addresses.items ++ c.in_ok-read_address.field-0 ∷ [] = (search rules) in
+    rw pushed (one-more c.args.words.now c.loop-word.addresses.items c.loop-word.word-index c.word-item.result c.in_ok-read_address.field-0
+    (search rules) c.loop-word.invariant (rw (← c.word-item.is) c.in_ok-read_address.ensures))

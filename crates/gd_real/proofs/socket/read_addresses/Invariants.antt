@@ -1,7 +1,6 @@
 use Rattle.std.proofs.Common.{take}
-use Rattle.std.specs.Prelude.{All}
-use Rattle.gd_real.specs.Addresses.{IsAddress}
+use Rattle.gd_real.specs.Addresses.{AreWritten}
 use Rattle.gd_real.proofs.socket.read_addresses.Given as goal
 
-abbrev pub invariant-loop-k : goal.invariant-loop-k
-invariant-loop-k l = All IsAddress (take l.k l.words)
+abbrev pub invariant-loop-word : goal.invariant-loop-word
+invariant-loop-word l = AreWritten (take l.word-index l.words) l.addresses.items
