@@ -1,0 +1,78 @@
+"""The examples of the Markdown pages: their blocks of text, and their tables."""
+
+import re
+from dataclasses import dataclass
+
+from tests.program import ROOT
+
+PAGES = ["README.md", "examples/README.md", *sorted(f"docs/{path.name}" for path in (ROOT / "docs").glob("*.md"))]
+FENCE, INDENT = "```", "    "
+
+
+def lines_of(page):
+    return (ROOT / page).read_text().splitlines()
+
+
+def blocks_of(page):
+    """The blocks of a page, fenced ones and those that are indented, each as its lines."""
+    blocks, is_fenced, was_blank = [], False, True
+    for line in lines_of(page):
+        if line.startswith(FENCE):
+            is_fenced = not is_fenced
+            blocks.append([]) if is_fenced else None
+        elif is_fenced:
+            blocks[-1].append(line)
+        elif line.startswith(INDENT) and was_blank:
+            blocks.append([line[4:]])
+        elif line.startswith(INDENT) and blocks and not was_blank:
+            blocks[-1].append(line[4:])
+        was_blank = not line.strip()
+    return blocks
+
+
+def rows_of(page, *heads):
+    """The rows of each table of a page whose first heads are these, as lists of cells."""
+    tables, is_in = [], False
+    for line in lines_of(page):
+        cells = [cell.strip() for cell in re.split(r"(?<!\\)\|", line)[1:-1]] if line.startswith("|") else []
+        if cells[: len(heads)] == list(heads):
+            tables.append([])
+            is_in = True
+        elif not cells:
+            is_in = False
+        elif is_in and not set(line) <= set("|-: "):
+            tables[-1].append(cells)
+    return tables
+
+
+def quoted(cell):
+    """The words of a cell that stand in backticks."""
+    return re.findall(r"`([^`]*)`", cell)
+
+
+@dataclass
+class Example:
+    """A command of a page, and the lines behind it in its block."""
+
+    page: str
+    command: str
+    behind: list
+
+
+def examples():
+    """Each command of a page that runs ./groupdesign, without what is said behind it. One with words in place of values is none."""
+    for page in PAGES:
+        for block in blocks_of(page):
+            found = None
+            for line in block:
+                bare = re.sub(r"\s{2,}[#(].*$", "", line.removeprefix("$ "))
+                is_command = re.match(r"\./|for .*\./groupdesign", bare) or line.startswith("$ ")
+                if is_command and found:
+                    yield found
+                if is_command:
+                    is_run = "./groupdesign " in bare and not re.search(r"\b(N|S|ADDR|NEW|LOG|LINES|PATH|PROGRAM)\b", bare)
+                    found = Example(page, bare, []) if is_run else None
+                elif found:
+                    found.behind.append(line)
+            if found:
+                yield found

@@ -1,0 +1,90 @@
+"""The bytes of logs, events, frames and items, written from docs/FORMATS.md alone."""
+
+GREATEST_CLOCK = (1 << 48) - 1
+KINDS = {"rect": 1, "ellipse": 2, "line": 3, "text": 4}
+TAGS = {"create": 1, "delete": 2, "move": 3, "resize": 4, "stroke": 5, "fill": 5, "width": 5, "text": 6}
+TAGS |= {"group": 7, "ungroup": 8, "raise": 9, "lower": 10}
+STYLES = {"stroke": 1, "fill": 2, "width": 3}
+NO_FILL = 0xFFFFFFFF
+OPEN, CLOSED = b"\xC3", b"\0"
+
+
+def number(value, size):
+    return value.to_bytes(size, "big", signed=value < 0)
+
+
+def signed(*values):
+    """Numbers of four bytes."""
+    return b"".join(number(value, 4) for value in values)
+
+
+def stamp(id):
+    """A stamp or an id: a clock and a site."""
+    clock, site = id
+    return number(clock, 6) + number(site, 1)
+
+
+def label(text):
+    text = text.encode() if isinstance(text, str) else text
+    return number(len(text), 1) + text
+
+
+def body(op, *given):
+    """What stands behind the tag of an operation, which is a name and what it asks for."""
+    match op:
+        case "create":
+            kind, x, y, w, h, text = given
+            return number(KINDS[kind], 1) + signed(x, y, w, h) + label(text)
+        case "move" | "resize":
+            return stamp(given[0]) + signed(*given[1:])
+        case "stroke" | "fill" | "width":
+            value = NO_FILL if given[1] is None else given[1]
+            return stamp(given[0]) + number(STYLES[op], 1) + number(value, 4)
+        case "text":
+            return stamp(given[0]) + label(given[1])
+        case "group":
+            return number(len(given), 1) + b"".join(stamp(id) + signed(dx, dy) for id, dx, dy in given)
+        case _:
+            return stamp(given[0])
+
+
+def record(id, turn, op):
+    """An event: its stamp, its number among those of its site, and its operation."""
+    return stamp(id) + number(turn, 2) + number(TAGS[op[0]], 1) + body(*op)
+
+
+def header(session=7, site=1, sites=2, version=2, magic=b"GDOL"):
+    return magic + number(version, 1) + number(session, 4) + number(site, 1) + number(sites, 1)
+
+
+def log(events, closed=True, **of):
+    """A log of these events, each a stamp, a number and an operation."""
+    records = b"".join(OPEN + record(*event) for event in events)
+    return header(**of) + records + (CLOSED if closed else b"")
+
+
+def square(id, turn):
+    """A rect at 0 0, of size 10 10, without a label."""
+    return id, turn, ("create", "rect", 0, 0, 10, 10, "")
+
+
+def frame(events=(), sender=2, to=1, held=0, count=None, clock=None, note=0, focus=(0, 0), name=b"", session=7):
+    """A frame. Its count and its clock are those of its last event, where none are given."""
+    count = count if count is not None else events[-1][1] if events else 0
+    clock = clock if clock is not None else events[-1][0][0] if events else 0
+    front = b"GDOF\x02" + number(session, 4) + number(sender, 1) + number(to, 1) + number(held, 2) + number(count, 2)
+    front += number(clock, 6) + number(note, 2) + stamp(focus) + number(len(name), 1) + name
+    return front + number(len(events), 1) + b"".join(record(*event) for event in events)
+
+
+def item(datagram):
+    """A frame behind a snapshot, with its length in front."""
+    return number(len(datagram), 2) + datagram
+
+
+def changed(given, changes):
+    """These bytes with others in some places, each a place and a byte."""
+    given = bytearray(given)
+    for at, byte in changes:
+        given[at] = byte
+    return bytes(given)

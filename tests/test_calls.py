@@ -1,0 +1,170 @@
+"""A fault, and a kill, at each system call of a short session of a node, by strace; and which calls a node makes."""
+
+import re
+import shutil
+import signal
+import subprocess
+from dataclasses import dataclass
+
+from tests.nodes import Node, Peer, free_addresses, room
+from tests.program import DONE, JOURNAL_FAULT, LINK_FAULT, READ_FAULT, WRITE_FAULT, Case, at_a_time
+from tests.read import events_of
+from tests.spelled import frame, log, square
+
+STRACE = shutil.which("strace")
+CALLS = ["openat", "socket", "bind", "pwrite64", "fsync", "fdatasync", "ftruncate", "read", "write", "recvfrom", "sendto"]
+CALL = re.compile(r"(\w+)\((?:(\d+)|AT_FDCWD, \"([^\"]*)\")?")
+TYPED = b"create rect 0 0 10 10\npoll\nmove 1.1 5 5\npoll\nquit\n"
+OTHERS = square((1, 2), 1)
+EVENTS = [square((1, 1), 1), OTHERS, ((2, 1), 2, ("move", (1, 1), 5, 5))]
+# What is printed where no call fails, each line with the number of the events that it tells of.
+LINES = [("ready 1 of 2", 0), ("ok 1.1", 1), ("echo 1.2 applied", 2), ("polled 1", 2), ("ok 2.1", 3), ("polled 0", 3)]
+# How a run ends in which that call fails. A frame that is lost is no fault, nor is a receive that failed.
+ENDS = {
+    "openat": JOURNAL_FAULT, "pwrite64": JOURNAL_FAULT, "fsync": JOURNAL_FAULT, "fdatasync": JOURNAL_FAULT,
+    "ftruncate": JOURNAL_FAULT, "socket": LINK_FAULT, "bind": LINK_FAULT, "read": READ_FAULT, "write": WRITE_FAULT,
+    "sendto": DONE, "recvfrom": DONE,
+}
+
+
+@dataclass(frozen=True)
+class Call:
+    """A system call of the session: its name, which of that name it is from the program's start on, and its file."""
+
+    name: str
+    number: int
+    file: str
+
+
+@dataclass
+class Session:
+    """How a session of site 1 of two ended, what it printed, its journal, and what strace saw."""
+
+    status: int
+    lines: list
+    journal: bytes | None
+    trace: list
+
+
+def session(*strace, resumed=None):
+    """Site 1 of two under strace: a frame of the other site has come, and lines are typed. With `resumed` it goes on from that."""
+    with room() as folder:
+        peer, trace, flags = Peer(), folder / "trace", []
+        if resumed is not None:
+            (folder / "j").write_bytes(resumed)
+            flags = ["--resume"]
+        under = [STRACE, "-qq", "-o", trace, "-e", f"trace={','.join(CALLS)}", *strace]
+        try:
+            with Node(1, [*free_addresses(1), peer.address], folder / "j", *flags, under=under) as node:
+                first = node.read_line()
+                if first:
+                    peer.send(node, frame([OTHERS]))
+                printed, status, _ = node.end(TYPED)
+        finally:
+            peer.close()
+        lines = f"{first}\n{printed}".splitlines() if first else []
+        journal = (folder / "j").read_bytes() if (folder / "j").exists() else None
+        return Session(status, lines, journal, trace.read_text().splitlines() if trace.exists() else [])
+
+
+def calls_of(trace):
+    """The calls of a session from the first one that is the program's own on, the socket's, up to the last one of its run: behind
+    that it looks at its journal once more, to say what happened."""
+    calls, counts, is_own = [], {}, False
+    for line in trace:
+        found = CALL.match(line)
+        if found:
+            name, descriptor, path = found.groups()
+            counts[name] = counts.get(name, 0) + 1
+            is_own = is_own or name == "socket"
+            if is_own:
+                calls.append(Call(name, counts[name], descriptor or path or ""))
+    while calls and calls[-1].name == "openat":
+        calls.pop()
+    return calls
+
+
+class Calls(Case):
+    @classmethod
+    def setUpClass(cls):
+        if not STRACE or subprocess.run([STRACE, "-o", "/dev/null", "true"], capture_output=True).returncode:
+            cls.whole = None
+        else:
+            cls.whole = session()
+
+    def setUp(self):
+        if self.whole is None:
+            self.skipTest("strace isn't there, or may not trace")
+
+    def test_the_session_without_a_fault(self):
+        self.assertEqual((self.whole.status, self.whole.lines), (DONE, [line for line, _ in LINES]))
+        self.assertEqual(self.whole.journal, log(EVENTS))
+
+    # Before `ready` the file and its folder are synced, and before each answer the event and its open gate, in that order.
+    def test_what_is_told_was_synced(self):
+        told = ("pwrite64", "fsync", "fdatasync", "write")
+        names = [(call.name, call.file) for call in calls_of(self.whole.trace) if call.name in told]
+        ready = next(at for at, (name, _) in enumerate(names) if name == "write")
+        synced = {file for name, file in names[:ready] if name in ("fsync", "fdatasync")}
+        journal = {file for name, file in names if name == "pwrite64"}
+        self.assertEqual((len(journal), len(synced), journal < synced), (1, 2, True), names[:ready])
+        kinds = ["sync" if "sync" in name else name for name, _ in names[ready + 1 :]]
+        append = ["pwrite64", "sync", "pwrite64", "sync", "write"]
+        self.assertEqual(kinds, append + append + ["write"] + append + ["write"])
+
+    def expect_sound(self, call, ended):
+        """What was printed is a front of the lines, and the journal a log of the events that these tell of, and perhaps one more.
+        Where a receive failed the frame isn't there, or comes later."""
+        told = [told for line, told in LINES if line in ended.lines]
+        if call.name != "recvfrom":
+            self.assertEqual(ended.lines, [line for line, _ in LINES][: len(ended.lines)], call)
+        if not ended.lines:
+            return
+        again = session(resumed=ended.journal)
+        self.assertEqual((again.status, again.lines[0]), (DONE, "ready 1 of 2"), call)
+        events = events_of(ended.journal)
+        self.assertEqual(ended.journal[: len(log(events)) - 1], log(events, closed=False), call)
+        if call.name == "recvfrom":
+            self.assertEqual([event[0] for event in events if event[0][1] == 1], [(1, 1), (2, 1)], call)
+        else:
+            self.assertEqual(events, EVENTS[: len(events)], call)
+            self.assertIn(len(events) - max(told), (0, 1), call)
+
+    def test_each_call_fails_in_turn(self):
+        calls = calls_of(self.whole.trace)
+        runs = at_a_time(session, [("-e", f"inject={call.name}:error=EIO:when={call.number}") for call in calls])
+        for call, ended in zip(calls, runs):
+            self.assertEqual(ended.status, ENDS[call.name], (call, ended.lines))
+            self.expect_sound(call, ended)
+            if call.name == "sendto":
+                self.assertEqual((ended.lines, ended.journal), (self.whole.lines, self.whole.journal), call)
+            if call.name == "recvfrom":
+                self.assertTrue(any(line.startswith("link fault after ") for line in ended.lines), (call, ended.lines))
+
+    def test_it_is_killed_at_each_call(self):
+        calls = calls_of(self.whole.trace)
+        runs = at_a_time(session, [("-e", f"inject={call.name}:signal=KILL:when={call.number}") for call in calls])
+        for call, ended in zip(calls, runs):
+            self.assertIn(ended.status, (-signal.SIGKILL, 128 + signal.SIGKILL), call)
+            if call.name != "recvfrom" or ended.lines:
+                self.expect_killed(call, ended)
+
+    def expect_killed(self, call, ended):
+        told = [told for line, told in LINES if line in ended.lines]
+        self.assertEqual(ended.lines, [line for line, _ in LINES][: len(ended.lines)], call)
+        if ended.lines:
+            events = events_of(ended.journal)
+            self.assertEqual(events, EVENTS[: len(events)], call)
+            self.assertIn(len(events) - max(told), (0, 1), call)
+            again = session(resumed=ended.journal)
+            self.assertEqual((again.status, again.lines[0]), (DONE, "ready 1 of 2"), call)
+
+    # A write that the disk took in part is gone on with behind that part: it isn't called whole.
+    def test_a_short_write_is_gone_on_with(self):
+        for call in calls_of(self.whole.trace):
+            if call.name == "pwrite64":
+                ended = session("-e", f"inject=pwrite64:retval=1:when={call.number}")
+                written = [line for line in ended.trace if line.startswith("pwrite64(")]
+                size, at = map(int, re.search(r", (\d+), (\d+)\) += 1 \(INJECTED\)", written[call.number - 1]).groups())
+                if size > 1:
+                    self.assertRegex(written[call.number], rf", {size - 1}, {at + 1}\) += {size - 1}$")

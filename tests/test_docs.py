@@ -1,0 +1,113 @@
+"""Each example of README.md, of examples/ and of docs/, run as it stands there."""
+
+import re
+import subprocess
+
+from tests.launcher import checkout, launch
+from tests.nodes import free_addresses
+from tests.pages import examples, quoted, rows_of
+from tests.program import DONE, EXAMPLES, LONGEST, PROGRAM, ROOT, Case, run_program
+from tests.test_formats import VOTES
+from tests.worked import FRAME, TIE
+
+# The commands of docs/LINES.md, section 3: in a dialogue with a node a line is typed where it begins so, and printed else.
+TYPED = "create delete move resize stroke fill width text group ungroup raise lower undo".split()
+TYPED += "show status name focus who poll quit".split()
+SHAPE = re.compile(r"(rect|ellipse|line|text|group) \d+\.\d+ in ")
+
+
+def is_typed(line):
+    return line.split(" ")[0] in TYPED and not SHAPE.match(line)
+
+
+class Commands(Case):
+    def run(self, result=None):
+        with checkout() as self.folder:
+            return super().run(result)
+
+    def test_commands_of_the_pages(self):
+        found = list(examples())
+        self.assertGreater(len(found), 5)
+        for example in found:
+            with self.subTest(example.page, command=example.command):
+                self.dialogue(example) if " node " in example.command else self.command(example)
+
+    def command(self, example):
+        """A command that is no node: it is carried out, and prints what stands behind it, if anything does."""
+        command = example.command
+        done = subprocess.run(["sh", "-c", command], cwd=self.folder, capture_output=True, text=True, timeout=LONGEST)
+        self.assertEqual((done.returncode, done.stderr), (DONE, ""))
+        printed = done.stdout.splitlines()
+        if command.startswith("for "):
+            self.assertEqual(printed, [f"examples/{path.name}: as expected" for path in sorted(EXAMPLES.glob("*.log"))])
+        elif example.behind:
+            self.assertEqual(printed, [line for line in example.behind if line])
+        else:
+            self.assertEqual(bool(printed), "cmp" not in command)
+
+    def dialogue(self, example):
+        """A node: what is typed and what is printed stand there in turn, or only what is typed."""
+        old = re.findall(r"127\.0\.0\.1:\d+", example.command)
+        command = example.command
+        for address, free in zip(old, free_addresses(len(old))):
+            command = command.replace(address, free)
+        lines = [line for line in example.behind if line]
+        typed = [line for line in lines if is_typed(line)]
+        ended = launch(self.folder, command.split()[1:], "".join(f"{line}\n" for line in typed).encode())
+        self.assertEqual(ended.status, DONE)
+        if len(typed) < len(lines):
+            self.assertEqual(ended.text.splitlines(), [line for line in lines if not is_typed(line)])
+        else:
+            self.assertNotIn("refused", ended.text)
+
+    def test_two_sites_draw_together(self):
+        done = subprocess.run([ROOT / "examples/two-sites.sh", PROGRAM], capture_output=True, text=True, timeout=LONGEST)
+        self.assertEqual(done.returncode, DONE, done.stdout + done.stderr)
+        self.assertEqual(done.stdout.splitlines()[-1], "both sites and both journals show the same drawing")
+
+
+class Tables(Case):
+    def test_the_logs_of_the_table(self):
+        (table,) = rows_of("examples/README.md", "Log", "What it shows", "Status")
+        self.assertEqual(sorted(quoted(row[0])[0] for row in table), sorted(path.stem for path in EXAMPLES.glob("*.log")))
+        self.expect_all([
+            (["replay"], (EXAMPLES / f"{name}.log").read_bytes(), int(status), (EXAMPLES / f"{name}.txt").read_bytes())
+            for name, status in [(quoted(row[0])[0], row[2]) for row in table]
+        ])
+
+    def test_each_format_of_the_late_group(self):
+        (table,) = rows_of("examples/README.md", "File", "Words")
+        log, rows = (EXAMPLES / "late-group.log").read_bytes(), []
+        for file, words in table:
+            rows += [(each.split(), log, DONE, (EXAMPLES / quoted(file)[0]).read_bytes()) for each in quoted(words)]
+        self.assertGreater(len(rows), 3)
+        self.expect_all(rows)
+
+    # A comma parts two lines in a cell.
+    def test_rehearsals_of_the_tables(self):
+        tables = rows_of("examples/README.md", "Line", "What is printed") + rows_of("README.md", "Typed", "Printed")
+        self.assertGreater(len(tables), 0)
+        for table in tables:
+            typed = "".join(f"{line}\n" for row in table for line in quoted(row[0]))
+            printed = "".join(f"{line}\n" for row in table for line in quoted(row[1]))
+            self.expect(["rehearse", "--sites", "2"], typed.encode(), DONE, printed)
+
+    def test_worked_bytes_of_the_formats(self):
+        tables = rows_of("docs/FORMATS.md", "Place", "Bytes", "Meaning")
+        found = [bytes.fromhex("".join(quoted(row[1])[0] for row in table)) for table in tables]
+        for wanted in (TIE, FRAME):
+            self.assertIn(wanted, found)
+        cards = [each for each in found if each.startswith(VOTES[:4])]
+        self.assertEqual(len(cards), 1)
+        self.expect(["board", "--counts"], cards[0], DONE, "end 0\narrivals applied 2 dropped 1 reworked 0 undone 0\n")
+
+    # Of each line of section 4 of LINES the faults in their order, with their examples.
+    def test_faults_of_lines(self):
+        rows = []
+        for table in rows_of("docs/LINES.md", "Line", "Faults in their order"):
+            for row in table:
+                rows += re.findall(r"([A-Z]\w+)(?: of [^`;]*)? `([^`]*)`", row[1])
+        self.assertGreater(len(rows), 20)
+        typed = "".join(f"at 1 {line}\n" for _, line in rows if line.split()[0] != "poll")
+        ended = run_program(["rehearse", "--sites", "1"], typed.encode())
+        self.assertEqual(ended.text.splitlines(), [f"refused: {why}" for why, line in rows if line.split()[0] != "poll"])

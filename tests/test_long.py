@@ -1,0 +1,49 @@
+"""A journal of 50,000 edits on a real file, and journals beyond a MiB: what is in them, and what a replay of them shows."""
+
+from random import Random
+
+from tests.drawing import Typist, id_text
+from tests.nodes import Node, answered, free_addresses, replayed, room
+from tests.program import DONE, Case, run_program
+from tests.spelled import log
+
+EDITS = 50_000
+MEBIBYTE = 1 << 20
+
+
+class Long(Case):
+    def test_a_journal_of_50000_edits(self):
+        typist = Typist(Random(7))
+        for _ in range(EDITS):
+            typist.edit()
+        drawing, journal = typist.drawing.text(), log(typist.events, sites=1)
+        self.assertGreater(len(journal), MEBIBYTE)
+        node = answered((1, 1), "".join(f"{line}\n" for line in [*typist.lines, "show"]))
+        self.assertEqual(node.status, DONE)
+        answers = "".join(f"ok {id_text(stamp)}\n" for stamp, _, _ in typist.events)
+        self.expect_same(node.text, f"ready 1 of 1\n{answers}{drawing}")
+        self.expect_same(node.journal, journal)
+        self.expect_same(replayed(node.journal), drawing)
+        self.expect_same(run_program(["upgrade"], node.journal).printed, journal)
+        again = answered((1, 1), "show\nstatus\n", contents=node.journal)
+        held = f"held {EDITS} kept 0 line {EDITS} clock {EDITS}\n"
+        self.expect_same(again.text, f"ready 1 of 1\n{drawing}{held}")
+
+    def expect_same(self, found, wanted):
+        """Without the whole of two long texts in the report."""
+        if found != wanted:
+            at = next((at for at, (one, other) in enumerate(zip(found, wanted)) if one != other), min(len(found), len(wanted)))
+            self.fail(f"other at {at}: {found[at : at + 100]!r} and not {wanted[at : at + 100]!r}")
+
+    # On a disk, where a sync is one.
+    def test_a_journal_on_a_disk(self):
+        typist = Typist(Random(8))
+        for _ in range(300):
+            typist.edit()
+        with room(on_disk=True) as folder, Node(1, free_addresses(1), folder / "j") as node:
+            self.assertTrue(node.is_ready())
+            for count, line in enumerate(typist.lines[:50], 1):
+                self.assertEqual(node.ask(line), [f"ok {count}.1"])
+                self.assertEqual((folder / "j").read_bytes(), log(typist.events[:count], sites=1))
+            _, status, _ = node.end("".join(f"{line}\n" for line in typist.lines[50:]).encode())
+            self.assertEqual((status, (folder / "j").read_bytes()), (DONE, log(typist.events, sites=1)))

@@ -1,0 +1,200 @@
+"""Snapshots, and who looks on: the worked ones, one with each byte changed, and frames and faults behind one."""
+
+from tests.program import BAD_LOG, BAD_VIEW, DONE, LINE_LIMIT, Case, at_a_time, run_program
+from tests.spelled import changed, frame, item
+from tests.test_changes import CHANGES
+from tests.worked import ELLIPSE_LINE, RECT_LINE, TIE, TIE_SNAPSHOT, TIE_TEXT
+
+# A frame of session 7 from site 2 to site 1, with the count 2 and the clock 2: the event 2.2, its second, moves 1.1 to 7 8.
+MOVE = frame([((2, 2), 2, ("move", (1, 1), 7, 8))])
+MOVED_TEXT = "echo 2.2 applied\n" + ELLIPSE_LINE.replace("at 0 0", "at 7 8") + RECT_LINE + "end 2\n"
+
+
+def stream(*datagrams):
+    """The worked snapshot, and these items behind it."""
+    return TIE_SNAPSHOT + b"".join(map(item, datagrams))
+
+
+class Snapshots(Case):
+    def test_a_log_is_handed_on_without_its_history(self):
+        self.expect(["snapshot"], TIE, DONE, TIE_SNAPSHOT)
+        self.expect(["snapshot"], TIE[:41], BAD_LOG, "bad log at 41: Short\n")
+
+    # The log of site 2: the snapshot is that of the site that the header names.
+    def test_a_snapshot_is_of_its_site(self):
+        self.expect(["snapshot"], changed(TIE, [(9, 2)]), DONE, changed(TIE_SNAPSHOT, [(9, 2)]))
+
+    def test_a_snapshot_shows_its_drawing(self):
+        self.expect(["view"], TIE_SNAPSHOT, DONE, TIE_TEXT)
+        self.expect(["view"], TIE_SNAPSHOT[:122], BAD_VIEW, "bad view at 122: Short\n")
+        self.expect(["view"], b"", BAD_VIEW, "bad view at 0: Short\n")
+
+    def test_a_frame_is_taken_once_for_whomever_it_is(self):
+        other = changed(MOVE, [(10, 16), (11, 255)])
+        self.expect_all([(["view"], stream(*items), DONE, MOVED_TEXT) for items in ([MOVE], [MOVE, MOVE], [other])])
+
+    # No frame; one of another session; one from site 3 without events; an event behind a gap; and one whose clock is that of
+    # the first event of its site.
+    def test_a_frame_that_brings_nothing_leaves_the_drawing(self):
+        self.expect_all([
+            (["view"], stream(datagram), DONE, line + TIE_TEXT)
+            for datagram, line in [
+                (b"", "frame refused: Short at 0\n"),
+                (changed(MOVE, [(8, 8)]), "frame refused: Session\n"),
+                (changed(MOVE, [(9, 3), (31, 0)])[:32], "frame refused: NoSuchSite\n"),
+                (changed(MOVE, [(14, 3), (40, 3)]), ""),
+                (changed(MOVE, [(37, 1)]), "event 1.2 refused: Backdated 1 1\n"),
+            ]
+        ])
+
+    # A frame without events says that nothing up to its clock is to come, where all that it counts is held, and else nothing.
+    def test_a_beat_counts_where_all_before_it_is_held(self):
+        late = frame([((9, 2), 2, ("move", (1, 1), 7, 8))])
+        moved = MOVED_TEXT.replace("echo 2.2", "echo 9.2")
+        self.expect_all([
+            (["view"], stream(frame(count=1, clock=9), late), DONE, "event 9.2 refused: Backdated 9 9\n" + TIE_TEXT),
+            (["view"], stream(frame(count=1, clock=8), late), DONE, moved),
+            (["view"], stream(frame(count=2, clock=9), late), DONE, moved),
+        ])
+
+    # A length is cut, or above that of any frame, or no item is behind it; and the same behind an item.
+    def test_the_first_fault_of_the_items_is_found(self):
+        self.expect_all([
+            (["view"], stream(*items) + rest, BAD_VIEW, text)
+            for items, rest, text in [
+                ([], b"\x0F", "bad view at 124: Short\n"),
+                ([], b"\x0F\x89\0", "bad view at 123: Long\n"),
+                ([], b"\x0F\x88", "bad view at 125: Short\n"),
+                ([MOVE], b"\0", "echo 2.2 applied\nbad view at 183: Short\n"),
+                ([MOVE], b"\0\x02\x01", "echo 2.2 applied\nbad view at 185: Short\n"),
+                ([MOVE], b"\xFF\xFF", "echo 2.2 applied\nbad view at 182: Long\n"),
+            ]
+        ])
+
+    def test_there_are_a_million_items_at_most(self):
+        items, lines = TIE_SNAPSHOT + b"\0\0" * 1_000_000, "frame refused: Short at 0\n" * 1_000_000
+        runs = at_a_time(run_program, [(["view"], items), (["view"], items + b"\0")])
+        for ended, status, last in zip(runs, (DONE, LINE_LIMIT), (TIE_TEXT, "line limit\n")):
+            self.assertEqual((ended.status, len(ended.printed)), (status, 26_000_000 + len(last)))
+            self.assertTrue(ended.text == lines + last, "other lines")
+
+
+# What comes of a snapshot: `None` where its drawing is printed, else what is printed.
+def bad(at, why):
+    return f"bad view at {at}: {why}\n"
+
+
+def field(at, is_in_range):
+    return None if is_in_range else bad(at, "Field")
+
+
+def own_site(value):
+    """The site, of which there are two."""
+    return None if value in (1, 2) else bad(10 if 3 <= value <= 16 else 9, "Field")
+
+
+def sites(value):
+    """The number of sites. What is known of each takes 8 bytes, so that with more of them the number of objects is read further
+    on: of three it is too great, of six it is `FFFFFFFF`; and of ten it is 10, with an id behind it whose site is 0."""
+    return bad({3: 35, 6: 59, 10: 101}.get(value, 10), "Field")
+
+
+def place(at, byte, value):
+    """A byte of a place, which is from -1,000,000,000 to 1,000,000,000."""
+    return field(at, not (byte == 0 and 59 < value < 197))
+
+
+def size(at, byte, value):
+    """A byte of a size, which is from -1,000,000 to 1,000,000."""
+    return field(at, value == 0 if byte == 0 else value < 16 if byte == 1 else True)
+
+
+def label(at, value):
+    """The length of the label, in front of that many bytes, which have control characters among them."""
+    if value > 200:
+        return bad(at, "Field")
+    return bad(len(TIE_SNAPSHOT), "Short") if value > len(TIE_SNAPSHOT) - at - 1 else bad(at + 1, "Field")
+
+
+def seen_object(at, offset, value):
+    """A byte of an object, so many behind the first one that isn't of its id."""
+    match offset:
+        case 0:
+            return field(at, 1 <= value <= 5)
+        case 1 | 5:
+            return place(at, 0, value)
+        case 9 | 13:
+            return size(at, 0, value)
+        case 10 | 14:
+            return size(at - 1, 1, value)
+        case 17:
+            return field(at, False)
+        case 21:
+            # The fill, which is none.
+            return field(at, value == 0)
+        case 22 | 23 | 24:
+            return field(at - (offset - 21), False)
+        case 25:
+            return field(at, 1 <= value <= 64)
+        case 26:
+            return label(at, value)
+        case 27:
+            # The flag of a link, whose group would be of the site 0.
+            return field(at + 7 if value == 1 else at, False)
+        case 28 | 29:
+            return field(at, value <= 1)
+        case 35:
+            return field(at - 5, value != 0)
+        case 36:
+            return field(at, 1 <= value <= 16)
+    return None
+
+
+def first_id(at, value):
+    """A byte of the first object's id, which is below the second one's."""
+    if at == 36 and value == 0:
+        return bad(31, "Field")
+    return bad(37, "Field") if at == 37 and not 1 <= value <= 16 else bad(75, "Order")
+
+
+def second_id(at, value):
+    return field(75, value != 0) if at == 80 else field(81, 1 <= value <= 16) if at == 81 else None
+
+
+def objects(at, value):
+    """A byte of the number of objects, which is the number of all events. With none, what stands behind it is a frame of a byte,
+    and an item that is cut."""
+    return "frame refused: Short at 1\nbad view at 123: Short\n" if at == 30 and value == 0 else bad(27, "Field")
+
+
+def count(at, value):
+    """A byte of how many events a site made. With fewer there are too many objects."""
+    return bad(27, "Field") if at % 8 == 4 and value == 0 else None
+
+
+def told(at, value):
+    """What is printed of the worked snapshot where that byte has that value, which is another one."""
+    if at < 9:
+        return bad(0, "Magic") if at < 4 else bad(4, "Version") if at == 4 else None
+    if at < 11:
+        return own_site(value) if at == 9 else sites(value)
+    if at < 31:
+        return objects(at, value) if at > 26 else count(at, value) if at in (11, 12, 19, 20) else None
+    if at < 75:
+        return first_id(at, value) if at < 38 else seen_object(at, at - 38, value)
+    if at < 119:
+        return second_id(at, value) if at < 82 else seen_object(at, at - 82, value)
+    return bad(119, "Field")
+
+
+class ChangedSnapshots(Case):
+    # Of a drawing the last line is looked at alone.
+    def test_a_snapshot_with_a_changed_byte_is_bad_or_shown(self):
+        rows = [(at, was ^ change) for at, was in enumerate(TIE_SNAPSHOT) for change in CHANGES]
+        runs = at_a_time(run_program, [(["view"], changed(TIE_SNAPSHOT, [row])) for row in rows])
+        for (at, value), ended in zip(rows, runs):
+            line = told(at, value)
+            if line is None:
+                self.assertEqual((ended.text[-6:], ended.status), ("end 2\n", DONE), (at, value))
+            else:
+                self.assertEqual((ended.text, ended.status), (line, BAD_VIEW), (at, value))

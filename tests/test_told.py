@@ -1,0 +1,106 @@
+"""What the launcher tells a person: one line where a run ended with a fault, help and a version, and nothing else."""
+
+import os
+import resource
+
+from tests.launcher import checkout, launch
+from tests.nodes import Peer, free_addresses, node_words
+from tests.program import (
+    BAD_VIEW, DONE, JOURNAL_FAULT, LINE_LIMIT, LINK_FAULT, OTHER_JOURNAL, READ_FAULT, USAGE, WRITE_FAULT, Case,
+)
+from tests.spelled import log
+from tests.test_limits import nested, nested_text
+from tests.worked import TIE, TIE_SNAPSHOT, TIE_TEXT
+
+SMALL_STACK = 512 << 10
+# The launcher's own status, where it didn't run the program.
+NOT_RUN = 70
+COMMANDS = ["node", "rehearse", "churn", "replay", "upgrade", "snapshot", "view", "board"]
+
+
+class Told(Case):
+    def run(self, result=None):
+        with checkout() as self.folder:
+            return super().run(result)
+
+    def expect_told(self, words, given, status, printed, *said, **options):
+        """Besides how it ended and what it printed, one line on standard error, with these words in it."""
+        ended = launch(self.folder, words, given, **options) if given is not None else launch(self.folder, words, **options)
+        self.assertEqual((ended.text, ended.status), (printed, status), words)
+        line = ended.said.decode()
+        self.assertEqual((line.count("\n"), line[-1:]), (1, "\n"), (words, line))
+        for word in said:
+            self.assertIn(word, line)
+
+    def test_where_a_run_was_carried_out_nothing_is_said(self):
+        ended = launch(self.folder, ["replay"], TIE)
+        self.assertEqual((ended.text, ended.status, ended.said), (TIE_TEXT, DONE, b""))
+        self.assertEqual(launch(self.folder, ["paint"]).status, USAGE)
+
+    def test_a_failed_read_or_write_is_told(self):
+        folder, full = os.open(self.folder, os.O_RDONLY), os.open("/dev/full", os.O_WRONLY)
+        self.expect_told(["replay"], None, READ_FAULT, "", stdin=folder)
+        self.expect_told(["replay"], TIE, WRITE_FAULT, "", stdout=full)
+        os.close(folder), os.close(full)
+
+    def test_a_journal_that_is_there_or_isn_t_is_told(self):
+        words = node_words(1, free_addresses(2), "one.log")
+        (self.folder / "one.log").write_bytes(log([]))
+        self.expect_told(words, b"", JOURNAL_FAULT, "", "one.log", "--resume")
+        self.expect_told(node_words(1, free_addresses(2), "two.log", "--resume"), b"", JOURNAL_FAULT, "", "two.log")
+        (self.folder / "three.log").write_bytes(log([], session=8))
+        words = node_words(1, free_addresses(2), "three.log", "--resume")
+        self.expect_told(words, b"", OTHER_JOURNAL, "other journal\n", "three.log")
+
+    def test_an_address_that_can_t_be_had_is_told(self):
+        taken = Peer()
+        self.expect_told(node_words(1, [taken.address], "j"), b"", LINK_FAULT, "")
+        taken.close()
+        self.expect_told(node_words(1, ["nowhere.invalid:4101"], "j"), b"", LINK_FAULT, "", "nowhere.invalid")
+
+    def test_too_long_an_input_and_no_snapshot_are_told(self):
+        self.expect_told(["rehearse", "--sites", "1"], b"a" * 65_537, LINE_LIMIT, "line limit\n")
+        self.expect_told(["view"], TIE_SNAPSHOT[:122], BAD_VIEW, "bad view at 122: Short\n")
+
+    # On standard output, with status 0; and no build is begun where there is none.
+    def test_help_and_a_version_are_printed(self):
+        self.expect_help()
+        (self.folder / "crates/groupdesign/out/built").unlink()
+        self.expect_help()
+
+    def expect_help(self):
+        rows = [["--help"], ["-h"], ["help"]] + [[command, "--help"] for command in COMMANDS]
+        texts = [launch(self.folder, words) for words in rows]
+        for words, ended in zip(rows, texts):
+            self.assertEqual((ended.status, ended.said), (DONE, b""), words)
+            self.assertIn(words[0] if len(words) == 2 else "replay", ended.text)
+        self.assertTrue(all(command in texts[0].text for command in COMMANDS), texts[0].text)
+        version = launch(self.folder, ["--version"])
+        self.assertEqual((version.status, version.said, version.text.count("\n")), (DONE, b"", 1))
+        self.assertRegex(version.text, r"^groupdesign \S+")
+
+    # The signal that a file has reached its limit would end the program before it could say so.
+    def test_a_limit_on_files_is_a_failed_journal(self):
+        def limit():
+            resource.setrlimit(resource.RLIMIT_FSIZE, (22, 22))
+
+        words = node_words(1, free_addresses(1), "j")
+        self.expect_told(words, b"create rect 0 0 10 10\n", JOURNAL_FAULT, "ready 1 of 1\n", "j", preexec_fn=limit)
+
+    # Deeply nested groups take no more of the stack than others. Where the limit may not be raised, that may be said instead.
+    def test_a_stack_of_512_kib_is_enough(self):
+        most = resource.getrlimit(resource.RLIMIT_STACK)[1]
+        for given, printed in [(TIE, TIE_TEXT), (nested(), nested_text())]:
+            ended = self.launch_with_stack(given, most)
+            self.assertEqual(ended.status, DONE)
+            self.assertTrue(ended.text == printed, "other lines")
+        ended = self.launch_with_stack(TIE, SMALL_STACK)
+        if ended.status == NOT_RUN:
+            self.assertEqual((ended.text, ended.said.count(b"stack of")), ("", 1))
+        else:
+            self.assertEqual((ended.text, ended.status), (TIE_TEXT, DONE))
+
+    def launch_with_stack(self, given, most):
+        """A replay with a small stack, whose limit may be raised up to that."""
+        limit = (resource.RLIMIT_STACK, (SMALL_STACK, most))
+        return launch(self.folder, ["replay"], given, preexec_fn=lambda: resource.setrlimit(*limit))
