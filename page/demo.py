@@ -36,7 +36,7 @@ class Proxy:
 
     def __init__(self, sites, audience, seed=None):
         self.sites, self.audience, self.draw = sites, audience, Random(seed)
-        self.settings = {"loss": 0, "doubling": 0, "delay": 0, "cut": []}
+        self.settings = {"loss": 0, "twice": 0, "delay": 0, "cut": []}
         self.later, self.turn, self.closed = [], 0, False
         self.thread = threading.Thread(target=self.run, daemon=True)
         places = [bound() for _ in range(sites)]
@@ -47,7 +47,7 @@ class Proxy:
         # The nodes open these ports themselves.
         for place in places:
             place.close()
-        audience.openings.append(self.opening)
+        audience.openings.append((None, self.opening))
 
     def addresses(self, site):
         """The addresses of all sites as the node of that site, counted from 1, is given them."""
@@ -61,7 +61,7 @@ class Proxy:
     def set(self, wanted):
         """Sets what is done to datagrams from now on. Raises `ValueError` where a number is out of its range."""
         settings = dict(self.settings)
-        for name, most in (("loss", 100), ("doubling", 100), ("delay", MOST_DELAY)):
+        for name, most in (("loss", 100), ("twice", 100), ("delay", MOST_DELAY)):
             value = wanted.get(name, settings[name])
             if type(value) is not int or not 0 <= value <= most:
                 raise ValueError(f"{name} is a whole number from 0 to {most}")
@@ -70,9 +70,8 @@ class Proxy:
         if not isinstance(cut, list) or any(type(site) is not int or not 1 <= site <= self.sites for site in cut):
             raise ValueError("cut is a list of sites")
         settings["cut"] = sorted(set(cut))
-        with self.audience.lock:
-            self.settings = settings
-            self.audience.tell("link", **settings)
+        self.settings = settings
+        self.audience.tell("link", **settings)
 
     def start(self):
         self.thread.start()
@@ -114,7 +113,7 @@ class Proxy:
         settings = self.settings
         if self.is_cut(pair) or self.draw.random() * 100 < settings["loss"]:
             return
-        for _ in range(2 if self.draw.random() * 100 < settings["doubling"] else 1):
+        for _ in range(2 if self.draw.random() * 100 < settings["twice"] else 1):
             if len(self.later) < MOST_WAITING:
                 self.turn += 1
                 moment = time.monotonic() + self.draw.random() * settings["delay"] / 1000
@@ -128,8 +127,10 @@ class Proxy:
                 self.send(pair, datagram)
 
     def send(self, pair, datagram):
+        source, goal = pair
         try:
-            self.ways[pair].sendto(datagram, self.targets[pair[1]])
+            # It comes from the address at which the one that gets it knows the one that sent it.
+            self.ways[goal, source].sendto(datagram, self.targets[goal])
         except OSError:
             # As good as lost.
             pass

@@ -1,200 +1,251 @@
-"""A desk: one node, what a page types at it, and what it has to tell."""
+"""A desk: one node, what pages type at it, and what it has to tell."""
 
-import math
-import threading
+import asyncio
 import time
-from collections import deque
 from pathlib import Path
 
 from page import lines
 from page.audience import message
-from page.node import Ended, Node
+from page.batch import Batch
+from page.history import History
+from page.names import BadName, NameFile, name_of, word_of
+from page.news import News
+from page.node import Busy, Ended, Node
+from page.peers import Peers
 from page.picture import Picture
-from page.replays import Teller
+from page.rounds import Rounds
 
 POLL_EVERY = 0.1
-# A frame has few events. So for a while behind a poll that brought some, or heard that others took some, the next polls
-# come soon.
-SOON, SOON_FOR = 0.01, 0.3
-# While these bring more and more, the drawing is asked for so often at most.
-SHOW_EVERY = 0.1
-# Datagrams come all the time, and have notes asked for so often at most.
-ASK_EVERY = 0.4
-# So much of what happened is kept for pages that come later.
-MOST_NEWS = 200
+# How often what is known of the others is looked at.
+WATCH_EVERY = 0.5
 
 
 class Desk:
     """One node and what is known of it. Each change is told to the audience, with the number of the desk."""
 
-    def __init__(self, number, command, journal, audience, poll_every=POLL_EVERY):
+    def __init__(self, number, command, journal, audience, session=None, poll_every=POLL_EVERY):
         """`command` is the node's, without `--resume`, which is added behind `node` where the journal is there."""
-        self.number, self.command, self.journal = number, command, Path(journal)
+        self.number, self.command, self.journal, self.session = number, command, Path(journal), session
         self.audience, self.poll_every = audience, poll_every
-        self.picture, self.news = Picture(), deque(maxlen=MOST_NEWS)
-        self.who, self.standing, self.end = [], {}, None
-        self.edits = self.shown = 0
-        # When that poll was whose echoes no picture has yet.
-        self.behind_since, self.shown_at = None, 0.0
-        self.notes_due, self.asked_at, self.soon_until = True, -math.inf, 0.0
-        self.counting, self.wake, self.stopped = threading.Lock(), threading.Event(), False
-        self.node = self.thread = None
-        self.teller = Teller(self.program, self.journal, self.tell_events)
-        audience.openings.append(self.opening)
+        self.picture, self.news, self.names = Picture(), News(), NameFile(journal)
+        self.history, self.peers = History(self.journal, self.note_event), Peers(number, number)
+        self.name, self.who, self.standing, self.end, self.told_peers = "", [], {}, None, None
+        self.site, self.sites, self.is_demo, self.desks = number, number, False, [number]
+        # Edits that earlier runs of the node took, and the number of the last one that was shown.
+        self.edits_before, self.shown, self.was_silent, self.is_fault_told = 0, -1, False, False
+        self.node, self.rounds, self.tasks = None, None, []
+        self.starting, self.typing = asyncio.Lock(), asyncio.Lock()
+        audience.openings.append((number, self.opening))
 
     @property
     def program(self):
         return self.command[0]
 
-    def start(self):
+    @property
+    def edits(self):
+        """How many edits were taken since this program started."""
+        return self.edits_before + (self.node.accepted if self.node else 0)
+
+    # The start and the end.
+
+    async def start(self):
         """Starts the node and waits until it is ready. Raises `Ended` with what it said where it ends first."""
         flags = ["--resume"] if self.journal.exists() else []
-        self.end = None
+        self.edits_before = self.edits
         self.node = Node([self.command[0], "node", *flags, *self.command[2:]], self.note_end)
-        self.node.wait_until_ready()
-        self.shown = -1
-        self.thread = threading.Thread(target=self.run, args=[self.node], daemon=True)
-        self.thread.start()
+        words = (await self.node.wait_until_ready()).split(" ")
+        self.end, self.rounds = None, Rounds(self, self.node, self.poll_every)
+        self.begin(int(words[1]), int(words[3]))
+        self.tasks = [asyncio.create_task(each) for each in (self.rounds.run(), self.watch(self.node))]
 
-    def start_again(self):
-        """Starts a node that has ended, to go on from its journal. Raises `Ended` where it ends at once."""
-        with self.counting:
-            if self.end is None:
-                return
-            self.start()
-        self.tell("begun")
+    def begin(self, site, sites):
+        """Takes what the node said when it was ready; at the first start also what its journal and the files beside have."""
+        if not self.peers.others:
+            self.site, self.sites, self.peers = site, sites, Peers(site, sites)
+            self.history.begin()
+            self.name = self.names.read()
+        self.peers.resume()
+        if self.name:
+            self.node.type(b"name " + word_of(self.name).encode())
 
-    def stop(self):
-        """Ends the node, and gives its status."""
-        self.stopped = True
-        self.wake.set()
-        status = self.node.quit()
-        self.teller.stop()
-        return status
-
-    def type(self, text):
-        """Has the line `text` typed, and gives its answer, with the number of the edit where it is one that was taken: a
-        picture of that number or a later one has it. Raises `Refused` where it isn't typed, and `Ended`."""
-        line = lines.typed(text)
-        (answer,) = self.node.ask(line)
-        edit = None
-        if answer.startswith("ok "):
-            with self.counting:
-                self.edits = edit = self.edits + 1
-            self.tell_news([{"what": "own", "event": answer[3:], "line": text}])
-        else:
-            self.notes_due = True
-        self.wake.set()
-        return {"answer": answer, "edit": edit}
-
-    def run(self, node):
-        """Polls and asks, until the node has ended."""
-        due = time.monotonic()
-        while not self.stopped and node is self.node:
-            self.wake.wait(max(0, due - time.monotonic()))
-            self.wake.clear()
+    async def start_again(self):
+        """Starts a node that has ended, to go on from its journal. Raises `Ended` where it ends at once, and `Busy` where
+        one runs."""
+        async with self.starting:
+            if self.node and self.node.status is None:
+                raise Busy
             try:
-                self.round(node)
-            except Ended:
-                return
-            is_soon = time.monotonic() < self.soon_until
-            due = time.monotonic() + (min(SOON, self.poll_every) if is_soon else self.poll_every)
+                await self.start()
+            except Ended as said:
+                await self.node.is_over.wait()
+                raise Ended(str(said)) from None
+            self.audience.tell("begun", desk=self.number)
 
-    def round(self, node):
-        """Shows what was edited here, polls, and asks for all that may have changed by that."""
-        if self.edits != self.shown:
-            self.show(node, others=False)
-        polled_at = time.time()
-        *came, last = node.ask(b"poll")
-        echoes = self.take_news(came, last)
-        if echoes:
-            self.behind_since = self.behind_since or polled_at
-            self.soon_until = time.monotonic() + SOON_FOR
-        if self.behind_since and not (echoes and time.monotonic() - self.shown_at < SHOW_EVERY):
-            self.show(node, others=True)
-        if lines.datagrams_of(last):
-            self.notes_due = True
-            if self.standing.get("kept"):
-                self.ask_standing(node)
-        if self.notes_due and time.monotonic() - self.asked_at >= ASK_EVERY:
-            self.ask_notes(node)
-
-    def take_news(self, came, last):
-        """Tells what a poll said, and gives the events of its echoes."""
-        news = [lines.news_of(line) for line in came]
-        if last.startswith("link fault"):
-            news.append({"what": "said", "line": last})
-        echoes = [each["event"] for each in news if each["what"] in lines.ECHOES]
-        if news:
-            self.tell_news(news)
-        if echoes:
-            self.teller.ask(echoes)
-        return echoes
-
-    def show(self, node, others):
-        """Asks for the drawing, and tells what is different in it. `others` says that it has what a poll brought."""
-        with self.counting:
-            edits = self.edits
-        shown = node.ask(b"show")
-        with self.audience.lock:
-            difference = self.picture.take(shown)
-            self.shown = edits
-            self.tell("picture", edits=edits, others=others, polled_at=self.behind_since, **difference)
-        if others:
-            self.behind_since, self.shown_at = None, time.monotonic()
-        self.notes_due = True
-        self.ask_standing(node)
-
-    def ask_standing(self, node):
-        """Asks for the numbers, and tells them where they have changed."""
-        (standing,) = node.ask(b"status")
-        standing = lines.standing_of(standing)
-        if standing == self.standing:
-            return
-        if standing["kept"] < self.standing.get("kept", 0):
-            self.soon_until = time.monotonic() + SOON_FOR
-        with self.audience.lock:
-            self.standing = standing
-            self.tell("standing", standing=standing)
-
-    def ask_notes(self, node):
-        """Asks for the notes of all and for the numbers, and tells these where they have changed."""
-        self.notes_due, self.asked_at = False, time.monotonic()
-        who = [lines.note_of(line) for line in node.ask(b"who")[:-1]]
-        if who != self.who:
-            with self.audience.lock:
-                self.who = who
-                self.tell("who", who=who)
-        self.ask_standing(node)
+    async def stop(self):
+        """Ends the node, and gives its status."""
+        for task in self.tasks:
+            task.cancel()
+        await asyncio.gather(*self.tasks, return_exceptions=True)
+        return await self.node.quit()
 
     def note_end(self, status, said):
         """Tells that the node has ended, and what that means."""
-        with self.audience.lock:
-            self.end = {"status": status, "meaning": lines.meaning_of(status), "said": said}
-            self.tell("end", end=self.end)
+        self.end = {"status": status, "meaning": lines.meaning_of(status), "said": said}
+        self.tell("end", end=self.end)
+
+    # What pages ask for.
+
+    async def batch(self, texts):
+        """Types the lines of one gesture, and gives an answer for each and the number of the last edit that was taken."""
+        batch = Batch(texts, self.type)
+        # One gesture is typed behind the other, also where one waits for ids.
+        async with self.typing:
+            await batch.type_all()
+        if self.rounds:
+            self.rounds.expect(batch.verbs)
+        answers = await batch.all_answers()
+        own = zip(answers, batch.texts)
+        self.tell_news([{"what": "own", "event": each[3:], "line": text} for each, text in own if each.startswith("ok ")])
+        return {"answers": answers, "edits": self.edits}
+
+    def type(self, typed):
+        """Types lines, and gives their slots. Raises `Refused` where the node has ended or has too many to answer."""
+        if self.node is None:
+            raise lines.Refused("Ended")
+        try:
+            return self.node.type(*typed)
+        except Ended:
+            raise lines.Refused("Ended") from None
+        except Busy:
+            raise lines.Refused("Busy") from None
+
+    async def rename(self, text):
+        """Takes what the person here is called, for as long as the journal lies there. Raises `BadName`, and `OSError` where
+        the name can't be kept; the node has it then all the same."""
+        name = name_of(text)
+        if self.rounds and self.node.status is None:
+            try:
+                self.type([b"name " + word_of(name).encode()])
+            except lines.Refused:
+                raise BadName("the node is silent: give the name again when it answers") from None
+            self.rounds.expect(lines.NOTES)
+        self.name = name
+        self.who = self.with_own_name(self.who)
+        self.tell("who", who=self.who)
+        self.names.write(self.name)
+
+    # What the node says.
+
+    def take_picture(self, shown, accepted, others, polled_at):
+        """Tells what is different in a drawing, which has so many edits of this run of the node."""
+        difference = self.picture.take(shown)
+        self.shown = self.edits_before + accepted
+        self.tell("picture", edits=self.shown, others=others, polled_at=polled_at, whole=False, **difference)
+        self.read_history()
+
+    def take_standing(self, standing):
+        """Tells the numbers where they have changed. Says whether fewer events are kept than before."""
+        self.peers.stand(standing)
+        if standing == self.standing:
+            return False
+        is_less = standing["kept"] < self.standing.get("kept", 0)
+        self.standing = standing
+        self.tell("standing", standing=standing)
+        self.tell_peers()
+        return is_less
+
+    def take_notes(self, notes):
+        """Tells what all say of themselves where that has changed."""
+        who = self.with_own_name(notes)
+        if who == self.who:
+            return
+        before = {each["site"]: each for each in self.who}
+        for each in who:
+            if before.get(each["site"]) != each:
+                self.peers.note(each["site"])
+        self.who = who
+        self.tell("who", who=who)
+
+    def take_news(self, came, last):
+        """Tells what a poll said, and gives its echoes."""
+        news = [lines.news_of(line) for line in came]
+        if last.startswith("link fault"):
+            news.append({"what": "said", "line": last})
+        echoes = [each for each in news if each["what"] in lines.ECHOES]
+        for each in echoes:
+            self.history.came(each)
+        self.tell_news(news)
+        return echoes
+
+    # What is told.
+
+    def with_own_name(self, who):
+        """Notes in which this site has its whole name."""
+        return [{**each, "name": self.name or None} if each["site"] == self.site else each for each in who]
+
+    def called(self):
+        """The names of sites, as far as they are known."""
+        names = {each["site"]: each["name"] for each in self.who if each["name"]}
+        return {**names, self.site: self.name} if self.name else names
+
+    def tell_news(self, news):
+        now = time.monotonic()
+        told = self.news.take(news, now) + self.news.due(now)
+        if told:
+            self.tell("news", news=told, earlier=False)
+
+    def read_history(self):
+        """Tells what came to the journal, or once that it isn't read any more."""
+        first = self.history.go_on()
+        if self.history.fault and not self.is_fault_told:
+            self.is_fault_told = True
+            self.tell_news([{"what": "said", "line": f"the journal isn't read for the history: {self.history.fault}"}])
+        if first < len(self.history.events):
+            for text in self.history.messages(self.number, first):
+                self.audience.spread(text, self.number)
+
+    def note_event(self, event, is_new):
+        self.peers.event(event["clock"], event["site"], is_new)
+
+    def tell_peers(self):
+        """Tells what is known of the others, where more than the time since they were heard has changed."""
+        silence = self.node.silence() if self.node else 0
+        peers = self.peers.told(self.called(), silence)
+        heard = [each["heard"] for each in peers["peers"]]
+        plain = ([{**each, "heard": None} for each in peers["peers"]], peers["waiting"], peers["silent"])
+        if plain != self.told_peers or 0 in heard:
+            self.told_peers = plain
+            self.tell("peers", **peers)
+
+    async def watch(self, node):
+        """Looks at the others, and at the node itself, again and again until it has ended."""
+        while node.status is None:
+            is_silent = node.silence() >= self.poll_every + WATCH_EVERY
+            if self.was_silent and not is_silent:
+                self.peers.resume()
+            self.was_silent = is_silent
+            self.tell_peers()
+            self.tell_news([])
+            await asyncio.sleep(WATCH_EVERY)
 
     def tell(self, kind, **fields):
         self.audience.tell(kind, desk=self.number, **fields)
 
-    def tell_news(self, news):
-        with self.audience.lock:
-            self.news.extend(news)
-            self.tell("news", news=news)
-
-    def tell_events(self, events):
-        """Tells what events were, by their ids, for those that tell no more of them than that."""
-        with self.audience.lock:
-            for each in self.news:
-                if each.get("event") in events:
-                    each["done"] = events[each["event"]]
-            self.tell("events", events=events)
+    def hello(self):
+        """What a page that comes is told first."""
+        fields = {"site": self.site, "sites": self.sites, "session": self.session, "demo": self.is_demo}
+        return message("hello", desk=self.number, **fields, journal=self.journal.name, desks=self.desks, names=self.called())
 
     def opening(self):
         """What a page that comes is told of this desk."""
-        yield message("news", desk=self.number, news=list(self.news), earlier=True)
+        yield self.hello()
+        yield message("news", desk=self.number, news=list(self.news.entries), earlier=True)
         yield message("who", desk=self.number, who=self.who)
         yield message("standing", desk=self.number, standing=self.standing)
+        silence = self.node.silence() if self.node else 0
+        yield message("peers", desk=self.number, **self.peers.told(self.called(), silence))
         whole = self.picture.whole()
-        yield message("picture", desk=self.number, edits=self.shown, whole=True, others=False, polled_at=None, **whole)
+        yield message("picture", desk=self.number, edits=self.shown, others=False, polled_at=None, whole=True, **whole)
+        yield from self.history.messages(self.number)
         if self.end:
             yield message("end", desk=self.number, end=self.end)

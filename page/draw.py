@@ -1,14 +1,18 @@
 """What `./draw` does: reads its words, starts the nodes, and serves the page until it is ended."""
 
 import argparse
+import asyncio
+import os
 import secrets
 import shutil
 import signal
 import sys
 import tempfile
 import threading
+import webbrowser
 from pathlib import Path
 
+from page.addresses import BadAddress, check_own, looked_up
 from page.audience import Audience
 from page.demo import MOST_SITES, Proxy
 from page.desk import Desk
@@ -19,28 +23,32 @@ from page.server import Server
 ROOT = Path(__file__).resolve().parent.parent
 PROGRAM = ROOT / "groupdesign"
 DEMO_SESSION = 7
+MOST_SESSION = 2**32 - 1
+USAGE, FAILED, BROKEN = 2, 1, 130
 
 
 def number_in(least, most):
     def read(text):
-        value = int(text)
+        value = int(text) if text.isascii() and text.isdigit() else -1
         if not least <= value <= most:
-            raise argparse.ArgumentTypeError(f"a number from {least} to {most} is wanted")
+            raise argparse.ArgumentTypeError(f"{text} is no number from {least} to {most}")
         return value
 
     return read
 
 
 def asked(words):
-    """What the command line asks for. The node judges its own words, which are handed on as they are."""
+    """What the command line asks for."""
     parser = argparse.ArgumentParser(prog="./draw", description="Draws together in a browser, over a node of one's own.")
-    parser.add_argument("--session", metavar="N", help="the session's number")
-    parser.add_argument("--site", metavar="S", help="which of the sites this one is, from 1")
-    parser.add_argument("--journal", metavar="PATH", help="the file of the node's log; where it is there it is gone on with")
-    parser.add_argument("addresses", metavar="ADDR", nargs="*", help="HOST:PORT of each site, this one too, in their order")
-    parser.add_argument("--demo", metavar="N", type=number_in(1, MOST_SITES), help="that many nodes on this machine")
-    parser.add_argument("--port", metavar="N", type=number_in(0, 65_535), default=0, help="the page's port; any free one if 0")
-    parser.add_argument("--program", metavar="PROGRAM", type=Path, default=PROGRAM, help="another built groupdesign")
+    add = parser.add_argument
+    add("--session", metavar="N", type=number_in(0, MOST_SESSION), help="the session's number, the same at all sites")
+    add("--site", metavar="S", type=number_in(1, 16), help="which of the addresses is here, from 1")
+    add("--journal", metavar="PATH", help="the file of the node's log; where it is there it is gone on with")
+    add("addresses", metavar="ADDR", nargs="*", help="HOST:PORT of each site, this one too, in the same order at all sites")
+    add("--demo", metavar="N", type=number_in(1, MOST_SITES), help="that many nodes on this machine")
+    add("--port", metavar="N", type=number_in(0, 65_535), default=0, help="the page's port; any free one if 0")
+    add("--open", action="store_true", help="open the page in a browser")
+    add("--program", metavar="PROGRAM", type=Path, default=PROGRAM, help="another built groupdesign")
     given = parser.parse_args(words)
     own = [given.session, given.site, given.journal]
     if given.demo is None and (None in own or not given.addresses):
@@ -56,11 +64,33 @@ def node_command(program, session, site, journal, addresses):
     return [str(program), "node", *options, *addresses]
 
 
+def say(text):
+    print(f"draw: {text}", file=sys.stderr, flush=True)
+
+
+def check_journal(path):
+    """Says what is wrong with the place of a journal, or nothing."""
+    folder = path.parent
+    if path.is_dir():
+        return f"the journal {path} is a folder: name a file in it"
+    if not folder.is_dir():
+        return f"the folder {folder} of the journal isn't there: make it first (mkdir -p {folder})"
+    if path.exists() and not os.access(path, os.R_OK | os.W_OK):
+        return f"the journal {path} can't be read and written by this user"
+    if not path.exists() and not os.access(folder, os.W_OK | os.X_OK):
+        return f"no file can be made in the folder {folder} of the journal by this user"
+    return None
+
+
 def own_desk(given, audience):
-    """The desk of the node that the words ask for."""
-    command = node_command(given.program.resolve(), given.session, given.site, given.journal, given.addresses)
-    number = int(given.site) if given.site.isascii() and given.site.isdigit() and len(given.site) < 3 else 1
-    return Desk(number, command, given.journal, audience)
+    """The desk of the node that the words ask for. Raises `BadAddress` where one of its words can't be used."""
+    wrong = check_journal(Path(given.journal))
+    if wrong:
+        raise BadAddress(wrong)
+    addresses = looked_up(given.addresses, given.site)
+    check_own(addresses[given.site - 1])
+    command = node_command(given.program.resolve(), given.session, given.site, given.journal, addresses)
+    return Desk(given.site, command, given.journal, audience, given.session)
 
 
 def demo_desks(given, audience, room):
@@ -70,70 +100,91 @@ def demo_desks(given, audience, room):
     for site in range(1, given.demo + 1):
         journal = Path(room) / f"site-{site}.log"
         command = node_command(given.program.resolve(), DEMO_SESSION, site, journal, proxy.addresses(site))
-        desks.append(Desk(site, command, journal, audience))
+        desks.append(Desk(site, command, journal, audience, DEMO_SESSION))
     return desks, proxy
 
 
-def say(text):
-    print(f"draw: {text}", file=sys.stderr, flush=True)
+def advice(status, desk):
+    """What to do where a node ended at once with a status; it may be nothing."""
+    if status == 3:
+        return f" Is {desk.journal} another file? Where it is one of groupdesign, put back a whole copy of it under another name."
+    if status == 11:
+        return f" Give the session, the site and all addresses with which {desk.journal} was begun, or name another file."
+    if status == 6:
+        return " Is another node at work on it, or is the disk full?"
+    return ""
 
 
-def start(desks):
+async def start(desks):
     """Starts all desks. Says why where one doesn't, and gives its status then."""
     for desk in desks:
         try:
-            desk.start()
+            await desk.start()
         except Ended as said:
-            status = desk.node.process.wait()
+            await desk.node.is_over.wait()
+            status = desk.node.status
             if str(said):
                 say(str(said))
-            say(f"the node of site {desk.number} ended with status {status}: {meaning_of(status)}")
-            return status if status > 0 else 1
+            say(f"the node of site {desk.number} ended with status {status}: {meaning_of(status)}.{advice(status, desk)}")
+            return status if status > 0 else FAILED
+        except OSError as fault:
+            say(f"the program {desk.program} wasn't started: {fault.strerror}. ./groupdesign builds it; --program names another")
+            return FAILED
     return 0
 
 
 def tell_addresses(server, given):
-    """Prints where the page is, on standard output, and in a demonstration also where each site alone is."""
-    print(server.address, flush=True)
-    if given.demo is not None:
-        for number in server.desks:
-            print(f"{server.address}?site={number}  (site {number} alone)", flush=True)
-
-
-def serve(server, given):
-    """Serves until this program is told to end."""
-    told = threading.Event()
-    for each in (signal.SIGINT, signal.SIGTERM, signal.SIGHUP):
-        signal.signal(each, lambda *_: told.set())
-    threading.Thread(target=server.serve_forever, daemon=True).start()
-    tell_addresses(server, given)
-    told.wait()
-    server.audience.close()
-    server.shutdown()
-
-
-def run(given, room):
-    audience = Audience()
-    proxy = None
+    """Prints where the page is, on standard output: in a demonstration that with all panes, and one for each site."""
     if given.demo is None:
-        desks = [own_desk(given, audience)]
+        first = server.address
+        print(first, flush=True)
     else:
+        first = f"{server.address}panes.html"
+        print(f"{first}  (all sites side by side)", flush=True)
+        for number in server.desks:
+            print(f"{server.address}?desk={number}  (site {number} alone)", flush=True)
+    if given.open:
+        # Some browsers only give back what they were given when they end.
+        threading.Thread(target=open_page, args=[first], daemon=True).start()
+
+
+def open_page(address):
+    if not webbrowser.open(address):
+        say("no browser was found: open the address above in one")
+
+
+async def serve(server, given):
+    """Serves until this program is told to end."""
+    told = asyncio.Event()
+    for each in (signal.SIGINT, signal.SIGTERM, signal.SIGHUP):
+        asyncio.get_running_loop().add_signal_handler(each, told.set)
+    tell_addresses(server, given)
+    await told.wait()
+    await server.stop()
+
+
+async def run(given, room):
+    audience, proxy = Audience(), None
+    try:
+        desks = [own_desk(given, audience)] if given.demo is None else None
+    except BadAddress as why:
+        say(str(why))
+        return USAGE
+    if desks is None:
         desks, proxy = demo_desks(given, audience, room)
         proxy.start()
     try:
-        server = Server(given.port, secrets.token_urlsafe(24), desks, audience, proxy)
-    except OSError as fault:
-        say(f"port {given.port} can't be served: {fault.strerror}")
-        return 1
-    try:
-        status = start(desks)
+        server = Server(secrets.token_urlsafe(24), desks, audience, proxy)
+        status = await start(desks)
         if not status:
-            serve(server, given)
+            await server.start(given.port)
+            await serve(server, given)
         return status
+    except OSError as fault:
+        say(f"port {given.port} can't be served: {fault.strerror}. Take another --port, or 0 for any free one")
+        return FAILED
     finally:
-        for desk in desks:
-            if desk.node:
-                desk.stop()
+        await asyncio.gather(*(desk.stop() for desk in desks if desk.node))
         if proxy:
             proxy.close()
 
@@ -143,9 +194,9 @@ def main(words=None):
     # The journals of a demonstration go with it.
     room = tempfile.mkdtemp(prefix="draw-") if given.demo is not None else None
     try:
-        return run(given, room)
+        return asyncio.run(run(given, room))
     except KeyboardInterrupt:
-        return 130
+        return BROKEN
     finally:
         if room:
             shutil.rmtree(room, ignore_errors=True)

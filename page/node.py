@@ -1,9 +1,9 @@
 """A node as a process: what is typed at it, and its answers, in their order."""
 
+import asyncio
 import fcntl
 import os
 import subprocess
-import threading
 import time
 from collections import deque
 
@@ -11,137 +11,193 @@ from page.lines import last_of
 
 PIECE = ROOM = 1 << 20
 REST = 0.002
-# A node that takes longer for one answer is taken for one that hangs.
-PATIENCE = 60
 # How long a node that was told to quit has for its end.
 FAREWELL = 5
+# A node that answers nothing is typed so many lines at, and no more.
+MOST_WAITING = 20_000
 
 
 class Ended(Exception):
-    """The node ended, or took too long, before its whole answer was there."""
+    """The node ended before its whole answer was there. Its text is what the node said last, where it said something."""
 
 
-def whole_lines(pieces):
-    """The lines of a stream of pieces, without their LF. A last line without one is cut, and left out."""
-    pending = b""
-    for piece in pieces:
-        # LF alone ends a line: a label may have other characters that end lines elsewhere.
-        *lines, pending = (pending + piece).split(b"\n")
-        yield from lines
+class Busy(Exception):
+    """So many lines wait for their answers that no more are typed."""
 
 
 class Slot:
-    """The place of one answer among those that are waited for."""
+    """The place of one answer among those that are waited for.
 
-    def __init__(self, last):
-        self.last, self.lines, self.cut = last, [], False
-        self.whole = threading.Event()
+    `accepted` is how many edits the node had accepted once this answer was whole: what a `show` printed has these."""
+
+    __slots__ = ("last", "lines", "whole", "cut", "accepted")
+
+    def __init__(self, last, loop):
+        self.last, self.lines, self.cut, self.accepted = last, [], False, 0
+        self.whole = loop.create_future()
+
+    def close(self, cut=False):
+        self.cut = cut
+        if not self.whole.done():
+            self.whole.set_result(None)
+
+    async def settled(self):
+        """Waits until the answer is whole, or is cut for good."""
+        if not self.whole.done():
+            # Who waits may be called off, and others may wait for the same.
+            await asyncio.shield(self.whole)
+
+    async def answer(self):
+        """The lines of the answer, as bytes. Raises `Ended` where they aren't all there."""
+        await self.settled()
+        if self.cut:
+            raise Ended
+        return self.lines
 
 
 class Node:
-    """A running node. `ended` is called once with its status and the lines that it printed and nobody had asked for,
-    from a thread of its own, when its output is at its end."""
+    """A running node. `ended` is called once with its status and the lines that it printed and nobody had asked for, when
+    its output is at its end. All of it runs in the loop in which it is made."""
 
     def __init__(self, command, ended=lambda status, lines: None):
-        self.ended, self.status, self.stray = ended, None, []
+        self.ended, self.status, self.stray, self.accepted = ended, None, [], 0
+        self.loop = asyncio.get_running_loop()
         # Keys that end this program don't end the node, which is told to quit.
         pipes = {"stdin": subprocess.PIPE, "stdout": subprocess.PIPE, "bufsize": 0, "start_new_session": True}
         self.process = subprocess.Popen(command, **pipes)
-        self.widen()
-        self.typing, self.slots = threading.Lock(), deque()
-        self.ready = Slot((b"ready ",))
-        self.slots.append(self.ready)
-        self.reader = threading.Thread(target=self.read, daemon=True)
-        self.reader.start()
+        self.source, self.goal = self.process.stdout.fileno(), self.process.stdin.fileno()
+        self.pending, self.unwritten = b"", bytearray()
+        self.ready = Slot((b"ready ",), self.loop)
+        self.slots, self.heard_at = deque([self.ready]), time.monotonic()
+        self.is_over, self.ending = asyncio.Event(), None
+        self.prepare()
 
-    def wait_until_ready(self, seconds=None):
-        """Waits for its first line. Raises `Ended` with all that it printed where there is none."""
-        self.ready.whole.wait(seconds)
-        if self.ready.cut or not self.ready.whole.is_set():
-            raise Ended(b"\n".join(self.ready.lines).decode(errors="replace"))
-        return self.ready.lines[-1].decode()
-
-    def type(self, line):
-        """Types a line, which is one that has an answer, and gives the slot of that. Raises `Ended` where the node has."""
-        slot = Slot(last_of(line))
-        with self.typing:
-            if self.status is not None:
-                raise Ended
-            # The reader finds the slot there, however soon the answer comes.
-            self.slots.append(slot)
-            try:
-                self.write(line + b"\n")
-            except OSError:
-                raise Ended from None
-        return slot
-
-    def write(self, data):
-        while data:
-            data = data[os.write(self.process.stdin.fileno(), data) :]
-
-    def ask(self, line, seconds=PATIENCE):
-        """Types a line, and waits for the lines of its answer. Raises `Ended` where these aren't all there."""
-        slot = self.type(line)
-        if not slot.whole.wait(seconds) or slot.cut:
-            raise Ended
-        return [each.decode(errors="replace") for each in slot.lines]
-
-    def read(self):
-        """Hands each printed line to the slot that waits for it, up to the end of the output."""
-        for line in whole_lines(iter(self.read_piece, b"")):
-            self.take(line)
-        self.end()
-
-    def widen(self):
-        """Asks for room for a long answer in the pipe, so that the node needn't wait for the reader."""
+    def prepare(self):
+        """Has both pipes never wait, and the one for answers take long ones at once, where the system allows that."""
+        for pipe in (self.source, self.goal):
+            os.set_blocking(pipe, False)
         try:
-            fcntl.fcntl(self.process.stdout.fileno(), fcntl.F_SETPIPE_SZ, ROOM)
+            fcntl.fcntl(self.source, fcntl.F_SETPIPE_SZ, ROOM)
         except OSError:
             # It is quicker with more room, and works without.
             pass
+        self.loop.add_reader(self.source, self.read)
 
-    def read_piece(self):
-        # The node writes each line of an answer by itself. A rest lets many of them gather.
-        if self.slots and self.slots[0].lines:
-            time.sleep(REST)
+    async def wait_until_ready(self):
+        """Waits for its first line, and gives it. Raises `Ended` with all that it printed where there is none."""
+        await self.ready.whole
+        if self.ready.cut:
+            raise Ended(b"\n".join(self.ready.lines).decode(errors="replace"))
+        return self.ready.lines[-1].decode()
+
+    def type(self, *lines):
+        """Types lines, which are such as have answers, and gives the slots of these. Raises `Ended` where the node has, and
+        `Busy` where too many answers are waited for; then none is typed."""
+        if self.status is not None:
+            raise Ended
+        if len(self.slots) + len(lines) > MOST_WAITING:
+            raise Busy
+        if not self.slots:
+            self.heard_at = time.monotonic()
+        slots = [Slot(last_of(line), self.loop) for line in lines]
+        self.slots.extend(slots)
+        self.write(b"".join(line + b"\n" for line in lines))
+        return slots
+
+    async def ask(self, line):
+        """Types a line, and waits for the lines of its answer, as bytes. Raises `Ended` where these aren't all there."""
+        (slot,) = self.type(line)
+        return await slot.answer()
+
+    def silence(self):
+        """For how many seconds it has answered nothing, though answers are waited for."""
+        return time.monotonic() - self.heard_at if self.slots and self.status is None else 0.0
+
+    def write(self, data):
+        is_first = not self.unwritten
+        self.unwritten += data
+        if is_first:
+            self.write_on()
+
+    def write_on(self):
+        """Writes what the pipe takes, and comes again when it takes more."""
         try:
-            return os.read(self.process.stdout.fileno(), PIECE)
+            del self.unwritten[: os.write(self.goal, self.unwritten[:PIECE])]
+        except BlockingIOError:
+            pass
         except OSError:
-            return b""
+            # Its end is told by its output.
+            self.unwritten.clear()
+        if self.unwritten:
+            self.loop.add_writer(self.goal, self.write_on)
+        else:
+            self.loop.remove_writer(self.goal)
 
-    def take(self, line):
-        if not self.slots or line == b"line limit":
-            self.stray.append(line)
+    def read(self):
+        """Takes what it printed. The node writes each line of an answer by itself: a rest lets many of them gather."""
+        try:
+            piece = os.read(self.source, PIECE)
+        except BlockingIOError:
             return
-        slot = self.slots[0]
-        slot.lines.append(line)
-        if line.startswith(slot.last):
-            self.slots.popleft()
-            slot.whole.set()
+        except OSError:
+            piece = b""
+        if not piece:
+            self.loop.remove_reader(self.source)
+            self.ending = self.loop.create_task(self.end())
+            return
+        self.heard_at = time.monotonic()
+        self.hand_out(piece)
+        if self.slots and self.slots[0].lines:
+            self.loop.remove_reader(self.source)
+            self.loop.call_later(REST, self.read_again)
 
-    def end(self):
+    def read_again(self):
+        if self.status is None:
+            self.loop.add_reader(self.source, self.read)
+
+    def hand_out(self, piece):
+        """Hands the lines of a piece of what was printed to the slots that wait for them."""
+        # LF alone ends a line: a label may have other characters that end lines elsewhere.
+        *lines, self.pending = (self.pending + piece).split(b"\n")
+        place = 0
+        while place < len(lines):
+            slot = self.slots[0] if self.slots else None
+            if slot is None or (not slot.lines and lines[place] == b"line limit"):
+                self.stray.append(lines[place])
+                place += 1
+                continue
+            last = next((at for at in range(place, len(lines)) if lines[at].startswith(slot.last)), None)
+            end = len(lines) if last is None else last + 1
+            slot.lines += lines[place:end]
+            place = end
+            if last is not None:
+                self.finish(self.slots.popleft())
+
+    def finish(self, slot):
+        if slot.lines[-1].startswith(b"ok "):
+            self.accepted += 1
+        slot.accepted = self.accepted
+        slot.close()
+
+    async def end(self):
         """Tells all who wait that no answer comes any more."""
-        status = self.process.wait()
-        with self.typing:
-            self.status = status
-            for slot in self.slots:
-                slot.cut = True
-                slot.whole.set()
+        self.status = await self.loop.run_in_executor(None, self.process.wait)
+        self.loop.remove_writer(self.goal)
+        for slot in self.slots:
+            slot.close(cut=True)
+        self.slots.clear()
         self.process.stdin.close()
         self.process.stdout.close()
-        self.ended(status, [line.decode(errors="replace") for line in self.stray])
+        self.ended(self.status, [line.decode(errors="replace") for line in self.stray])
+        self.is_over.set()
 
-    def quit(self):
+    async def quit(self):
         """Ends the node, by `quit` where it still listens, and gives its status."""
+        if self.status is None:
+            self.write(b"quit\n")
+        late = self.loop.call_later(FAREWELL, self.process.kill)
         try:
-            with self.typing:
-                if self.status is None:
-                    self.write(b"quit\n")
-        except OSError:
-            pass
-        try:
-            self.process.wait(FAREWELL)
-        except subprocess.TimeoutExpired:
-            self.process.kill()
-        self.reader.join(FAREWELL)
-        return self.process.wait()
+            await self.is_over.wait()
+        finally:
+            late.cancel()
+        return self.status

@@ -1,94 +1,89 @@
-// The page: a pane for each desk, or for the one that the address names.
+// The page: makes its parts and wires them. Lines go to the node, what it shows goes to the model, and a frame is drawn only
+// when something has changed.
 
-import { Pane } from "./pane.js";
-import { listen, setLink } from "./wire.js";
+import { Camera } from "./board/camera.js";
+import { Edits } from "./board/edits.js";
+import { Frames } from "./board/frames.js";
+import { Gestures } from "./board/gestures.js";
+import { hearing } from "./board/hearing.js";
+import { Looking } from "./board/looking.js";
+import { Model } from "./board/model.js";
+import { Nudge } from "./board/moving.js";
+import { Overlay } from "./board/overlay.js";
+import { Pending } from "./board/pending.js";
+import { Scene } from "./board/scene.js";
+import { Selection } from "./board/selection.js";
+import { Node } from "./core/node.js";
+import { People } from "./core/people.js";
+import { listenToKeys, makeIslands } from "./ui/islands.js";
 
-/** @type {Map<number, Pane>} */
-const panes = new Map();
-const wanted = Number(new URLSearchParams(location.search).get("site"));
-const link = document.getElementById("link");
+/** @typedef {import("./core/types.js").Ed} Ed */
 
-const SLIDERS = [
-  ["loss", "Loss", 90, " %"],
-  ["doubling", "Doubling", 90, " %"],
-  ["delay", "Delay up to", 3000, " ms"],
-];
+const canvas = (/** @type {string} */ id) => /** @type {HTMLCanvasElement} */ (document.getElementById(id));
+const desk = new URLSearchParams(location.search).get("desk");
 
-function makePanes({ desks, demo }) {
-  if (panes.size) return;
-  for (const number of desks) {
-    if (wanted && number !== wanted) continue;
-    const pane = new Pane({ number, demo }, sendLink);
-    panes.set(number, pane);
-    document.getElementById("panes").append(pane.section);
-    pane.view.update();
-  }
-  if (demo) makeSliders();
+/** @type {Ed} */
+const ed = /** @type {any} */ ({
+  board: document.getElementById("board"), tool: "select", lockTool: false, busy: null, hover: null, band: null, guides: null,
+  ghosts: null, editing: null, readOnly: null, watcher: false, pointer: null,
+  style: { stroke: "000000", fill: null, width: 2 },
+});
+ed.node = new Node(desk === null ? null : Number(desk));
+ed.people = new People(ed.node);
+ed.model = new Model();
+ed.camera = new Camera();
+ed.selection = new Selection(ed.model);
+const pending = new Pending(ed.node.picture, ed.model, () => ed.history.at !== null);
+const frames = new Frames(ed);
+const nudge = new Nudge(ed);
+const looking = new Looking(ed);
+ed.edits = new Edits(ed, pending);
+ed.stats = { draws: frames.draws };
+ed.touch = (what) => frames.touch(what);
+ed.settle = () => nudge.settle();
+ed.nudge = (dx, dy) => nudge.move(dx, dy);
+ed.changed = () => {
+  if (ed.history.at === null) pending.showAll();
+  ed.selection.prune();
+  ed.history.update();
+  ed.rested();
+};
+
+makeIslands(ed);
+ed.scene = new Scene(canvas("scene"), ed.model, ed.camera);
+ed.overlay = new Overlay(canvas("overlay"), ed);
+ed.gestures = new Gestures(ed, ed.board);
+listenToKeys(ed);
+
+ed.model.hear = (/** @type {import("./core/types.js").Box[]} */ boxes) => {
+  ed.scene.damage.push(...boxes);
+  frames.again();
+};
+ed.camera.hear = () => {
+  frames.again();
+  ed.placed();
+};
+ed.selection.hear = () => {
+  nudge.check();
+  looking.changed();
+  frames.touch("overlay");
+  ed.rested();
+};
+
+function resize() {
+  const { innerWidth, innerHeight, devicePixelRatio } = window;
+  Object.assign(ed.camera, { width: innerWidth, height: innerHeight });
+  ed.scene.size(innerWidth, innerHeight, devicePixelRatio);
+  ed.overlay.size(innerWidth, innerHeight, devicePixelRatio);
+  ed.camera.hear();
 }
 
-function makeSliders() {
-  link.hidden = false;
-  for (const [name, title, most, unit] of SLIDERS) {
-    const label = document.createElement("label");
-    const slider = Object.assign(document.createElement("input"), { type: "range", name, max: most, value: 0 });
-    slider.step = most / 90;
-    const output = document.createElement("output");
-    slider.addEventListener("input", () => {
-      output.textContent = `${Math.round(slider.value)}${unit}`;
-    });
-    slider.addEventListener("change", sendLink);
-    label.append(`${title} `, slider, output);
-    link.append(label);
-  }
-  link.addEventListener("submit", (event) => event.preventDefault());
-}
-
-/** Tells the proxy what the sliders and switches say. A switch of a pane that isn't on this page stays as it is. */
-function sendLink() {
-  const elsewhere = (link.cut ?? []).filter((site) => !panes.has(site));
-  const here = [...panes.values()].filter((pane) => pane.find(".cut input").checked).map((pane) => pane.number);
-  const settings = Object.fromEntries(SLIDERS.map(([name]) => [name, Math.round(link.elements[name].value)]));
-  setLink({ ...settings, cut: [...elsewhere, ...here] });
-}
-
-function showLink(settings) {
-  link.cut = settings.cut;
-  for (const [name, , , unit] of SLIDERS) {
-    const slider = link.elements[name];
-    slider.value = settings[name];
-    slider.nextSibling.textContent = `${settings[name]}${unit}`;
-  }
-  for (const pane of panes.values()) {
-    const isCut = settings.cut.includes(pane.number);
-    pane.find(".cut input").checked = isCut;
-    pane.section.classList.toggle("is-cut", isCut);
-  }
-}
-
-/** Hands a message on to the pane that it is for, where that is on this page. */
-function forPane(call) {
-  return (message) => {
-    const pane = panes.get(message.desk);
-    if (pane) call(pane, message);
-  };
-}
-
-listen(
-  {
-    desks: makePanes,
-    link: showLink,
-    picture: forPane((pane, message) => pane.picture(message)),
-    news: forPane((pane, message) => pane.news(message)),
-    events: forPane((pane, message) => pane.events(message)),
-    who: forPane((pane, message) => pane.hear(message)),
-    standing: forPane((pane, message) => pane.standing(message)),
-    end: forPane((pane, message) => pane.ended(message)),
-    begun: forPane((pane) => pane.begun()),
-  },
-  (connected) => {
-    document.getElementById("connection").textContent = connected
-      ? "connected"
-      : "no connection: does ./draw still run?";
-    document.body.classList.toggle("is-lost", !connected);
-  },
-);
+ed.people.update();
+resize();
+addEventListener("resize", resize);
+ed.setTool("select");
+ed.node.ear = hearing(ed, pending);
+ed.node.start();
+ed.focusBoard();
+// For tests and measurements.
+Object.assign(window, { ed });

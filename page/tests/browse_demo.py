@@ -1,163 +1,192 @@
-"""The demonstration of three panes, and how the page looks."""
+"""A demonstration of two: a pane for each site, the link between them, and the picture of the README."""
 
 import base64
 import os
 import unittest
 
-from selenium.webdriver.common.by import By
-from selenium.webdriver.common.keys import Keys
-
 from page.draw import ROOT
 from page.tests.browser import Page, Run, browser
 from page.tests.places import wait_for
 
-SETTLE = "arguments[0].value = arguments[1]; arguments[0].dispatchEvent(new Event('change'))"
-# Of each text that is seen, its size, and the contrast to the ground that it stands on (WCAG 2, 1.4.3).
-TEXTS = """
-const channel = (value) => (value <= 0.03928 ? value / 12.92 : ((value + 0.055) / 1.055) ** 2.4);
-const parts = (colour) => colour.match(/[\\d.]+/g).map(Number);
-const light = (colour) => {
-  const [red, green, blue] = parts(colour).map((each) => channel(each / 255));
-  return 0.2126 * red + 0.7152 * green + 0.0722 * blue;
-};
-const groundOf = (element) => {
-  for (let each = element; each; each = each.parentElement) {
-    const colour = getComputedStyle(each).backgroundColor;
-    if ((parts(colour)[3] ?? 1) > 0) return colour;
-  }
-  return 'rgb(255, 255, 255)';
-};
-const isSeen = (element) => element.checkVisibility() && element.getClientRects().length > 0;
-const hasText = (element) => element.matches('input, button') ||
-  [...element.childNodes].some((node) => node.nodeType === 3 && node.textContent.trim());
-return [...document.body.querySelectorAll('*')].filter((each) => !each.closest('.objects, template, noscript'))
-  .filter((each) => isSeen(each) && hasText(each)).map((element) => {
-    const style = getComputedStyle(element);
-    const isDrawn = element instanceof SVGElement;
-    const [one, other] = [light(isDrawn ? style.fill : style.color), light(groundOf(element))].sort((a, b) => b - a);
-    return { what: element.outerHTML.slice(0, 80), size: parseFloat(style.fontSize), contrast: (one + 0.05) / (other + 0.05) };
-  });
-"""
+SETTLE = "const [field, value] = arguments; field.value = value; field.dispatchEvent(new Event('input')); field.dispatchEvent(new Event('change'));"
 WIDER = "return document.documentElement.scrollWidth - document.documentElement.clientWidth"
+PICTURE = (1560, 860)
+PLAN = [
+    "create text 40 40 330 36 Launch of the spring release",
+    "create rect 40 130 150 76 Draft the spec", "stroke @2 2563EB", "fill @2 DAE6FF", "width @2 2",
+    "create rect 270 130 150 76 Review", "stroke @6 2563EB", "fill @6 DAE6FF", "width @6 2",
+    "create ellipse 500 118 150 100 All agreed?", "stroke @10 B98500", "fill @10 FFF2AE", "width @10 2",
+    "create line 190 168 80 0", "stroke @14 6B7280", "width @14 2",
+    "create line 420 168 80 0", "stroke @17 6B7280", "width @17 2",
+    "create rect 40 290 380 190", "stroke @20 6B7280", "width @20 2",
+    "create text 60 304 160 26 Before the date",
+    "create rect 60 350 160 52 Docs in 3 languages", "stroke @24 6B7280", "fill @24 FFFFFF", "width @24 2",
+    "create rect 60 414 160 52 תיעוד בעברית (test)!", "stroke @28 6B7280", "fill @28 FFFFFF", "width @28 2",
+    "create rect 250 350 150 116 Who writes the notes?", "stroke @32 7C3AED", "fill @32 E9DFFF", "width @32 2",
+    "create rect 500 320 150 76 Ship it", "stroke @36 258750", "fill @36 D3F2DB", "width @36 4",
+    "create line 575 218 0 102", "stroke @40 258750", "width @40 2",
+]
+
+
+class Pane(Page):
+    """The page of one site in its pane."""
+
+    def __init__(self, driver, number):
+        self.number = number
+        self.driver = driver
+        wait_for(lambda: self.ask("document.body.dataset.ready"), 120)
+
+    def ask(self, expression, *given):
+        self.enter()
+        return super().ask(expression, *given)
+
+    def do(self, script, *given):
+        self.enter()
+        return super().do(script, *given)
+
+    def enter(self):
+        self.driver.switch_to.default_content()
+        self.driver.switch_to.frame(self.number - 1)
+
+    def make(self, *lines):
+        self.do("ed.edits.do('made', arguments[0])", list(lines))
+        wait_for(self.is_settled)
+
+    def named(self, label):
+        return self.ask("ed.model.items.find((i) => i.label === arguments[0]).id", label)
 
 
 class Demonstration(unittest.TestCase):
     @classmethod
     def setUpClass(cls):
-        cls.run_of_draw = Run("--demo", "3", addresses=4)
+        cls.run_of_draw = Run("--demo", "2", addresses=3)
         cls.addClassCleanup(cls.run_of_draw.end)
-        cls.driver = browser("--window-size=1380,980", "--force-device-scale-factor=1")
+        cls.driver = browser(f"--window-size={PICTURE[0]},{PICTURE[1]}", "--force-device-scale-factor=1")
         cls.addClassCleanup(cls.driver.quit)
+        cls.emulate("light", *PICTURE)
         cls.driver.get(cls.run_of_draw.address)
-        cls.panes = [Page(cls.driver, index) for index in range(3)]
+        wait_for(lambda: len(cls.driver.find_elements("css selector", "iframe")) == 2)
+        cls.panes = [Pane(cls.driver, number) for number in (1, 2)]
+
+    @classmethod
+    def emulate(cls, scheme, width, height):
+        cls.driver.execute_cdp_cmd("Emulation.setEmulatedMedia", {"features": [{"name": "prefers-color-scheme", "value": scheme}]})
+        metrics = {"width": width, "height": height, "deviceScaleFactor": 1, "mobile": False}
+        cls.driver.execute_cdp_cmd("Emulation.setDeviceMetricsOverride", metrics)
+
+    def outside(self, selector):
+        self.driver.switch_to.default_content()
+        return self.driver.find_elements("css selector", selector)
 
     def wait_until_same(self):
-        wait_for(lambda: self.panes[0].shown() == self.panes[1].shown() == self.panes[2].shown(), 120)
+        def is_same():
+            return all(pane.is_settled() for pane in self.panes) and self.panes[0].shown() == self.panes[1].shown()
 
-    def emulate(self, scheme, width, height):
-        features = [{"name": "prefers-color-scheme", "value": scheme}]
-        self.driver.execute_cdp_cmd("Emulation.setEmulatedMedia", {"features": features})
-        metrics = {"width": width, "height": height, "deviceScaleFactor": 1, "mobile": False}
-        self.driver.execute_cdp_cmd("Emulation.setDeviceMetricsOverride", metrics)
+        wait_for(is_same, 120)
 
-    def test_1_one_is_cut_off_two_draw_and_all_join_again(self):
-        one, two, three = self.panes
-        for pane, name in zip(self.panes, ("Ada", "Bob", "Cleo")):
-            pane.find("input.name").send_keys(name, Keys.TAB)
-        self.draw_house(one)
-        wait_for(lambda: len(one.ids()) == 5)
+    def test_1_one_is_cut_off_both_draw_and_all_comes_together(self):
+        one, two = self.panes
+        for pane, name in ((one, "Ada"), (two, "Bob")):
+            pane.do("ed.node.setName(arguments[0])", name)
+        one.make(*PLAN)
         self.wait_until_same()
-        three.find(".cut input").click()
-        wait_for(lambda: "is-cut" in three.pane.get_attribute("class"))
-        self.edit_apart(one, three)
-        self.assertNotEqual(one.shown(), three.shown())
+        for pane in self.panes:
+            pane.do("ed.fit()")
+        self.outside(".pane .switch")[1].click()
+        wait_for(lambda: self.outside(".pane.is-cut"))
+        self.edit_apart(one, two)
+        wait_for(lambda: "Offline: 5 edits wait here" in two.banners())
+        wait_for(lambda: "Offline" in one.banners())
         one.picture("demo-cut-off")
-        three.find(".cut input").click()
+        self.outside(".pane .switch")[1].click()
         self.wait_until_same()
-        repaired = [each for pane in self.panes for kind in ("dropped", "reworked") for each in pane.history(kind)]
-        self.assertTrue(repaired)
-        wait_for(lambda: all("an event" not in each for pane in self.panes for each in pane.history("reworked")))
-        one.picture("demo-joined")
+        wait_for(lambda: two.banners().startswith("Back: "))
+        wait_for(lambda: not self.outside(".pane.is-cut"))
+        repaired = {each.ask("ed.history.lates().length") for each in self.panes}
+        self.assertNotEqual(repaired, {0})
+        self.show_repair(one, two)
+        one.picture("demo-repaired")
         if os.environ.get("PAGE_PICTURE"):
             self.make_picture()
+        for pane in self.panes:
+            pane.do("ed.history.toNow(); ed.banner(null)")
 
-    def draw_house(self, pane):
-        set_fill = pane.find("input.fill")
-        for tool, colour, begin, end in (
-            ("rect", "#ffe0b2", (120, 130), (280, 240)),
-            ("ellipse", "#ffd54f", (310, 30), (370, 90)),
-            ("rect", "#90caf9", (150, 160), (195, 205)),
-        ):
-            pane.script(SETTLE, set_fill, colour)
-            self.draw(pane, tool, begin, end)
-        pane.script(SETTLE, pane.find("input.width"), "3")
-        self.draw(pane, "line", (110, 135), (200, 70))
-        self.draw(pane, "line", (200, 70), (290, 135))
+    def edit_apart(self, one, two):
+        """Two who can't see each other edit the same: what Ada groups and deletes, Bob has moved and filled."""
+        review, docs, notes, ship = (one.named(label) for label in ("Review", "Docs in 3 languages", "Who writes the notes?", "Ship it"))
+        two.make(f"move {review} 270 110", f"fill {docs} FFE6C9", f"move {ship} 500 350", f"text {notes} Bob writes the notes", f"fill {ship} FFF2AE")
+        one.make(f"group {docs} {notes}", f"fill {docs} D3F2DB", f"move {review} 270 150", f"delete {ship}")
+        one.do("ed.selection.set([arguments[0]], null)", review)
 
-    def draw(self, pane, tool, begin, end):
-        def made():
-            return sum(": create " in each for each in pane.history("own"))
-
-        count = made()
-        pane.press(Keys.ESCAPE)
-        pane.draw(tool, begin, end)
-        wait_for(lambda: made() == count + 1 and not pane.all(".ghosts > g"))
-        pane.press(Keys.ESCAPE)
-
-    def edit_apart(self, here, cut):
-        """The same objects are edited where one is cut off and where not, some of them one after the other."""
-        here.select((340, 60))
-        here.press(Keys.DELETE)
-        cut.select((340, 60))
-        cut.press(*[Keys.ARROW_LEFT] * 3, hold=["shift"])
-        here.select((172, 182))
-        here.press(*[Keys.ARROW_RIGHT] * 3, hold=["shift"])
-        cut.select((172, 182))
-        cut.press(Keys.ARROW_DOWN, hold=["shift"])
-        cut.select((200, 220))
-        wait_for(lambda: len(here.ids()) == 4)
-        wait_for(lambda: len(cut.history("own")) == 4)
+    def show_repair(self, one, two):
+        """In the second pane the card of an event that was repaired; in the first one what it looks like now."""
+        best = """
+            const { events } = ed.node;
+            const at = events.findLastIndex((e) => e.late?.what === 'reworked');
+            ed.history.goTo((at < 0 ? events.findLastIndex((e) => e.late?.what === 'dropped') : at) + 1);
+        """
+        pane = two if two.ask("ed.history.lates().length") else one
+        pane.do(best)
+        wait_for(lambda: pane.find(".hist-card").is_displayed())
+        self.assertIn("Came late", pane.text(".hist-card"))
+        pane.do("document.activeElement.blur(); ed.focusBoard()")
 
     def make_picture(self):
         """The picture of the README: small, and of the page alone."""
-        clip = {"x": 0, "y": 0, "width": 1380, "height": 860, "scale": 0.62}
+        self.driver.switch_to.default_content()
+        clip = {"x": 0, "y": 0, "width": PICTURE[0], "height": PICTURE[1], "scale": 0.8}
         taken = self.driver.execute_cdp_cmd("Page.captureScreenshot", {"format": "png", "clip": clip})
         (ROOT / "docs/page.png").write_bytes(base64.b64decode(taken["data"]))
 
-    def test_2_sliders_lose_double_and_delay(self):
-        one = self.panes[0]
-        link = self.driver.find_element(By.ID, "link")
-        for name, value in (("loss", "40"), ("doubling", "30"), ("delay", "300")):
-            one.script(SETTLE, link.find_element(By.NAME, name), value)
-        wait_for(lambda: [each.text for each in link.find_elements(By.TAG_NAME, "output")] == ["40 %", "30 %", "300 ms"])
-        self.draw(one, "ellipse", (40, 180), (90, 230))
-        self.draw(self.panes[1], "rect", (40, 40), (90, 90))
-        wait_for(lambda: all(len(pane.ids()) == 6 for pane in self.panes), 120)
+    def test_2_sliders_lose_double_and_delay_and_each_page_shows_them(self):
+        one, two = self.panes
+        values = {"loss": 40, "twice": 30, "delay": 300}
+        for name, value in values.items():
+            (field,) = self.outside(f"[name={name}]")
+            self.driver.execute_script(SETTLE, field, value)
+        shown = lambda: [each.text for each in self.outside("#controls output")]
+        wait_for(lambda: shown() == ["40 %", "30 %", "300 ms"])
+        wait_for(lambda: two.ask("ed.node.link") == {**values, "cut": []})
+        before = len(two.ids())
+        one.make("create rect 700 40 40 40")
+        two.make("create ellipse 700 100 40 40")
         self.wait_until_same()
-        for name in ("loss", "doubling", "delay"):
-            one.script(SETTLE, link.find_element(By.NAME, name), "0")
+        self.assertEqual(len(one.ids()), before + 2)
+        for name in values:
+            (field,) = self.outside(f"[name={name}]")
+            self.driver.execute_script(SETTLE, field, 0)
+        wait_for(lambda: shown() == ["0 %", "0 %", "0 ms"])
 
-    def test_3_it_is_readable_dark_and_light_wide_and_narrow(self):
-        for scheme in ("light", "dark"):
-            for width, height in ((1380, 980), (360, 800)):
-                self.emulate(scheme, width, height)
-                wait_for(lambda: self.driver.execute_script(WIDER) <= 0)
-                texts = self.driver.execute_script(TEXTS)
-                self.assertGreater(len(texts), 40)
-                self.assertEqual([each for each in texts if each["size"] < 12], [])
-                self.assertEqual([each for each in texts if each["contrast"] < 4.5], [])
-                self.panes[0].picture(f"{scheme}-{width}")
-        self.emulate("light", 1380, 980)
-
-    def test_4_a_site_has_a_window_of_its_own(self):
+    def test_3_a_site_has_a_window_of_its_own_with_the_link_in_an_island(self):
+        self.driver.switch_to.default_content()
+        self.assertEqual([each.get_attribute("href") for each in self.outside(".pane-head a")], self.run_of_draw.addresses[1:])
         self.driver.get(self.run_of_draw.addresses[2])
-        pane = Page(self.driver)
-        wait_for(lambda: len(pane.ids()) >= 4)
-        self.assertEqual([each.text for each in self.driver.find_elements(By.TAG_NAME, "h2")], ["Site 2"])
-        self.draw(pane, "rect", (300, 200), (340, 240))
+        page = Page(self.driver)
+        self.assertTrue(page.find("#link").is_displayed())
+        page.find("#link .switch").click()
+        wait_for(lambda: page.ask("ed.node.link.cut") == [2])
+        wait_for(lambda: page.find("#link .switch").get_attribute("aria-checked") == "true")
+        page.find("#link .switch").click()
+        wait_for(lambda: page.ask("ed.node.link.cut") == [])
         self.driver.get(self.run_of_draw.address)
-        self.__class__.panes = [Page(self.driver, index) for index in range(3)]
-        self.wait_until_same()
+        wait_for(lambda: len(self.outside("iframe")) == 2)
+        for pane in self.panes:
+            wait_for(lambda: pane.ask("document.body.dataset.ready"), 120)
+            self.assertFalse(pane.find("#link").is_displayed())
+
+    def test_4_it_is_there_dark_and_light_wide_and_narrow(self):
+        for scheme in ("light", "dark"):
+            for width, height in (PICTURE, (360, 1200)):
+                self.emulate(scheme, width, height)
+                self.driver.get(self.run_of_draw.address)
+                wait_for(lambda: len(self.outside("iframe")) == 2)
+                for pane in self.panes:
+                    wait_for(lambda: pane.ask("document.body.dataset.ready"), 120)
+                self.driver.switch_to.default_content()
+                self.assertLessEqual(self.driver.execute_script(WIDER), 0)
+                self.driver.switch_to.default_content()
+                self.panes[0].picture(f"demo-{scheme}-{width}")
+        self.emulate("light", *PICTURE)
 
     def test_5_nothing_went_wrong_in_the_browser(self):
         self.assertEqual([each for each in self.driver.get_log("browser") if each["level"] == "SEVERE"], [])

@@ -1,7 +1,7 @@
 """What the tests in a browser share: pages in a real browser, over nodes of the program, with a proxy between them."""
 
+import json
 import os
-import re
 import shutil
 import signal
 import subprocess
@@ -14,7 +14,8 @@ from selenium import webdriver
 from selenium.common.exceptions import WebDriverException
 from selenium.webdriver.chrome.service import Service
 from selenium.webdriver.common.action_chains import ActionChains
-from selenium.webdriver.common.by import By
+from selenium.webdriver.common.actions.action_builder import ActionBuilder
+from selenium.webdriver.common.actions.pointer_input import PointerInput
 from selenium.webdriver.common.keys import Keys
 
 from page.audience import Audience
@@ -28,22 +29,15 @@ SESSION = 7
 ATTEMPTS = 3
 CONTROLS = {"ctrl": Keys.CONTROL, "shift": Keys.SHIFT, "alt": Keys.ALT}
 # A browser that does nothing of its own, and isn't ended by its own watchdogs where the machine is slow.
-FLAGS = """--headless=new --no-sandbox --disable-dev-shm-usage --window-size=1000,900 --disable-gpu --disable-gpu-watchdog
+FLAGS = """--headless=new --no-sandbox --disable-dev-shm-usage --window-size=1440,900 --disable-gpu --disable-gpu-watchdog
 --disable-hang-monitor --disable-extensions --disable-sync --disable-background-networking --disable-component-update
 --disable-default-apps --no-first-run --disable-breakpad --disable-background-timer-throttling
 --disable-backgrounding-occluded-windows --disable-renderer-backgrounding""".split()
-# The place in the window of a point of the drawing.
-PLACE = """
-const [svg, x, y] = arguments;
-const box = svg.getBoundingClientRect();
-const view = svg.viewBox.baseVal;
-return [box.left + (x - view.x) * box.width / view.width, box.top + (y - view.y) * box.height / view.height];
-"""
-# What a pane shows: for each object its id, its kind, and what is drawn of it.
+# What the board shows of each object, from bottom to top, as `show` prints it.
 SHOWN = """
-return [...arguments[0].querySelectorAll('.objects > g')].map((each) => [each.dataset.id, each.dataset.kind,
-  ...[...each.children].map((part) => [part.tagName, part.textContent,
-    ...[...part.attributes].map((one) => one.name + '=' + one.value).sort()].join(' '))]);
+return ed.model.items.map((i) => i.kind === 'group' ? `group ${i.id} in ${i.parent ?? '-'} at ${i.x} ${i.y}` :
+  `${i.kind} ${i.id} in ${i.parent ?? '-'} at ${i.x} ${i.y} size ${i.w} ${i.h} stroke ${i.stroke} fill ${i.fill ?? 'none'} width ${i.width}` +
+  (i.label && ` text ${i.label}`));
 """
 
 
@@ -57,7 +51,7 @@ def browser(*flags):
     for left in reversed(range(ATTEMPTS)):
         try:
             made = webdriver.Chrome(options=options, service=Service(shutil.which("chromedriver")))
-            made.set_script_timeout(30)
+            made.set_script_timeout(60)
             return made
         except WebDriverException:
             # On a busy machine it may not start in the minute that its driver waits.
@@ -81,127 +75,213 @@ class Run:
 
 
 class Page:
-    """A pane in a browser's window, by what a person does in it and sees."""
+    """A page in a browser's window, by what a person does in it and sees. Places are of the board, which is shown at 100 %
+    with its place 0 0 at the window's top left, unless the view was moved."""
 
-    def __init__(self, driver, pane=0):
+    def __init__(self, driver):
         self.driver = driver
-        self.pane = wait_for(lambda: driver.find_elements(By.CSS_SELECTOR, ".pane")[pane:])[0]
-        self.svg = self.find(".drawing")
+        wait_for(lambda: self.ask("document.body.dataset.ready"))
+        self.home()
+
+    def ask(self, expression, *given):
+        return self.driver.execute_script(f"return {expression}", *given)
+
+    def do(self, script, *given):
+        return self.driver.execute_script(script, *given)
 
     def find(self, selector):
-        return self.pane.find_element(By.CSS_SELECTOR, selector)
+        return self.driver.find_element("css selector", selector)
 
     def all(self, selector):
-        return self.pane.find_elements(By.CSS_SELECTOR, selector)
+        return self.driver.find_elements("css selector", selector)
 
-    def script(self, text, *given):
-        return self.driver.execute_script(text, *given)
+    def text(self, selector):
+        return self.ask("document.querySelector(arguments[0])?.textContent ?? ''", selector)
 
     # What is done.
 
-    def at(self, x, y):
-        """Moves the mouse to a point of the drawing."""
-        left, top = self.script(PLACE, self.svg, x, y)
-        actions = ActionChains(self.driver, duration=20)
-        actions.w3c_actions.pointer_action.move_to_location(round(left), round(top))
+    def home(self, zoom=1):
+        """Shows the board's place 0 0 at the top left."""
+        self.do("ed.camera.set(0, 0, arguments[0])", zoom)
+
+    def at(self, place):
+        """The place in the window of a place of the board, in whole pixels."""
+        x, y = self.ask("ed.camera.toWindow(arguments[0], arguments[1])", *place)
+        return round(x), round(y)
+
+    def hold(self, *keys):
+        """Keys that are held down."""
+        actions = ActionChains(self.driver, duration=0)
+        for each in keys:
+            actions.key_down(CONTROLS.get(each, each))
+        actions.perform()
+
+    def let_go(self, *keys):
+        actions = ActionChains(self.driver, duration=0)
+        for each in keys:
+            actions.key_up(CONTROLS.get(each, each))
+        actions.perform()
+
+    def pointer(self):
+        return ActionChains(self.driver, duration=10)
+
+    def press_at(self, place, *way):
+        """Presses, and moves over places, without letting go."""
+        self.pressing(place, *way).perform()
+
+    def pressing(self, place, *way, button=0):
+        actions = self.pointer()
+        pointer = actions.w3c_actions.pointer_action
+        pointer.move_to_location(*self.at(place))
+        pointer.pointer_down(button=button)
+        for each in way:
+            pointer.move_to_location(*self.at(each))
         return actions
 
-    def to(self, actions, x, y):
-        left, top = self.script(PLACE, self.svg, x, y)
-        actions.w3c_actions.pointer_action.move_to_location(round(left), round(top))
-        return actions
+    def move_to(self, *way):
+        actions = self.pointer()
+        for each in way:
+            actions.w3c_actions.pointer_action.move_to_location(*self.at(each))
+        actions.perform()
 
-    def drag(self, begin, *way, hold=None):
-        """Drags from one point over others, with a key held down or none."""
-        self.bring_into_sight()
-        if hold:
-            ActionChains(self.driver).key_down(CONTROLS[hold]).perform()
-        actions = self.at(*begin).click_and_hold()
-        for point in way:
-            self.to(actions, *point)
-        actions.release().perform()
-        if hold:
-            ActionChains(self.driver).key_up(CONTROLS[hold]).perform()
+    def release(self):
+        actions = self.pointer()
+        actions.w3c_actions.pointer_action.pointer_up(button=0)
+        actions.perform()
 
-    def bring_into_sight(self):
-        self.script("arguments[0].scrollIntoView({block: 'center'})", self.svg)
+    def drag(self, begin, *way, hold=(), button=0):
+        """Drags from one place over others, with keys held down or none."""
+        half = ((begin[0] + way[0][0]) / 2, (begin[1] + way[0][1]) / 2)
+        self.hold(*hold)
+        actions = self.pressing(begin, half, *way, button=button)
+        actions.w3c_actions.pointer_action.pointer_up(button=button)
+        actions.perform()
+        self.let_go(*hold)
 
-    def draw(self, tool, begin, end):
-        self.choose(tool)
-        self.drag(begin, ((begin[0] + end[0]) / 2, (begin[1] + end[1]) / 2), end)
+    def draw(self, key, begin, end, hold=("ctrl",)):
+        """Draws with the tool of a key; Ctrl, so that it doesn't snap."""
+        self.press(key)
+        self.drag(begin, end, hold=hold)
 
-    def choose(self, tool):
-        self.find(f"[data-tool={tool}]").click()
-
-    def click(self, x, y, hold=None):
-        self.bring_into_sight()
-        actions = self.at(x, y)
-        if hold:
-            ActionChains(self.driver).key_down(CONTROLS[hold]).perform()
-        actions.click().perform()
-        if hold:
-            ActionChains(self.driver).key_up(CONTROLS[hold]).perform()
-
-    def double_click(self, x, y):
-        self.bring_into_sight()
-        self.at(x, y).double_click().perform()
+    def click(self, place, times=1, hold=(), button=0):
+        self.hold(*hold)
+        actions = self.pointer()
+        pointer = actions.w3c_actions.pointer_action
+        pointer.move_to_location(*self.at(place))
+        for _ in range(times):
+            pointer.pointer_down(button=button)
+            pointer.pointer_up(button=button)
+        actions.perform()
+        self.let_go(*hold)
 
     def press(self, *keys, hold=()):
-        """Presses keys in the drawing."""
-        self.script("arguments[0].focus()", self.svg)
-        actions = ActionChains(self.driver)
+        """Presses keys, wherever the focus is."""
+        actions = ActionChains(self.driver, duration=0)
         for each in hold:
             actions.key_down(CONTROLS[each])
-        actions.send_keys(*keys)
+        for each in keys:
+            actions.send_keys(each)
         for each in reversed(hold):
             actions.key_up(CONTROLS[each])
         actions.perform()
 
-    def button(self, name):
-        (found,) = [each for each in self.all(".tools button") if each.text == name]
-        found.click()
+    def write(self, text):
+        self.driver.switch_to.active_element.send_keys(text)
 
-    def select(self, *points):
-        """Selects what is at these points, and nothing else."""
-        self.press(Keys.ESCAPE)
-        for index, point in enumerate(points):
-            self.click(*point, hold="shift" if index else None)
+    def fingers(self, *ways):
+        """Fingers that go over places of the window all at once, each by its own way."""
+        actions = ActionBuilder(self.driver)
+        for index, way in enumerate(ways):
+            finger = actions.add_pointer_input("touch", f"finger {index}")
+            finger.create_pointer_move(duration=0, x=way[0][0], y=way[0][1])
+            finger.create_pointer_down(button=0)
+            for x, y in way[1:]:
+                finger.create_pointer_move(duration=20, x=x, y=y)
+            finger.create_pointer_up(0)
+        actions.perform()
+
+    def second_finger(self, way, place):
+        """A finger that goes its way, and then a second one that comes down at a place, before both go up."""
+        actions = ActionBuilder(self.driver)
+        first, second = (actions.add_pointer_input("touch", f"finger {index}") for index in range(2))
+        first.create_pointer_move(duration=0, x=way[0][0], y=way[0][1])
+        first.create_pointer_down(button=0)
+        for x, y in way[1:]:
+            first.create_pointer_move(duration=20, x=x, y=y)
+        for _ in range(len(way) + 1):
+            second.create_pause(0)
+        second.create_pointer_move(duration=0, x=place[0], y=place[1])
+        second.create_pointer_down(button=0)
+        first.create_pause(0)
+        first.create_pause(0)
+        for finger in (first, second):
+            finger.create_pointer_up(0)
+        actions.perform()
+
+    def long_press(self, place, seconds=0.8):
+        """A finger that stays for a while."""
+        finger = PointerInput("touch", "finger")
+        actions = ActionBuilder(self.driver, mouse=finger)
+        finger.create_pointer_move(duration=0, x=place[0], y=place[1])
+        finger.create_pointer_down(button=0)
+        finger.create_pause(seconds)
+        finger.create_pointer_up(0)
+        actions.perform()
 
     # What is seen.
 
     def shown(self):
-        return self.script(SHOWN, self.pane)
+        return self.do(SHOWN)
 
     def ids(self, kind=None):
-        return [name for name, each, *_ in self.shown() if kind in (None, each)]
+        return self.ask("ed.model.items.filter((i) => !arguments[0] || i.kind === arguments[0]).map((i) => i.id)", kind)
 
-    def attribute(self, name, attribute):
-        """An attribute of the drawn shape of an object, or none."""
-        found = self.all(f'.objects [data-id="{name}"] > :first-child')
-        return found[0].get_attribute(attribute) if found else None
-
-    def label(self, name):
-        found = self.all(f'.objects [data-id="{name}"] > text')
-        return self.script("return arguments[0].textContent", found[0]) if found else None
+    def item(self, name):
+        """An object of the board, or none."""
+        fields = "({id, kind, parent, x, y, w, h, stroke, fill, width, label, font, z})"
+        return self.ask(f"(i => i && (({fields[1:-1]}) => {fields})(i))(ed.model.byId.get(arguments[0]))", name)
 
     def selected(self):
-        return self.find(".selected").text
+        return self.ask("[...ed.selection.ids]")
 
-    def bubbles(self):
-        return [each.text for each in self.all(".bubble")]
+    def bubble(self):
+        return self.text("#bubbles")
 
-    def history(self, kind=None):
-        """What the list of what happened says, the last first."""
-        entries = self.all(f".history li{'.' + kind if kind else ''}")
-        return [self.script("return arguments[0].textContent", each) for each in entries]
+    def banners(self):
+        return self.text("#banners")
 
-    def measured(self, name):
-        """The milliseconds that the page measured under a name."""
-        return self.script("return performance.getEntriesByName(arguments[0]).map((each) => each.duration)", name)
+    def said(self):
+        return self.text("#said")
+
+    def is_settled(self):
+        """Whether the node has shown all that was typed here."""
+        return self.ask("ed.edits.pending.layers.length === 0 && !ed.model.over.size")
+
+    def errors(self):
+        return [entry["message"] for entry in self.driver.get_log("browser") if entry["level"] == "SEVERE"]
 
     def picture(self, name):
         SCREENSHOTS.mkdir(parents=True, exist_ok=True)
         self.driver.save_screenshot(str(SCREENSHOTS / f"{name}.png"))
+
+
+def processor_time(driver):
+    """The processor time of all processes of a browser until now, in milliseconds."""
+    rows = subprocess.run(["ps", "-eo", "pid,ppid"], capture_output=True, text=True, check=True).stdout.split("\n")[1:-1]
+    parents = [tuple(map(int, row.split())) for row in rows]
+    mine = {driver.service.process.pid}
+    for _ in range(6):
+        mine |= {pid for pid, parent in parents if parent in mine}
+    return sum(map(ticks_of, mine)) * 1000 / os.sysconf("SC_CLK_TCK")
+
+
+def ticks_of(pid):
+    """What Linux has counted of a process; nothing of one that has ended."""
+    try:
+        fields = Path(f"/proc/{pid}/stat").read_text().rsplit(")", 1)[1].split()
+    except OSError:
+        return 0
+    return int(fields[11]) + int(fields[12])
 
 
 def replayed(journal):
@@ -209,11 +289,28 @@ def replayed(journal):
         return subprocess.run([PROGRAM, "replay"], stdin=given, capture_output=True, check=True, text=True).stdout
 
 
-def shown_by_node(site, journal, addresses):
-    """What a node that goes on from a journal answers to `show`."""
-    words = ["--resume", "--session", str(SESSION), "--site", str(site), "--journal", str(journal), *addresses]
-    done = subprocess.run([PROGRAM, "node", *words], input="show\nquit\n", capture_output=True, check=True, text=True)
-    return done.stdout.partition("\n")[2]
+def own_events(journal, site):
+    """The events that a site made, from its journal."""
+    with open(journal, "rb") as given:
+        done = subprocess.run([PROGRAM, "replay", "--format", "events"], stdin=given, capture_output=True, check=True)
+    return [event for event in json.loads(done.stdout) if event["site"] == site]
+
+
+def line_of(event):
+    """An event in the words of its line."""
+    op = event["op"]
+    if op == "create":
+        words = [event[key] for key in ("kind", "x", "y", "w", "h")] + ([event["label"]] if event["label"] else [])
+    elif op == "group":
+        words = [member["id"] for member in event["members"]]
+    elif op == "restyle":
+        op = next(part for part in ("stroke", "fill", "width") if part in event)
+        words = [event["id"], "none" if event[op] is None else event[op]]
+    elif op == "retext":
+        op, words = "text", [event["id"], event["label"]]
+    else:
+        words = [event["id"], *(event[key] for key in ("x", "y", "w", "h") if key in event)]
+    return " ".join(map(str, [op, *words]))
 
 
 class WithTwoPages(unittest.TestCase):
@@ -250,37 +347,36 @@ class WithTwoPages(unittest.TestCase):
         self.proxy.set({"cut": list(sites)})
 
     def wait_until_same(self):
-        """Waits until both pages show the same, with nothing still to come."""
+        """Waits until both pages show the same, with nothing still to come, and gives that."""
 
         def is_same():
-            shown = [page.shown() for page in self.pages]
-            held = [re.search(r"held (\d+)", page.find(".standing").text) for page in self.pages]
-            counts = {each and each[1] for each in held}
-            return shown[0] == shown[1] and len(counts) == 1 and None not in counts
+            held = [page.ask("ed.node.standing.held") for page in self.pages]
+            is_settled = all(page.is_settled() for page in self.pages)
+            return is_settled and held[0] == held[1] and self.one.shown() == self.two.shown()
 
         wait_for(is_same, 120)
         return self.one.shown()
 
-    def clear(self):
-        """Deletes all there is."""
-        self.cut()
-        self.wait_until_same()
-        for _ in range(20):
-            if not self.one.ids():
-                break
-            self.one.press("a", hold=["ctrl"])
-            self.one.press(Keys.DELETE)
-            self.wait_until_same()
-        # The page that deletes shows it before the node has, and the other one behind that.
-        wait_for(lambda: not any(page.ids() for page in self.pages), 60)
-        self.one.press(Keys.ESCAPE)
+    def settled(self, page):
+        """Waits until the node has shown all that was typed at a page."""
+        wait_for(page.is_settled)
 
-    def created(self, page, act):
-        """The id of the one object that comes by an act, which both pages then show."""
-        before = set(page.ids())
+    def typed_by(self, page, act):
+        """The lines that an act at a page had the node take, as its journal has them: places are those within groups."""
+        site = self.pages.index(page) + 1
+        before = len(own_events(self.journals[site - 1], site))
         act()
-        (name,) = wait_for(lambda: set(page.ids()) - before)
-        wait_for(lambda: all(name in each.ids() for each in self.pages))
-        # It is selected where it was made, once its style is there.
-        wait_for(lambda: name in page.selected() and not page.all(".ghosts > g"))
-        return name
+        self.settled(page)
+        return [line_of(event) for event in own_events(self.journals[site - 1], site)[before:]]
+
+    def clear(self):
+        """Deletes all there is, and shows the board's place 0 0 at the top left."""
+        self.cut()
+        for page in self.pages:
+            page.do("ed.history.toNow(); ed.setTool('select'); ed.escape(); ed.camera.set(0, 0, 1)")
+        self.wait_until_same()
+        self.one.do("ed.edits.do('clear', ed.model.items.filter((i) => !i.parent).map((i) => `delete ${i.id}`))")
+        wait_for(lambda: not any(page.ids() for page in self.pages), 120)
+        for page in self.pages:
+            page.do("ed.selection.clear(); ed.edits.done = []; ed.edits.undone = []; ed.banner(null); ed.focusBoard();"
+                "document.getElementById('bubbles').replaceChildren()")

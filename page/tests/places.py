@@ -1,5 +1,6 @@
-"""What several tests need: a folder with a journal for a stand-in, desks over it, and waiting."""
+"""What several tests need: a folder with a journal for a stand-in, and waiting."""
 
+import asyncio
 import json
 import shutil
 import tempfile
@@ -8,7 +9,7 @@ import unittest
 from pathlib import Path
 
 STAND_IN = Path(__file__).resolve().parent / "stand_in.py"
-PATIENCE = 60
+PATIENCE = 20
 
 
 def wait_for(call, seconds=PATIENCE):
@@ -21,22 +22,48 @@ def wait_for(call, seconds=PATIENCE):
     return found
 
 
-class WithStandIn(unittest.TestCase):
-    """A test with a folder of its own, in which a stand-in has its journal."""
+async def until(call, seconds=PATIENCE):
+    """The same for what comes about in the loop of the test."""
+    end = time.monotonic() + seconds
+    while not (found := call()):
+        if time.monotonic() > end:
+            raise AssertionError(f"it didn't come within {seconds} s")
+        await asyncio.sleep(0.005)
+    return found
+
+
+class WithFolder(unittest.IsolatedAsyncioTestCase):
+    """A test with a folder of its own, in which there is room for a journal."""
 
     def setUp(self):
-        folder = Path(tempfile.mkdtemp(prefix="page-test-"))
-        self.addCleanup(shutil.rmtree, folder)
-        self.journal = folder / "site.log"
+        self.folder = Path(tempfile.mkdtemp(prefix="page-test-"))
+        self.addCleanup(shutil.rmtree, self.folder)
+        self.journal = self.folder / "site.log"
+
+    async def asyncSetUp(self):
+        # The loop's own checks of each call take most of the time here.
+        asyncio.get_running_loop().set_debug(False)
+
+    def beside(self, ending):
+        return Path(f"{self.journal}.{ending}")
+
+
+class WithStandIn(WithFolder):
+    """A test in which a stand-in has its journal in the folder."""
 
     def script(self, **fields):
-        Path(f"{self.journal}.script").write_text(json.dumps(fields))
+        self.beside("script").write_text(json.dumps(fields))
 
-    def command(self):
+    def command(self, *options):
         """The words of a stand-in, as a desk has them."""
-        return [str(STAND_IN), "node", "--session", "7", "--site", "1", "--journal", str(self.journal), "A", "B"]
+        words = options or ("--session", "7", "--site", "1")
+        return [str(STAND_IN), "node", *words, "--journal", str(self.journal), "A", "B"]
 
     def typed(self):
         """The lines that the stand-in was handed."""
-        file = Path(f"{self.journal}.typed")
+        file = self.beside("typed")
         return file.read_text(encoding="utf-8").split("\n")[:-1] if file.exists() else []
+
+    def edits(self):
+        """What was typed, without what a desk asks for by itself."""
+        return [line for line in self.typed() if line not in ("show", "who", "status", "poll")]

@@ -1,12 +1,20 @@
-"""Runs one part of the tests, `units` or `browser`, and prints a line for each test that fails, and how many there were."""
+"""Runs one part of the tests, `units`, `program` or `browser`, prints a line for each, and how many there were."""
 
 import sys
 import unittest
+from pathlib import Path
 
-PARTS = {
-    "units": ["test_lines", "test_picture", "test_node", "test_desk", "test_server", "test_saving", "test_demo", "test_draw"],
-    "browser": ["browse_drawing", "browse_demo", "browse_large"],
-}
+HERE = Path(__file__).resolve().parent
+# Tests of the bridge over the built program, which the units do without.
+OVER_PROGRAM = ["test_program"]
+
+
+def names_of(part):
+    """The modules of a part."""
+    if part == "program":
+        return OVER_PROGRAM
+    pattern = {"units": "test_*.py", "browser": "browse_*.py"}[part]
+    return [name for name in sorted(file.stem for file in HERE.glob(pattern)) if name not in OVER_PROGRAM]
 
 
 class Counting(unittest.TextTestResult):
@@ -16,15 +24,20 @@ class Counting(unittest.TextTestResult):
         super().addSuccess(test)
         print(f"ok      {test.id().removeprefix('page.tests.')}", flush=True)
 
+    def addSkip(self, test, reason):
+        super().addSkip(test, reason)
+        print(f"skipped {test.id().removeprefix('page.tests.')}: {reason}", flush=True)
+
 
 def main(part):
-    names = [f"page.tests.{name}" for name in PARTS[part]]
+    names = [f"page.tests.{name}" for name in names_of(part)]
     suite = unittest.defaultTestLoader.loadTestsFromNames(names)
     runner = unittest.TextTestRunner(stream=sys.stdout, resultclass=Counting, verbosity=0)
     result = runner.run(suite)
-    # A test that was skipped or failed to load counts as failed.
-    failed = len(result.failures) + len(result.errors) + len(result.skipped) + len(result.unexpectedSuccesses)
-    print(f"{max(0, result.testsRun - failed)} passed, {failed} failed", flush=True)
+    # A test that failed to load counts as failed.
+    failed = len(result.failures) + len(result.errors) + len(result.unexpectedSuccesses)
+    passed = max(0, result.testsRun - failed - len(result.skipped))
+    print(f"{passed} passed, {failed} failed, {len(result.skipped)} skipped", flush=True)
     return 1 if failed else 0
 
 

@@ -51,6 +51,13 @@ class Between(unittest.TestCase):
         self.assertEqual(self.came(1, 1), [b"c"])
         self.assertEqual(self.came(3), [])
 
+    def test_they_come_from_the_address_at_which_their_sender_is_known(self):
+        for source, goal in ((1, 2), (2, 1), (3, 1)):
+            self.send(source, goal, b"a")
+            self.sites[goal - 1].settimeout(20)
+            _, (host, port) = self.sites[goal - 1].recvfrom(100)
+            self.assertEqual(f"{host}:{port}", self.proxy.addresses(goal)[source - 1])
+
     def test_a_site_is_cut_off_both_ways(self):
         self.proxy.set({"cut": [2]})
         for source, goal in ((1, 2), (2, 1), (2, 3), (3, 2), (1, 3)):
@@ -72,7 +79,7 @@ class Between(unittest.TestCase):
         self.proxy.set({"loss": 100})
         self.send(1, 2, b"x")
         self.assertEqual(self.came(2), [])
-        self.proxy.set({"loss": 0, "doubling": 100})
+        self.proxy.set({"loss": 0, "twice": 100})
         self.send(1, 2, b"y")
         self.assertEqual(self.came(2, 2), [b"y", b"y"])
 
@@ -95,7 +102,7 @@ class Between(unittest.TestCase):
 
     def test_settings_out_of_range_change_nothing(self):
         before = self.proxy.settings
-        wrong = [{"loss": -1}, {"loss": 101}, {"doubling": 1.5}, {"delay": 3001}, {"delay": "1"}, {"loss": True}]
+        wrong = [{"loss": -1}, {"loss": 101}, {"twice": 1.5}, {"delay": 3001}, {"delay": "1"}, {"loss": True}]
         for settings in [*wrong, {"cut": 1}, {"cut": [0]}, {"cut": [4]}, {"cut": [True]}, {"loss": 5, "cut": ["1"]}]:
             with self.assertRaises(ValueError, msg=settings):
                 self.proxy.set(settings)

@@ -1,173 +1,164 @@
 """A desk over a stand-in: what it asks for and when, and what it tells."""
 
+import asyncio
 import json
+import os
+import signal
 from unittest import mock
 
-from page.audience import MOST_WAITING, Audience
-from page.desk import Desk
-from page.node import Ended
-from page.lines import Refused
-from page.tests.places import WithStandIn, wait_for
-
-ROW = "rect 1.1 in - at 0 0 size 1 1 stroke 000000 fill none width 1"
-
-
-def told(waiting):
-    """The messages that wait in a queue, each with its kind and what it says."""
-    messages = []
-    while not waiting.empty():
-        kind, data = waiting.get().decode().split("\n")[:2]
-        messages.append((kind.removeprefix("event: "), json.loads(data.removeprefix("data: "))))
-    return messages
-
-
-class WithDesk(WithStandIn):
-    def desk(self, poll_every=0.02, **script):
-        """A desk that has started. What it tells comes to `self.waiting`."""
-        self.script(**script)
-        self.audience = Audience()
-        desk = Desk(1, self.command(), self.journal, self.audience, poll_every)
-        self.waiting, self.told = self.audience.join(), []
-        # What there was before it started is of no use here.
-        told(self.waiting)
-        desk.start()
-        self.addCleanup(desk.stop)
-        return desk
-
-    def heard(self, kind):
-        """All that was told of a kind so far."""
-        self.told += told(self.waiting)
-        return [fields for each, fields in self.told if each == kind]
-
-    def wait_for_polls(self, count):
-        """Waits for so many polls from now on."""
-        before = self.typed().count("poll")
-        wait_for(lambda: self.typed().count("poll") >= before + count)
+from page.tests.desks import ROW, WithDesk
+from page.tests.logs import create, header, log
+from page.tests.places import until
 
 
 class Asking(WithDesk):
-    def test_the_drawing_is_asked_for_where_it_may_have_changed(self):
-        desk = self.desk(polls=[["polled 0"]] * 20 + [["echo 1.2 applied", "polled 1"]], show=[ROW])
-        self.wait_for_polls(10)
+    async def test_the_drawing_is_asked_for_where_it_may_have_changed(self):
+        desk = await self.desk(polls=[["polled 0"]] * 20 + [["echo 1.2 applied", "polled 1"]], show=[ROW])
+        await self.wait_for_polls(10)
         self.assertEqual(self.typed().count("show"), 1)
-        wait_for(lambda: self.typed().count("show") == 2)
-        self.wait_for_polls(5)
+        await until(lambda: self.typed().count("show") == 2)
+        await self.wait_for_polls(5)
         self.assertEqual(self.typed().count("show"), 2)
-        desk.type("undo")
-        wait_for(lambda: self.typed().count("show") == 3)
-        self.wait_for_polls(5)
+        await desk.batch(["undo"])
+        await until(lambda: self.typed().count("show") == 3)
+        await self.wait_for_polls(5)
         self.assertEqual(self.typed().count("show"), 3)
 
-    def test_a_refusal_and_a_datagram_ask_for_no_drawing(self):
-        desk = self.desk(polls=[["polled 1"]] * 200, refused={"undo": "NothingBack"})
-        self.assertEqual(desk.type("undo"), {"answer": "refused: NothingBack", "edit": None})
-        self.wait_for_polls(10)
+    async def test_a_gesture_of_many_lines_asks_for_the_drawing_and_polls_once(self):
+        desk = await self.desk(poll_every=1000)
+        first = ["show", "status", "poll", "who", "status"]
+        await until(lambda: self.typed() == first)
+        await desk.batch([f"raise {clock}.1" for clock in range(1, 501)])
+        await until(lambda: self.typed().count("poll") == 2)
+        await asyncio.sleep(0.2)
+        verbs = [line.split(" ")[0] for line in self.typed()[len(first) :]]
+        self.assertEqual(verbs.index("show"), 500)
+        self.assertEqual({verb: verbs.count(verb) for verb in ("raise", "show", "poll")}, {"raise": 500, "show": 1, "poll": 1})
+
+    async def test_notes_and_datagrams_ask_for_no_drawing(self):
+        desk = await self.desk(polls=[["polled 1"]] * 200)
+        self.assertEqual((await desk.batch(["focus 1.1"]))["answers"][0][:5], "noted")
+        await self.wait_for_polls(10)
         self.assertEqual(self.typed().count("show"), 1)
 
-    def test_a_poll_comes_behind_each_edit(self):
-        desk = self.desk(poll_every=1000)
-        wait_for(lambda: "poll" in self.typed() or desk.wake.set())
-        before = self.typed().count("poll")
-        self.assertEqual(desk.type("move 1.1 0 0")["edit"], 1)
-        wait_for(lambda: self.typed().count("poll") > before)
-        self.assertLess(self.typed().index("move 1.1 0 0"), len(self.typed()) - 1 - self.typed()[::-1].index("poll"))
-
-    def test_notes_are_asked_for_behind_datagrams_and_not_at_each_poll(self):
-        with mock.patch("page.desk.ASK_EVERY", 1000):
-            desk = self.desk(polls=[["polled 1"]] * 400)
-            self.wait_for_polls(15)
+    async def test_notes_are_asked_for_behind_datagrams_and_not_at_each_poll(self):
+        with mock.patch("page.rounds.ASK_EVERY", 1000):
+            desk = await self.desk(polls=[["polled 1"]] * 400)
+            await self.wait_for_polls(15)
             self.assertEqual(self.typed().count("who"), 1)
-            desk.asked_at -= 2000
-            wait_for(lambda: self.typed().count("who") == 2)
+            desk.rounds.asked_at -= 2000
+            await until(lambda: self.typed().count("who") == 2)
 
-    def test_polls_are_soon_while_events_come(self):
+    async def test_polls_are_soon_while_events_come(self):
         # Without that the next poll would come after a quarter of an hour.
-        with mock.patch("page.desk.SOON_FOR", 100):
-            self.desk(poll_every=1000, polls=[["echo 1.2 applied", "polled 1"]])
-            self.wait_for_polls(5)
+        with mock.patch("page.rounds.SOON_FOR", 100):
+            await self.desk(poll_every=1000, polls=[["echo 1.2 applied", "polled 1"]])
+            await self.wait_for_polls(5)
 
-    def test_a_line_break_is_refused_before_the_node_sees_it(self):
-        desk = self.desk(poll_every=1000)
-        for text in ("text 1.1 a\nquit", "text 1.1 a\rquit", "name a\n"):
-            with self.assertRaises(Refused):
-                desk.type(text)
-        desk.type("text 1.1 a")
-        self.assertEqual([line for line in self.typed() if line.startswith(("text", "name", "quit"))], ["text 1.1 a"])
+    async def test_a_line_break_is_refused_before_the_node_sees_it(self):
+        desk = await self.desk(poll_every=1000)
+        lines = ["text 1.1 a\nquit", "text 1.1 a\rquit", "name a\n", "quit", "text 1.1 a"]
+        answers = (await desk.batch(lines))["answers"]
+        self.assertEqual(answers[:4], ["refused: BadLabel"] * 3 + ["refused: UnknownCommand"])
+        self.assertEqual(self.edits(), ["text 1.1 a"])
 
-    def test_a_journal_that_is_there_is_gone_on_with(self):
-        self.desk()
-        words = json.loads((self.journal.parent / "site.log.words").read_text())
-        self.assertEqual(words, self.command()[1:])
-        self.journal.write_text("[]")
-        self.desk()
-        words = json.loads((self.journal.parent / "site.log.words").read_text())
-        self.assertEqual(words, ["node", "--resume", *self.command()[2:]])
+    async def test_gestures_of_two_pages_don_t_mix(self):
+        desk = await self.desk(poll_every=1000)
+        one = ["create rect 0 0 1 1", "fill @1 none", "raise @1"]
+        other = ["create text 0 0 1 1 a", "fill @1 000000"]
+        await asyncio.gather(desk.batch(one), desk.batch(other))
+        self.assertEqual([line.split(" ")[0] for line in self.edits()], ["create", "fill", "raise", "create", "fill"])
+
+    async def test_a_journal_that_is_there_is_gone_on_with(self):
+        await self.desk()
+        self.assertEqual(json.loads(self.beside("words").read_text()), self.command()[1:])
+        self.journal.write_bytes(log(header()))
+        await self.desk()
+        self.assertEqual(json.loads(self.beside("words").read_text()), ["node", "--resume", *self.command()[2:]])
 
 
 class Telling(WithDesk):
-    def test_an_edit_is_in_the_picture_of_its_number(self):
-        desk = self.desk(show=[ROW])
-        self.assertEqual([desk.type("undo")["edit"] for _ in range(3)], [1, 2, 3])
-        wait_for(lambda: any(each["edits"] == 3 for each in self.heard("picture")))
-        self.assertEqual([each["id"] for each in self.heard("picture")[0]["changed"]], ["1.1"])
-        self.assertEqual(self.heard("picture")[-1]["changed"], [])
+    async def test_an_edit_is_in_the_picture_of_its_number(self):
+        desk = await self.desk(show=[ROW], refused={"raise 9.1": "NoObject"})
+        self.assertEqual([(await desk.batch(["undo"]))["edits"] for _ in range(3)], [1, 2, 3])
+        several = await desk.batch(["undo", "raise 9.1", "undo"])
+        self.assertEqual((several["edits"], several["answers"][1]), (5, "refused: NoObject"))
+        self.assertEqual((await desk.batch(["raise 9.1"]))["edits"], 5)
+        await until(lambda: any(each["edits"] == 5 for each in self.heard("picture")))
+        self.assertEqual([each["id"] for each in self.heard("picture")[0]["items"]], ["1.1"])
+        self.assertEqual(self.heard("picture")[-1]["items"], [])
 
-    def test_what_happened(self):
+    async def test_an_edit_behind_a_picture_isn_t_in_it(self):
+        desk = await self.desk(poll_every=1000, show=[ROW])
+        await until(lambda: "who" in self.typed())
+        os.kill(desk.node.process.pid, signal.SIGSTOP)
+        self.addCleanup(os.kill, desk.node.process.pid, signal.SIGCONT)
+        desk.rounds.show_due = True
+        desk.rounds.wake.set()
+        await until(lambda: desk.node.slots)
+        gesture = asyncio.create_task(desk.batch(["undo"]))
+        await until(lambda: len(desk.node.slots) == 2)
+        os.kill(desk.node.process.pid, signal.SIGCONT)
+        await gesture
+        await until(lambda: len(self.heard("picture")) == 3)
+        self.assertEqual([each["edits"] for each in self.heard("picture")], [0, 0, 1])
+
+    async def test_own_edits_are_told_as_they_were_typed(self):
+        desk = await self.desk(refused={"raise 9.1": "NoObject"})
+        answers = (await desk.batch(["create rect 0 0 1 1", "raise 9.1", "fill @1 none"]))["answers"]
+        name = answers[0][3:]
+        own = [entry for each in self.heard("news") for entry in each["news"]]
+        wanted = [("own", name, "create rect 0 0 1 1"), ("own", answers[2][3:], f"fill {name} none")]
+        self.assertEqual([(each["what"], each["event"], each["line"]) for each in own], wanted)
+
+    async def test_what_happened(self):
         echoes = ["echo 1.2 applied", "echo 2.2 dropped by 3.1", "echo 3.2 reworked 4", "frame refused: Session"]
-        self.desk(polls=[[*echoes, "polled 4"], ["polled 0"], ["link fault after 0"]])
-        wait_for(lambda: len(self.heard("news")) == 2)
-        whats = [each["what"] for news in self.heard("news") for each in news["news"]]
+        await self.desk(polls=[[*echoes, "polled 4"], ["polled 0"], ["link fault after 0"]])
+        await until(lambda: len(self.heard("news")) == 2)
+        whats = [entry["what"] for each in self.heard("news") for entry in each["news"]]
         self.assertEqual(whats, ["applied", "dropped", "reworked", "said", "said"])
-        wait_for(lambda: any(each["others"] for each in self.heard("picture")))
+        await until(lambda: any(each["others"] for each in self.heard("picture")))
 
-    def test_what_an_event_did_is_looked_up(self):
-        events = [{"clock": 1, "site": 2, "seq": 1, "op": "move", "id": "7.1", "x": 0, "y": 0}]
-        events.append({"clock": 2, "site": 2, "seq": 2, "op": "group", "members": [{"id": "1.1"}, {"id": "3.1"}]})
-        self.journal.write_text(json.dumps(events))
-        self.desk(polls=[["echo 1.2 applied", "echo 2.2 applied", "polled 2"]])
-        (found,) = wait_for(lambda: self.heard("events"))
-        wanted = {"1.2": {"op": "move", "objects": ["7.1"]}, "2.2": {"op": "group", "objects": ["2.2", "1.1", "3.1"]}}
-        self.assertEqual(found["events"], wanted)
+    async def test_frames_of_a_wrong_peer_don_t_push_out_what_happened(self):
+        with mock.patch("page.news.SAY_EVERY", 1000):
+            await self.desk(polls=[["echo 1.2 applied", "polled 1"]] + [["frame refused: Session", "polled 1"]] * 100)
+            await self.wait_for_polls(100)
+        entries = [entry for each in self.heard("news") for entry in each["news"]]
+        self.assertEqual([entry["what"] for entry in entries], ["applied", "said"])
 
-    def test_a_page_that_comes_later_is_told_all(self):
-        desk = self.desk(show=[ROW])
-        desk.type("move 1.1 0 0")
-        wait_for(lambda: desk.shown == 1 and desk.standing)
-        later = dict(told(self.audience.join()))
-        self.assertEqual([each["id"] for each in later["picture"]["changed"]], ["1.1"])
-        self.assertEqual((later["picture"]["whole"], later["picture"]["edits"]), (True, 1))
-        self.assertEqual(later["news"]["news"], [{"what": "own", "event": desk.news[0]["event"], "line": "move 1.1 0 0"}])
-        self.assertEqual(later["who"]["who"], [{"site": 1, "name": None, "focus": None}])
-        self.assertEqual(later["standing"]["standing"], {"held": 0, "kept": 0, "line": 0, "clock": 0})
+    async def test_a_journal_that_can_t_be_read_is_said_once(self):
+        desk = await self.desk()
+        self.journal.write_bytes(b"GDOB and no drawing")
+        for _ in range(2):
+            await desk.batch(["undo"])
+            await self.wait_for_polls(2)
+        said = [entry for each in self.heard("news") for entry in each["news"] if entry["what"] == "said"]
+        self.assertEqual([entry["line"] for entry in said], ["the journal isn't read for the history: it is no log"])
 
-    def test_the_end_is_told_with_its_meaning_and_it_can_start_again(self):
-        desk = self.desk(end=["undo", "", 7])
-        with self.assertRaises(Ended):
-            desk.type("undo")
-        (end,) = wait_for(lambda: self.heard("end"))
-        self.assertEqual(end["end"]["status"], 7)
-        self.assertIn("link wasn't opened", end["end"]["meaning"])
-        self.script(show=[ROW])
-        desk.start_again()
-        self.assertEqual(len(self.heard("begun")), 1)
-        wait_for(lambda: "1.1" in desk.picture.lines)
-        self.assertEqual(desk.type("undo")["edit"], 1)
+    async def test_a_page_that_comes_later_is_told_all(self):
+        desk = await self.desk(show=[ROW])
+        await desk.batch(["move 1.1 0 0"])
+        await until(lambda: desk.shown == 1 and desk.standing and desk.who)
+        told = self.opened(desk)
+        hello = {"is": "hello", "desk": 1, "site": 1, "sites": 2, "session": 7, "demo": False, "journal": "site.log"}
+        self.assertEqual(told["hello"], {**hello, "desks": [1], "names": {}})
+        self.assertEqual([each["id"] for each in told["picture"]["items"]], ["1.1"])
+        self.assertEqual((told["picture"]["whole"], told["picture"]["edits"]), (True, 1))
+        self.assertEqual([each["line"] for each in told["news"]["news"]], ["move 1.1 0 0"])
+        self.assertEqual(told["who"]["who"], [{"site": 1, "name": None, "focus": None}])
+        self.assertEqual(told["standing"]["standing"], {"held": 0, "kept": 0, "line": 0, "clock": 0})
+        self.assertEqual((told["peers"]["silent"], [each["site"] for each in told["peers"]["peers"]]), (False, [2]))
+        self.assertEqual(list(told), ["hello", "news", "who", "standing", "peers", "picture", "history"])
 
-    def test_a_node_that_ends_at_once_says_why(self):
-        self.script(first="other journal\n", status=11)
-        desk = Desk(1, self.command(), self.journal, Audience())
-        with self.assertRaises(Ended) as found:
-            desk.start()
-        self.assertEqual(str(found.exception), "other journal")
-        self.assertEqual(desk.stop(), 11)
-
-    def test_a_page_that_doesn_t_listen_is_let_go(self):
-        audience = Audience()
-        slow, quick = audience.join(), audience.join()
-        for count in range(MOST_WAITING + 1):
-            audience.tell("news", count=count)
-            quick.get()
-        self.assertEqual(slow.qsize(), MOST_WAITING + 2)
-        self.assertIsNone([slow.get() for _ in range(MOST_WAITING + 2)][-1])
-        audience.tell("news", count=0)
-        self.assertEqual((slow.qsize(), quick.qsize()), (0, 1))
+    async def test_events_are_told_once_with_what_came_of_them(self):
+        first, second = (create(f"{clock}.2", clock, "rect", 0, 0, 1, 1) for clock in (1, 2))
+        self.journal.write_bytes(log(header(), first))
+        desk = await self.desk(polls=[["polled 0"]] * 10 + [["echo 2.2 reworked 3", "polled 1"]])
+        self.assertEqual(len(self.opened(desk)["history"]["events"]), 1)
+        await until(lambda: self.heard("picture"))
+        self.journal.write_bytes(log(header(), first, second))
+        (told,) = await until(lambda: self.heard("history"))
+        self.assertEqual((told["from"], [each["id"] for each in told["events"]]), (1, ["2.2"]))
+        self.assertEqual((told["events"][0]["came"], told["events"][0]["count"]), ("reworked", 3))
+        await self.wait_for_polls(5)
+        self.assertEqual(len(self.heard("history")), 1)

@@ -1,0 +1,285 @@
+// Gestures become edits: lists of lines that are typed as one batch, and one step of undo. `@3` in a line stands for the id
+// that the batch's third line makes. Until the node has answered, an object that was made has a name, `~` and two numbers.
+
+import { Lost } from "../core/node.js";
+import { Claims, keysOf } from "./claims.js";
+import { Foresight, wordsOf } from "./effects.js";
+import { inverseOf } from "./inverse.js";
+import { Layer } from "./pending.js";
+import { canTurn, isPartOf, shownOf, withParts } from "./turning.js";
+
+export { copyLines, createLines, fitLabel } from "./making.js";
+
+/** @typedef {import("../core/types.js").Ed} Ed */
+/** @typedef {import("../core/types.js").Refusal} Refusal */
+/** @typedef {import("./pending.js").Pending} Pending */
+/**
+ * A line of a gesture.
+ * @typedef {object} Step
+ * @property {string} line with names for what this page made
+ * @property {string | null} back the line that takes it back
+ * @property {string | null} why why there is none, in words
+ * @property {string | null} name what it makes
+ * @property {boolean} isDone whether it is in the drawing, and not taken back
+ * @property {string | null} stamp of the last event that was made by it, or by taking it back
+ * @property {string[]} keys the parts that it touches
+ * @property {Map<string, Set<string>>} before what counted as the last of these parts before that event
+ */
+/** @typedef {{name: string, steps: Step[]}} Gesture */
+
+const MOST_GESTURES = 500;
+/** As many lines as one batch takes. */
+const MOST_LINES = 10000;
+
+export class Edits {
+  /**
+   * @param {Ed} ed
+   * @param {Pending} pending
+   */
+  constructor(ed, pending) {
+    this.ed = ed;
+    this.pending = pending;
+    this.claims = new Claims();
+    /** @type {Gesture[]} */
+    this.done = [];
+    /** @type {Gesture[]} */
+    this.undone = [];
+    /** @type {Map<string, string>} the ids of what this page made, by its names */
+    this.ids = new Map();
+    /** @type {Map<string, string>} */
+    this.names = new Map();
+    this.batches = 0;
+  }
+
+  /**
+   * Does a gesture. `pick` says which of what it makes are selected then, from the names of what each line makes.
+   * @param {string} name
+   * @param {string[]} lines
+   * @param {(made: (string | null)[]) => (string | null | undefined)[]} [pick]
+   * @returns {Promise<boolean>} whether all of it was done
+   */
+  async do(name, lines, pick) {
+    const { ed } = this;
+    ed.settle();
+    if (!lines.length) return true;
+    if (ed.readOnly || lines.length > MOST_LINES) {
+      ed.refuse([{ why: ed.readOnly ?? `a gesture has at most ${MOST_LINES.toLocaleString("en")} edits` }]);
+      return false;
+    }
+    const gesture = this.begin(name, lines);
+    this.done.push(gesture);
+    if (this.done.length > MOST_GESTURES) this.done.shift();
+    this.undone = [];
+    ed.say(name);
+    const sent = this.send(gesture.steps, (step) => step.line, () => gesture.steps, null);
+    if (pick) ed.selection.set(pick(gesture.steps.map((step) => step.name)).filter(Boolean));
+    ed.rested();
+    const isDone = await sent;
+    if (!gesture.steps.some((step) => step.isDone)) this.done = this.done.filter((each) => each !== gesture);
+    ed.stacks();
+    return isDone;
+  }
+
+  undo() {
+    this.turn(this.done, this.undone, true);
+  }
+
+  redo() {
+    this.turn(this.undone, this.done, false);
+  }
+
+  /**
+   * @param {string} name
+   * @param {string[]} lines
+   * @returns {Gesture}
+   */
+  begin(name, lines) {
+    this.batches += 1;
+    const batch = this.batches;
+    const foresight = new Foresight(this.ed.model);
+    const fresh = new Set();
+    const steps = lines.map((raw, index) => {
+      const line = this.named(raw, (word) => (/^@\d+$/.test(word) ? `~${batch}.${word.slice(1)}` : this.names.get(word) ?? word));
+      const { op, words } = wordsOf(line);
+      const makes = op === "create" || op === "group" ? `~${batch}.${index + 1}` : null;
+      const target = makes ?? words[1];
+      const inverse = fresh.has(target) ? { back: null, why: null } : inverseOf(op, target, foresight.plain(this.idOf(target)));
+      if (makes) fresh.add(makes);
+      foresight.take(this.real(line), makes);
+      const keys = keysOf(op, target, op === "group" ? words.slice(1) : []);
+      return { line, ...inverse, name: makes, isDone: false, stamp: null, keys, before: new Map() };
+    });
+    return { name, steps };
+  }
+
+  /**
+   * A line with other words for its ids. A label stays as it is.
+   * @param {string} line
+   * @param {(word: string) => string} call
+   */
+  named(line, call) {
+    const { op, words, label } = wordsOf(line);
+    if (op === "create") return line;
+    const named = words.map((word, index) => (index ? call(word) : word)).join(" ");
+    return op === "text" ? `${named} ${label}` : named;
+  }
+
+  /** @param {string} name */
+  idOf(name) {
+    return this.ids.get(name) ?? name;
+  }
+
+  /**
+   * A line with ids, as far as they are known.
+   * @param {string} line
+   * @param {Set<string | null>} [fresh] names that are to stand, since what they name is made anew
+   */
+  real(line, fresh) {
+    return this.named(line, (word) => (fresh?.has(word) ? word : this.idOf(word)));
+  }
+
+  /**
+   * Shows what lines do, has them typed, and takes the answers.
+   * @param {Step[]} steps
+   * @param {(step: Step) => string} text the line that is typed for a step
+   * @param {() => Step[]} choose which of the steps go out, when their turn has come
+   * @param {((refusals: Refusal[]) => void) | null} after
+   */
+  async send(steps, text, choose, after) {
+    const layer = this.foresee(steps, text);
+    /** @type {Step[]} */
+    let sent = [];
+    try {
+      const { answers, edits } = await this.ed.node.type(() => {
+        sent = choose();
+        return this.wireLines(sent, text);
+      });
+      const refusals = this.take(sent, text, answers, layer, steps, edits);
+      after?.(refusals);
+      if (refusals.length) this.ed.refuse(refusals);
+      return refusals.length === 0;
+    } catch (fault) {
+      this.pending.drop(layer);
+      const why = fault instanceof Lost ? "Lost" : /** @type {Error} */ (fault).message;
+      this.ed.refuse([{ line: this.real(text(steps[0])), why }]);
+      return false;
+    } finally {
+      this.ed.rested();
+    }
+  }
+
+  /**
+   * @param {Step[]} steps
+   * @param {(step: Step) => string} text
+   */
+  foresee(steps, text) {
+    const foresight = new Foresight(this.ed.model);
+    const fresh = new Set(steps.filter((step) => text(step) === step.line).map((step) => step.name));
+    for (const step of steps) foresight.take(this.real(text(step), fresh), step.name);
+    const layer = new Layer(foresight.effects, foresight.turns);
+    this.pending.add(layer);
+    return layer;
+  }
+
+  /**
+   * The lines as they go out: with ids, and with `@K` for what the batch itself makes.
+   * @param {Step[]} sent
+   * @param {(step: Step) => string} text
+   */
+  wireLines(sent, text) {
+    const made = new Map(sent.map((step, index) => [text(step) === step.line ? step.name : null, `@${index + 1}`]));
+    return sent.map((step) => this.named(text(step), (word) => made.get(word) ?? this.idOf(word)));
+  }
+
+  /**
+   * Takes the answers to a batch, and gives what was refused.
+   * @param {Step[]} sent
+   * @param {(step: Step) => string} text
+   * @param {string[]} answers
+   * @param {Layer} layer
+   * @param {Step[]} steps all for which the layer was made
+   * @param {number} edits
+   */
+  take(sent, text, answers, layer, steps, edits) {
+    /** @type {Refusal[]} */
+    const refusals = [];
+    /** @type {Map<string, string>} */
+    const names = new Map();
+    const places = new Map(steps.map((step, index) => [step, index]));
+    const left = new Set(places.values());
+    sent.forEach((step, index) => {
+      const answer = answers[index];
+      if (!answer.startsWith("ok ")) {
+        refusals.push({ line: this.real(text(step)), why: answer.replace(/^refused: /, "") });
+        return;
+      }
+      left.delete(places.get(step));
+      this.accept(step, text(step) === step.line, answer.slice(3), names);
+    });
+    this.pending.answered(layer, left, names, edits);
+    if (names.size) this.ed.selection.rename(names);
+    return refusals;
+  }
+
+  /**
+   * @param {Step} step
+   * @param {boolean} isForward whether it was done, and not taken back
+   * @param {string} stamp
+   * @param {Map<string, string>} names
+   */
+  accept(step, isForward, stamp, names) {
+    if (isForward && step.name) {
+      names.set(step.name, stamp);
+      this.ids.set(step.name, stamp);
+      this.names.set(stamp, step.name);
+      this.claims.watch(stamp);
+    }
+    step.before = this.claims.claim(stamp, this.realKeys(step), step.stamp ? step.before : null);
+    step.stamp = stamp;
+    step.isDone = isForward;
+  }
+
+  /** @param {Step} step */
+  realKeys(step) {
+    return step.keys.map((key) => this.named(`key ${key}`, (word) => this.idOf(word)).slice(4));
+  }
+
+  /**
+   * Takes the last gesture back, or does it again.
+   * @param {Gesture[]} from
+   * @param {Gesture[]} to
+   * @param {boolean} isUndo
+   */
+  async turn(from, to, isUndo) {
+    const { ed } = this;
+    if (ed.readOnly) return;
+    ed.settle();
+    const gesture = from.pop();
+    if (!gesture) {
+      ed.say(isUndo ? "There is nothing to undo" : "There is nothing to do again");
+      return;
+    }
+    const all = isUndo ? gesture.steps.filter((step) => step.back).reverse() : gesture.steps.filter((step) => step.back || isPartOf(gesture, step));
+    const final = isUndo ? gesture.steps.find((step) => step.why)?.why : null;
+    if (final) ed.banner({ text: `${final[0].toUpperCase()}${final.slice(1)}`, lasts: 5000 });
+    if (!all.length) {
+      ed.rested();
+      return;
+    }
+    to.push(gesture);
+    let kept = 0;
+    const choose = () => {
+      const open = all.filter((step) => step.back && step.stamp && step.isDone === isUndo);
+      const chosen = open.filter((step) => canTurn(this, step, isUndo));
+      kept = open.length - chosen.length;
+      return isUndo ? chosen : withParts(gesture, chosen);
+    };
+    const sent = this.send(all, (step) => (isUndo ? step.back : step.line), choose, null);
+    ed.selection.set(shownOf(this, all), null);
+    ed.say(`${isUndo ? "Undid" : "Did again"}: ${gesture.name}`);
+    ed.rested();
+    await sent;
+    if (kept) ed.banner({ text: `${kept} of ${all.length} changes stayed: changed or deleted since`, lasts: 6000 });
+    ed.stacks();
+  }
+}

@@ -1,0 +1,91 @@
+// Which handle of the selection is under the pointer.
+
+import { has } from "./boxes.js";
+import { HANDLES } from "./overlay.js";
+
+/** @typedef {import("../core/types.js").Ed} Ed */
+/** @typedef {import("../core/types.js").Item} Item */
+/** @typedef {import("../core/types.js").Box} Box */
+/** @typedef {import("../core/types.js").Place} Place */
+/** @typedef {import("./overlay.js").Handle} Handle */
+/** @typedef {{handle?: Handle, end?: "start" | "end", item?: Item}} Found */
+
+const REACH = 8;
+const REACH_TOUCH = 22;
+const SIDE = 3;
+const LEAST_SIDE = 64;
+
+/** @type {Record<Handle, string>} */
+export const CURSORS = { nw: "nwse", se: "nwse", ne: "nesw", sw: "nesw", n: "ns", s: "ns", e: "ew", w: "ew" };
+
+/**
+ * @param {Ed} ed
+ * @param {Place} at
+ * @param {PointerEvent} event
+ * @returns {Found | null}
+ */
+export function handleAt(ed, at, event) {
+  if (ed.readOnly || ed.editing) return null;
+  const isTouch = event.pointerType === "touch";
+  const reach = isTouch ? REACH_TOUCH : REACH;
+  const frame = ed.overlay.frame();
+  if (!frame) return endAt(ed, at, reach + 2);
+  const handle = knobAt(ed, frame, at, reach) ?? (isTouch ? null : sideAt(ed, frame, at));
+  return handle && { handle };
+}
+
+/**
+ * @param {Ed} ed
+ * @param {Box} frame
+ * @param {Place} at
+ * @param {number} reach
+ */
+function knobAt(ed, frame, { px, py }, reach) {
+  const [w, h] = [frame.x1 - frame.x0, frame.y1 - frame.y0];
+  // Inside the frame a handle reaches less, so that small shapes can still be dragged.
+  const near = has(frame, px, py) ? Math.min(reach, Math.min(w, h) / 4) : reach;
+  const isNear = (/** @type {Handle} */ each) => {
+    const [atX, atY] = HANDLES[each];
+    return Math.hypot(px - frame.x0 - w * atX, py - frame.y0 - h * atY) <= near;
+  };
+  return ed.overlay.handlesOf(w, h).find(isNear) ?? null;
+}
+
+/**
+ * The frame's sides are handles as a whole.
+ * @param {Ed} ed
+ * @param {Box} frame
+ * @param {Place} at
+ * @returns {Handle | null}
+ */
+function sideAt(ed, { x0, y0, x1, y1 }, { px, py }) {
+  if (x1 - x0 < LEAST_SIDE || y1 - y0 < LEAST_SIDE) return null;
+  const sides = ed.overlay.handlesOf(x1 - x0, y1 - y0);
+  const [isAcross, isDown] = [px > x0 && px < x1, py > y0 && py < y1];
+  /** @type {[Handle, boolean][]} */
+  const tried = [
+    ["n", isAcross && Math.abs(py - y0) < SIDE],
+    ["s", isAcross && Math.abs(py - y1) < SIDE],
+    ["w", isDown && Math.abs(px - x0) < SIDE],
+    ["e", isDown && Math.abs(px - x1) < SIDE],
+  ];
+  return tried.find(([side, isThere]) => isThere && sides.includes(side))?.[0] ?? null;
+}
+
+/**
+ * @param {Ed} ed
+ * @param {Place} at
+ * @param {number} reach
+ * @returns {Found | null}
+ */
+function endAt(ed, at, reach) {
+  const [id, other] = ed.selection.ids;
+  const item = id && !other ? ed.model.at(id) : null;
+  if (!item?.ends) return null;
+  for (const end of /** @type {const} */ (["end", "start"])) {
+    const first = end === "start" ? 0 : 2;
+    const [x, y] = ed.camera.toWindow(item.ends[first], item.ends[first + 1]);
+    if (Math.hypot(at.px - x, at.py - y) <= reach) return { end, item };
+  }
+  return null;
+}

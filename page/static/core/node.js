@@ -1,0 +1,248 @@
+// The node as the bridge tells of it: what the drawing shows, all events, who is here, and how it stands. Lines are typed to
+// it in batches, of which the next goes out when the one before was answered.
+
+import { eventOf, History } from "./history.js";
+import { Picture } from "./picture.js";
+import { Wire } from "./wire.js";
+
+/** @typedef {import("./types.js").Event} Event */
+/** @typedef {import("./types.js").End} End */
+/** @typedef {import("./types.js").Standing} Standing */
+/** @typedef {import("./types.js").LinkSettings} LinkSettings */
+/** @typedef {import("./picture.js").Difference} Difference */
+/** @typedef {{site: number, name: string | null, heard: number | null, away: boolean, perhaps: boolean}} Peer */
+/** @typedef {{site: number, name: string | null, focus: string | null}} Note */
+/** @typedef {{answers: string[], edits: number}} Answers */
+/** @typedef {{message: any, done: (result: any) => void, fail: (why: Error) => void}} Asked */
+/**
+ * What a node tells. `picture`: what the drawing shows has changed; `events`: there are more events; `stand`: anything else.
+ * @typedef {object} NodeEar
+ * @property {(difference: Difference, edits: number, others: boolean, whole: boolean) => void} picture
+ * @property {(events: Event[], isFirst: boolean) => void} events
+ * @property {(what: string) => void} stand
+ */
+
+/** An answer that never came, since the connection was lost. */
+export class Lost extends Error {}
+
+export class Node {
+  /** @param {number | null} desk the number of the desk that the address of the page names */
+  constructor(desk) {
+    this.wire = new Wire(desk === null ? "socket" : `socket?desk=${desk}`, this);
+    /** @type {NodeEar} */
+    this.ear = { picture() {}, events() {}, stand() {} };
+    this.picture = new Picture();
+    this.history = new History();
+    this.site = 0;
+    this.sites = 1;
+    this.session = 0;
+    this.desk = desk ?? 1;
+    this.demo = false;
+    this.journal = "";
+    /** @type {number[]} */
+    this.desks = [];
+    /** @type {Record<string, string | null>} */
+    this.names = {};
+    this.connected = false;
+    /** Whether the drawing was ever shown. */
+    this.isReady = false;
+    /** @type {End | null} */
+    this.ended = null;
+    this.silent = false;
+    this.waiting = 0;
+    /** @type {Peer[]} */
+    this.peers = [];
+    /** @type {Note[]} */
+    this.who = [];
+    /** @type {Standing} */
+    this.standing = { held: 0, kept: 0, line: 0, clock: 0 };
+    /** @type {LinkSettings | null} */
+    this.link = null;
+    /** @type {any[]} */
+    this.news = [];
+    this.edits = 0;
+    this.counted = 0;
+    /** @type {Map<number, Asked>} */
+    this.asked = new Map();
+    /** @type {Promise<unknown>} */
+    this.last = Promise.resolve();
+    this.expectsEvents = true;
+  }
+
+  start() {
+    this.wire.open();
+  }
+
+  /** All events in stamp order. */
+  get events() {
+    return this.history.events;
+  }
+
+  /** Why there is no connection: the bridge has ended, another one has its place, or nothing is known. */
+  get why() {
+    return this.wire.why;
+  }
+
+  /** What the drawing shows behind the first `k` events. */
+  itemsAt(/** @type {number} */ k) {
+    return this.history.shownAt(k);
+  }
+
+  /**
+   * Has lines typed as one batch, behind all batches from before. `lines` makes them when their turn has come.
+   * @param {() => string[]} lines
+   * @returns {Promise<Answers>} rejected with `Lost` where the connection was or got lost
+   */
+  type(lines) {
+    const answered = this.last.then(() => {
+      const made = lines();
+      if (!made.length) return { answers: [], edits: this.edits };
+      return this.ask(/** @type {any} */ ({ do: "batch", lines: made }));
+    });
+    this.last = answered.catch(() => {});
+    return answered;
+  }
+
+  /**
+   * Has lines typed whose answers nobody waits for.
+   * @param {string[]} lines
+   */
+  tell(lines) {
+    this.counted += 1;
+    this.wire.send({ do: "batch", lines, desk: this.desk, id: this.counted });
+  }
+
+  /**
+   * @param {{do: string}} message
+   * @returns {Promise<any>}
+   */
+  ask(message) {
+    this.counted += 1;
+    const id = this.counted;
+    return new Promise((done, fail) => {
+      this.asked.set(id, { message, done, fail });
+      if (this.wire.send({ ...message, desk: this.desk, id })) return;
+      this.asked.delete(id);
+      fail(new Lost("Lost"));
+    });
+  }
+
+  /** Starts a node again that has ended. */
+  restart() {
+    return this.ask({ do: "again" });
+  }
+
+  /** @param {string} name */
+  setName(name) {
+    return this.ask(/** @type {any} */ ({ do: "name", name }));
+  }
+
+  /** @param {string | null} id */
+  focus(id) {
+    return this.type(() => [`focus ${id ?? "-"}`]);
+  }
+
+  /**
+   * What is saved of the drawing, as text.
+   * @param {"text" | "json" | "events" | "log"} form
+   * @returns {Promise<string>}
+   */
+  save(form) {
+    return this.ask(/** @type {any} */ ({ do: "save", form }));
+  }
+
+  /** @param {Partial<LinkSettings>} settings */
+  setLink(settings) {
+    return this.ask(/** @type {any} */ ({ do: "link", ...settings }));
+  }
+
+  /**
+   * @param {import("./wire.js").What} what
+   * @param {any} message
+   */
+  hear(what, message) {
+    if (what === "message") {
+      this.take(message);
+      return;
+    }
+    this.connected = what === "open";
+    if (what === "open") this.expectsEvents = true;
+    else this.giveUp();
+    this.ear.stand(what);
+  }
+
+  /** No answer comes any more. */
+  giveUp() {
+    const asked = [...this.asked.values()];
+    this.asked.clear();
+    for (const { fail } of asked) fail(new Lost("Lost"));
+  }
+
+  /** @param {any} told */
+  take(told) {
+    if (told.desk !== undefined && told.desk !== null && told.is !== "hello" && told.desk !== this.desk) return;
+    const takers = /** @type {Record<string, (told: any) => void>} */ ({
+      answers: () => this.reply(told.id, { answers: told.answers, edits: told.edits }),
+      reply: () => this.reply(told.id, told.result, told.error),
+      picture: () => this.takePicture(told),
+      history: () => this.takeHistory(told),
+    });
+    if (takers[told.is]) {
+      takers[told.is](told);
+      return;
+    }
+    this.note(told);
+    this.ear.stand(told.is);
+  }
+
+  /** @param {any} told */
+  note(told) {
+    const { is, ...rest } = told;
+    if (is === "hello") this.greet(rest);
+    else if (is === "who") this.who = rest.who;
+    else if (is === "standing") this.standing = rest.standing;
+    else if (is === "peers") Object.assign(this, { peers: rest.peers, waiting: rest.waiting, silent: rest.silent ?? false });
+    else if (is === "news") this.news.push(...rest.news);
+    else if (is === "end") this.ended = rest.end;
+    else if (is === "begun") this.ended = null;
+    else if (is === "link") this.link = { loss: rest.loss, twice: rest.twice, delay: rest.delay, cut: rest.cut };
+    if (this.news.length > 400) this.news.splice(0, this.news.length - 200);
+  }
+
+  /** @param {any} hello */
+  greet(hello) {
+    const { desk, site, sites, session, demo, journal, desks, names } = hello;
+    Object.assign(this, { desk, site, sites, session, demo, journal, desks, names: names ?? {}, ended: null });
+  }
+
+  /**
+   * @param {number} id
+   * @param {any} result
+   * @param {string} [error]
+   */
+  reply(id, result, error) {
+    const asked = this.asked.get(id);
+    if (!asked) return;
+    this.asked.delete(id);
+    if (error) asked.fail(new Error(error));
+    else asked.done(result);
+  }
+
+  /** @param {any} told */
+  takePicture(told) {
+    const difference = this.picture.take(told);
+    this.edits = told.edits;
+    this.isReady = true;
+    this.ear.picture(difference, told.edits, told.others, told.whole);
+  }
+
+  /** @param {any} told */
+  takeHistory(told) {
+    // A bridge that was begun again tells all events from the first on, which are there already.
+    const events = told.events.map((/** @type {any} */ each, /** @type {number} */ index) => eventOf(each, told.from + index));
+    const fresh = events.filter((/** @type {Event} */ event) => !this.history.byStamp.has(event.stamp));
+    for (const event of fresh) this.history.take(event);
+    this.ear.events(fresh, this.expectsEvents);
+    this.expectsEvents = false;
+  }
+}

@@ -1,0 +1,73 @@
+// How events bear on each other (docs/MODEL.md, "How events bear on each other"): the parts that an event touches, which
+// later events depend on it, and whether a later one leaves nothing of it.
+
+/** @typedef {import("./types.js").Event} Event */
+
+const WHOLE = "*";
+const PARTS = /** @type {Record<string, string>} */ ({
+  move: "place", resize: "size", stroke: "stroke", fill: "fill", width: "width", text: "label", ungroup: "mark", raise: "rank", lower: "rank",
+});
+
+/**
+ * The pairs of an object and a part that an event touches; `*` is the whole object.
+ * @param {Event} event
+ * @returns {[string, string][]}
+ */
+export function touches(event) {
+  if (event.op === "create" || event.op === "delete") return [[event.id, WHOLE]];
+  if (event.op !== "group") return [[event.id, PARTS[event.op]]];
+  return [[event.id, WHOLE], ...event.members.map((member) => /** @type {[string, string]} */ ([member.id, "link"]))];
+}
+
+/** Parts of objects, by object. */
+class Touched {
+  constructor() {
+    /** @type {Map<string, Set<string>>} */
+    this.parts = new Map();
+  }
+
+  /** @param {[string, string][]} touched */
+  add(touched) {
+    for (const [id, part] of touched) {
+      const parts = this.parts.get(id);
+      if (parts) parts.add(part);
+      else this.parts.set(id, new Set([part]));
+    }
+  }
+
+  /** @param {[string, string][]} touched */
+  meets(touched) {
+    return touched.some(([id, part]) => {
+      const parts = this.parts.get(id);
+      return parts !== undefined && (part === WHOLE || parts.has(part) || parts.has(WHOLE));
+    });
+  }
+}
+
+/**
+ * Those of later events, in stamp order, that depend on an event or on another of them.
+ * @param {Event} event
+ * @param {Event[]} later
+ * @returns {Event[]}
+ */
+export function closure(event, later) {
+  const touched = new Touched();
+  touched.add(touches(event));
+  return later.filter((each) => {
+    const own = touches(each);
+    if (!touched.meets(own)) return false;
+    touched.add(own);
+    return true;
+  });
+}
+
+/**
+ * Whether nothing of an event is left where a later one comes directly behind it.
+ * @param {Event} later
+ * @param {Event} event
+ */
+export function covers(later, event) {
+  if (event.op === "group" || later.op === "group" || later.id !== event.id) return false;
+  if (later.op === "delete") return true;
+  return PARTS[later.op] !== undefined && PARTS[later.op] === PARTS[event.op];
+}

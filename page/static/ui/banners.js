@@ -1,0 +1,100 @@
+// What the page says: banners under the top, bubbles beside an object, and words for assistive technology alone.
+
+import { h } from "./h.js";
+import { icon } from "./icons.js";
+import { plainWords } from "./words.js";
+
+/** @typedef {import("../core/types.js").Ed} Ed */
+/**
+ * @typedef {object} Banner
+ * @property {string} text
+ * @property {"calm" | "late" | "warn"} [tone]
+ * @property {string} [icon]
+ * @property {boolean} [stays] whether it stays until it is taken away by who made it
+ * @property {string} [action] the words of its button
+ * @property {() => void} [run] what its button does
+ * @property {number} [lasts] for how many milliseconds it is shown; without it, until it is dismissed
+ */
+
+const BUBBLE_LASTS = 4200;
+
+/**
+ * Puts `say`, `banner` and `refuse` on `ed`.
+ * @param {Ed} ed
+ * @param {HTMLElement} said
+ * @param {HTMLElement} banners
+ * @param {HTMLElement} bubbles
+ */
+export function makeBanners(ed, said, banners, bubbles) {
+  ed.say = (text) => {
+    // The same words are only said again where they went away in between.
+    said.textContent = "";
+    requestAnimationFrame(() => {
+      said.textContent = text;
+    });
+  };
+  ed.banner = (banner) => {
+    for (const old of /** @type {HTMLElement[]} */ ([...banners.children])) if (!old.dataset.stays) old.remove();
+    if (!banner) return null;
+    const made = bannerOf(banner);
+    banners.append(made);
+    if (banner.lasts) setTimeout(() => made.remove(), banner.lasts);
+    return made;
+  };
+  ed.refuse = (refusals) => {
+    if (!refusals.length) return;
+    const made = bubbleOf(ed, refusals);
+    bubbles.replaceChildren(made);
+    setTimeout(() => made.remove(), BUBBLE_LASTS);
+  };
+}
+
+/** @param {Banner} banner */
+function bannerOf(banner) {
+  const tone = banner.tone ?? "calm";
+  const made = h("div", { class: `banner island ${tone}`, "data-stays": banner.stays ? "1" : null });
+  const act = () => {
+    if (!banner.stays) made.remove();
+    banner.run?.();
+  };
+  const dismiss = { type: "button", class: "tool small", "aria-label": "Dismiss", onclick: () => made.remove() };
+  const parts = [
+    icon(banner.icon ?? "info", 18),
+    h("span", { dir: "auto" }, banner.text),
+    banner.action && h("button", { type: "button", class: "quiet", onclick: act }, banner.action),
+    !banner.stays && h("button", dismiss, icon("close", 16)),
+  ];
+  made.append(...parts.filter((part) => part instanceof Node));
+  return made;
+}
+
+/**
+ * A bubble at the object of the first refusal, at the selection, or at the pointer.
+ * @param {Ed} ed
+ * @param {{line?: string, why: string}[]} refusals
+ */
+function bubbleOf(ed, refusals) {
+  const words = plainWords(refusals[0].why);
+  const text = refusals.length > 1 ? `${refusals.length} edits weren’t done: ${words}` : `Not done: ${words}`;
+  const [x, y] = placeOf(ed, refusals[0].line);
+  const vars = { "--x": `${clamp(x, 120, innerWidth - 120)}px`, "--y": `${clamp(y - 14, 90, innerHeight)}px` };
+  return h("div", { class: "bubble", vars }, icon("info", 16), text);
+}
+
+/**
+ * @param {Ed} ed
+ * @param {string} [line]
+ */
+function placeOf(ed, line) {
+  const id = line?.split(" ")[1];
+  const box = (id && ed.model.byId.get(id)?.box) || ed.model.boxOf(ed.selection.ids);
+  if (box) return ed.camera.toWindow((box.x0 + box.x1) / 2, box.y0);
+  return ed.pointer ? [ed.pointer.px, ed.pointer.py] : [innerWidth / 2, innerHeight / 2];
+}
+
+/**
+ * @param {number} value
+ * @param {number} low
+ * @param {number} high
+ */
+const clamp = (value, low, high) => Math.max(low, Math.min(high, value));

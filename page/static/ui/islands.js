@@ -1,0 +1,88 @@
+// All islands of the page, in one call. main.js makes the board (`ed.node`, `model`, `camera`, `selection`, `scene`,
+// `overlay`, `edits`, `people`, `touch`, `changed`, `settle`, `nudge`), calls this, and then makes the gestures.
+
+import { makeAid, makeZoom } from "./aid.js";
+import { makeBanners } from "./banners.js";
+import { Clipboard } from "./clipboard.js";
+import { Editor } from "./editor.js";
+import { makeEmpty } from "./empty.js";
+import { Exporting } from "./exporting.js";
+import { makeFile } from "./file.js";
+import { Help } from "./help.js";
+import { HistoryBar } from "./history.js";
+import { Importing } from "./importing.js";
+import { listen } from "./keys.js";
+import { makeLink } from "./link.js";
+import { Menu } from "./menu.js";
+import { makeNames } from "./names.js";
+import { Objects } from "./objects.js";
+import { Palette } from "./palette.js";
+import { makeQuick } from "./quick.js";
+import { Roster } from "./roster.js";
+import { StandingIsland } from "./standing.js";
+import { StylePanel } from "./style.js";
+import { makeTheme } from "./theme.js";
+import { makeTools } from "./tools.js";
+import { makeView } from "./view.js";
+
+/** @typedef {import("../core/types.js").Ed} Ed */
+
+/** @param {string} id */
+const find = (id) => /** @type {HTMLElement} */ (document.getElementById(id));
+
+/**
+ * Makes the islands and puts them on `ed`: `menu`, `roster`, `objects`, `stylePanel`, `history`, `editor`, `clipboard`,
+ * `exporting`, `importing`, `palette`, `help`, `standing`; and what they do: `say`, `banner`, `refuse`, `kindName`,
+ * `describe`, `short`, `pad`, `fit`, `walk`, `escape`, `focusBoard`, `closePopups`, `setReadOnly`, `styleFor`, `setTool`,
+ * `sheet`, `stacks`, `openMenu`, `rested`, `busied`, `placed`, `setTheme`.
+ *
+ * The board calls `ed.rested()` when a gesture, the selection or the drawing has changed, `ed.busied()` when a gesture
+ * begins, `ed.placed()` when the camera has moved, `ed.standing.update()` when what is known of the node, its peers, its
+ * people or the link has changed, and `ed.history.update()` when there are other events.
+ * @param {Ed} ed
+ */
+export function makeIslands(ed) {
+  makeBanners(ed, find("said"), find("banners"), find("bubbles"));
+  const names = makeNames(ed);
+  makeView(ed);
+  ed.menu = new Menu(ed);
+  ed.roster = new Roster(ed, find("faces"));
+  ed.objects = new Objects(ed, find("objects"));
+  ed.stylePanel = new StylePanel(ed, find("style"));
+  ed.history = new HistoryBar(ed, find("history"));
+  ed.editor = new Editor(ed, find("fields"));
+  ed.clipboard = new Clipboard(ed);
+  ed.exporting = new Exporting(ed);
+  ed.importing = new Importing(ed);
+  ed.palette = new Palette(ed);
+  ed.help = new Help();
+  const file = makeFile(ed, find("file"));
+  const tools = makeTools(ed, find("tools"));
+  const zoom = makeZoom(ed, find("zoom"));
+  const quick = makeQuick(ed, find("quick"));
+  const empty = makeEmpty(ed, find("empty"));
+  makeAid(ed, find("aid"));
+  const link = makeLink(ed, find("link"));
+  ed.standing = new StandingIsland(ed, file, link);
+  makeTheme(ed);
+  ed.rested = () => {
+    for (const part of [names, ed.stylePanel, zoom, quick, ed.objects, empty, tools]) part.update();
+  };
+  ed.busied = () => {
+    for (const part of [ed.stylePanel, quick, empty]) part.update();
+  };
+  ed.placed = () => {
+    zoom.update();
+    quick.update();
+    empty.update();
+    ed.editor.place();
+  };
+}
+
+/**
+ * Listens to the keys, once the gestures are there.
+ * @param {Ed} ed
+ */
+export function listenToKeys(ed) {
+  listen(ed, ed.board, ed.gestures);
+}

@@ -1,0 +1,190 @@
+// Where the node stands, in words: in the island of the file always, and in a banner where someone has to know it.
+
+import { count } from "./words.js";
+
+/** @typedef {import("../core/types.js").Ed} Ed */
+/** @typedef {import("./file.js").FileIsland} FileIsland */
+
+/**
+ * What is known of the node and its peers.
+ * @typedef {object} Facts
+ * @property {boolean} connected whether the page is connected to the bridge
+ * @property {"ended" | "replaced" | null} why why it isn't, where that is known
+ * @property {import("../core/types.js").End | null} ended
+ * @property {boolean} silent whether the node has answered nothing for a while
+ * @property {number} waiting how many edits nobody else has confirmed
+ * @property {number} others how many other sites there are
+ * @property {number} here how many of these are here
+ * @property {boolean} wasHere whether one of these was here before
+ */
+
+/**
+ * A state of the node: its kind, how it is said in a few words, and the banner that says it where there is one.
+ * @typedef {object} State
+ * @property {"on" | "waits" | "alone" | "off" | "silent" | "ended" | "lost"} kind
+ * @property {string} words
+ * @property {string | null} banner
+ */
+
+const LOST = {
+  ended: "./draw has ended. Start it again, and open the address that it prints.",
+  replaced: "Another ./draw runs here now. Open the address that it printed.",
+  unknown: "No connection to ./draw. If it has ended, start it again and open the address that it prints.",
+};
+
+/** @param {number} waiting */
+const waits = (waiting) => `${count(waiting, "edit")} ${waiting === 1 ? "waits" : "wait"}`;
+
+/**
+ * What is said of these facts.
+ * @param {Facts} facts
+ * @returns {State}
+ */
+export function stateOf({ connected, why, ended, silent, waiting, others, here, wasHere }) {
+  if (!connected) {
+    return { kind: "lost", words: "No connection", banner: `${LOST[why ?? "unknown"]} All accepted edits are in the journal.` };
+  }
+  if (ended) {
+    const meaning = ended.meaning ? `: ${ended.meaning}` : "";
+    const banner = `The node has ended${meaning}. All accepted edits are in its journal.`;
+    return { kind: "ended", words: "The node has ended", banner };
+  }
+  if (silent) {
+    const banner = "The node doesn’t answer. What you draw now waits until it does.";
+    return { kind: "silent", words: "The node is silent", banner };
+  }
+  if (!others) return { kind: "on", words: "You draw alone", banner: null };
+  if (here && waiting) return { kind: "waits", words: `${waits(waiting)} for others`, banner: null };
+  if (here) return { kind: "on", words: "All have all edits", banner: null };
+  if (!wasHere && !waiting) return { kind: "alone", words: "Nobody else is here", banner: null };
+  const banner = waiting ? `Offline: ${waits(waiting)} here, safe on this machine` : "Offline: you can go on drawing";
+  return { kind: "off", words: waiting ? `Offline, ${waits(waiting)}` : "Offline", banner };
+}
+
+/** In milliseconds. */
+const NEWS_EACH = 2000;
+const TONES = /** @type {const} */ ({ lost: "warn", ended: "warn", silent: "warn", off: "calm" });
+const WHY_NOT = /** @type {Record<string, string>} */ ({
+  lost: "there is no connection to ./draw",
+  ended: "the node has ended, start it again",
+});
+
+/** Shows the state, and whether one can draw. `update` is called when anything of it has changed. */
+export class StandingIsland {
+  /**
+   * @param {Ed} ed
+   * @param {FileIsland} file
+   * @param {{update: () => void}} link
+   */
+  constructor(ed, file, link) {
+    this.ed = ed;
+    this.file = file;
+    this.link = link;
+    /** @type {State} */
+    this.state = { kind: "on", words: "", banner: null };
+    /** @type {HTMLElement | null} */
+    this.banner = null;
+    this.name = "";
+    /** @type {Set<string>} what was said of strangers already */
+    this.told = new Set();
+    // What the node says of strangers comes alone, and changes nothing else that is shown.
+    setInterval(() => tellStrangers(ed, this.told), NEWS_EACH);
+  }
+
+  update() {
+    const { ed, file } = this;
+    const next = stateOf(factsOf(ed));
+    const isOther = next.banner !== this.state.banner || next.kind !== this.state.kind;
+    this.state = next;
+    if (isOther) {
+      this.show();
+      if (ed.history.at === null) ed.setReadOnly(this.readOnly());
+    }
+    if (ed.node.journal !== this.name) {
+      this.name = ed.node.journal;
+      file.showName(nameOf(this.name));
+    }
+    file.showState(next.kind, next.words);
+    ed.roster.update();
+    this.link.update();
+    ed.history.arrivals.standing(next.kind);
+  }
+
+  show() {
+    const { kind, banner: text } = this.state;
+    this.banner?.remove();
+    this.banner = null;
+    if (!text) return;
+    const action = { lost: "Try again", ended: "Start it again" }[/** @type {string} */ (kind)];
+    const tone = TONES[/** @type {keyof typeof TONES} */ (kind)];
+    this.banner = this.ed.banner({ text, tone, icon: "offline", stays: true, action, run: () => this.again() });
+  }
+
+  /** Tries the connection, or starts the node again. */
+  async again() {
+    const { ed } = this;
+    if (this.state.kind === "lost") {
+      ed.node.wire.again();
+      return;
+    }
+    try {
+      await ed.node.restart();
+    } catch (why) {
+      ed.banner({ text: `It couldn’t be started: ${/** @type {Error} */ (why).message}`, tone: "warn" });
+    }
+  }
+
+  /** The state in a few words. */
+  inWords() {
+    return this.state.words;
+  }
+
+  /** Why nothing can be drawn now, or null. */
+  readOnly() {
+    return WHY_NOT[this.state.kind] ?? null;
+  }
+}
+
+/**
+ * What a printed line says of frames that don't belong here, or null.
+ * @param {string} line
+ */
+export function strangerWords(line) {
+  const why = /^frame refused: (\w+)/.exec(line)?.[1];
+  if (why === "Session") return "Somebody sends frames of another session: is the session’s number the same at all sites?";
+  if (why === "NotForMe" || why === "FromMe" || why === "NoSuchSite") {
+    return "Somebody sends frames for another site: are the addresses in the same order at all sites?";
+  }
+  return why ? "Something sends datagrams here that are no frames" : null;
+}
+
+/**
+ * Says once what the node says of frames that don't belong here.
+ * @param {Ed} ed
+ * @param {Set<string>} told what was said already
+ */
+function tellStrangers(ed, told) {
+  for (const { what, line } of ed.node.news) {
+    const words = what === "said" ? strangerWords(line) : null;
+    if (!words || told.has(words)) continue;
+    told.add(words);
+    ed.banner({ text: words, tone: "warn" });
+  }
+}
+
+/**
+ * The name of a board: that of its journal's file, without its ending.
+ * @param {string} journal
+ */
+export const nameOf = (journal) => (journal.split("/").at(-1) ?? "").replace(/\.log$/, "") || "Board";
+
+/**
+ * @param {Ed} ed
+ * @returns {Facts}
+ */
+function factsOf({ node }) {
+  const { connected, why, ended, silent, waiting, peers } = node;
+  const here = peers.filter((peer) => !peer.away).length;
+  const wasHere = peers.some((peer) => peer.heard !== null);
+  return { connected, why, ended, silent, waiting, others: peers.length, here, wasHere };
+}

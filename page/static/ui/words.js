@@ -1,0 +1,61 @@
+// Why a line was refused, in plain words, and how things are counted and called.
+
+const REFUSALS = /** @type {Record<string, string>} */ ({
+  NoObject: "it is gone, someone deleted it",
+  BadLabel: "a text has at most 200 bytes",
+  BadNumber: "that number is out of range",
+  BadColour: "that is no colour",
+  LongLine: "that is too long",
+  TooFar: "that is too far out",
+  WrongCount: "a group takes 2 to 32 objects",
+  SameMember: "it was there twice",
+  NotTop: "one of these is in a group",
+  NotShape: "a group has no style of its own",
+  NotGroup: "that is no group",
+  NothingBack: "nothing is left to take back",
+  NotTakeable: "that can’t be taken back",
+  SessionFull: "this site has made its 65,535 edits",
+  ClockEnd: "this session has no room for more edits",
+  NoteEnd: "this site has made its 65,535 notes",
+  Ended: "the node has ended",
+  Lost: "there is no connection to the node",
+});
+
+/**
+ * A refusal in words. One that isn't known is shown as it is.
+ * @param {string} why a word of docs/LINES.md, section 4, or words already
+ */
+export const plainWords = (why) => REFUSALS[why.replace(/^refused: /, "")] ?? why;
+
+/**
+ * A number of things: `1 object`, `3 objects`.
+ * @param {number} number
+ * @param {string} [one]
+ * @param {string} [many]
+ */
+export const count = (number, one = "object", many = `${one}s`) => `${number.toLocaleString("en")} ${number === 1 ? one : many}`;
+
+/**
+ * The first letter of a name, as it is written in a circle.
+ * @param {string} name
+ */
+export function initialOf(name) {
+  const [first] = new Intl.Segmenter(undefined, { granularity: "grapheme" }).segment(name.trim());
+  return first ? first.segment.toUpperCase() : "?";
+}
+
+/**
+ * A label on one line: its line breaks are spaces.
+ * @param {string} label
+ */
+export const oneLine = (label) => label.replaceAll("\u2028", " ");
+
+/**
+ * A text that is cut to so many characters.
+ * @param {string} text
+ * @param {number} most
+ */
+export function shortened(text, most) {
+  const letters = [...text];
+  return letters.length > most ? `${letters.slice(0, most - 1).join("")}…` : text;
+}

@@ -1,0 +1,137 @@
+"""The reader of journals, on the logs that docs/FORMATS.md writes down byte by byte (sections 1, 2 and 6)."""
+
+from page.journal import BadJournal, Journal
+from page.tests.logs import create, header, log, record, stamp
+from page.tests.places import WithFolder
+
+HEAD = "47 44 4F 4C 01 00 00 00 07 01 02"
+# The worked log, its records each behind its gate, and what it says.
+WORKED = [
+    "C3 00 00 00 00 00 01 02 00 01 01 01 00 00 00 05 00 00 00 05 00 00 00 0A 00 00 00 0A 00",
+    "C3 00 00 00 00 00 01 01 00 01 01 02 00 00 00 00 00 00 00 00 00 00 00 14 00 00 00 14 00",
+]
+MADE = [
+    {"id": "1.2", "clock": 1, "site": 2, "seq": 1, "op": "create", "h": 10, "kind": "rect", "label": "", "w": 10, "x": 5, "y": 5},
+    {"id": "1.1", "clock": 1, "site": 1, "seq": 1, "op": "create", "h": 20, "kind": "ellipse", "label": "", "w": 20, "x": 0, "y": 0},
+]
+# A look, record by record.
+LOOK = {
+    "00 00 00 00 00 02 01 00 02 04 00 00 00 00 00 01 01 FF FF FF FB 00 00 00 1E": {"op": "resize", "target": "1.1", "w": -5, "h": 30},
+    "00 00 00 00 00 03 01 00 03 05 00 00 00 00 00 01 01 01 00 00 AB 0C": {"op": "restyle", "target": "1.1", "stroke": "00AB0C"},
+    "00 00 00 00 00 04 01 00 04 05 00 00 00 00 00 01 01 02 00 FF 80 00": {"op": "restyle", "target": "1.1", "fill": "FF8000"},
+    "00 00 00 00 00 05 01 00 05 05 00 00 00 00 00 01 01 03 00 00 00 40": {"op": "restyle", "target": "1.1", "width": 64},
+    "00 00 00 00 00 06 01 00 06 06 00 00 00 00 00 01 01 05 63 61 66 C3 A9": {"op": "retext", "target": "1.1", "label": "caf\u00e9"},
+    "00 00 00 00 00 07 01 00 07 05 00 00 00 00 00 01 02 02 FF FF FF FF": {"op": "restyle", "target": "1.2", "fill": None},
+}
+GROUP = (
+    "00 00 00 00 00 03 01 00 01 07 02 00 00 00 00 00 01 02 00 00 00 05 FF FF FF F9"
+    "00 00 00 00 00 02 01 3B 9A CA 00 C4 65 36 00"
+)
+MEMBERS = [{"dx": 5, "dy": -7, "id": "1.2"}, {"dx": 1_000_000_000, "dy": -1_000_000_000, "id": "2.1"}]
+
+
+def bare(event):
+    """What an event did, without what tells which one it is."""
+    return {key: value for key, value in event.items() if key not in ("id", "clock", "site", "seq")}
+
+
+class Reading(WithFolder):
+    def events(self, data):
+        self.journal.write_bytes(data)
+        return Journal(self.journal).read_on()
+
+    def test_the_worked_log(self):
+        self.assertEqual(self.events(bytes.fromhex(HEAD + "".join(WORKED) + "00")), MADE)
+
+    def test_both_versions_read_alike(self):
+        data = bytearray(bytes.fromhex(HEAD + "".join(WORKED) + "00"))
+        data[4] = 2
+        self.assertEqual(self.events(data), MADE)
+
+    def test_a_look(self):
+        for bytes_of, wanted in LOOK.items():
+            (event,) = self.events(log(header(), bytes.fromhex(bytes_of)))
+            self.assertEqual(bare(event), wanted)
+
+    def test_a_group_and_its_end(self):
+        end = "00 00 00 00 00 04 02 00 01 08 00 00 00 00 00 03 01"
+        made, ended = self.events(log(header(), bytes.fromhex(GROUP), bytes.fromhex(end)))
+        self.assertEqual(bare(made), {"op": "group", "members": MEMBERS})
+        self.assertEqual((ended["id"], bare(ended)), ("4.2", {"op": "ungroup", "target": "3.1"}))
+
+    def test_the_operations_with_an_id_alone(self):
+        for tag, name in ((2, "delete"), (8, "ungroup"), (9, "raise"), (10, "lower")):
+            (event,) = self.events(log(header(), record("9.1", 1, tag, stamp("281474976710655.16"))))
+            self.assertEqual(bare(event), {"op": name, "target": "281474976710655.16"})
+
+    def test_a_move_and_the_ends_of_the_ranges(self):
+        body = stamp("1.1") + bytes.fromhex("C4653600 3B9ACA00")
+        (event,) = self.events(log(header(), record("281474976710655.16", 65_535, 3, body)))
+        wanted = {"id": "281474976710655.16", "clock": 281_474_976_710_655, "site": 16, "seq": 65_535, "op": "move", "target": "1.1"}
+        self.assertEqual(event, {**wanted, "x": -1_000_000_000, "y": 1_000_000_000})
+
+    def test_the_longest_label(self):
+        (event,) = self.events(log(header(), create("1.1", 1, "text", 0, 0, 1, 1, "\u05d0" * 100)))
+        self.assertEqual(event["label"], "\u05d0" * 100)
+
+    def test_what_stands_behind_the_gate_that_ends_it_isn_t_read(self):
+        more = b"\xc3" + create("2.1", 2, "rect", 0, 0, 1, 1)
+        self.assertEqual(len(self.events(log(header(), create("1.1", 1, "rect", 0, 0, 1, 1)) + more)), 1)
+
+
+class ReadingOn(WithFolder):
+    def test_each_event_comes_once_however_the_file_grows(self):
+        records = [bytes.fromhex(each) for each in LOOK] + [bytes.fromhex(GROUP)]
+        whole = log(header(), *records)
+        journal, found = Journal(self.journal), []
+        self.assertEqual(journal.read_on(), [])
+        for cut in range(len(whole) + 1):
+            self.journal.write_bytes(whole[:cut])
+            found += journal.read_on()
+        self.assertEqual([event["seq"] for event in found], [2, 3, 4, 5, 6, 7, 1])
+        self.assertEqual(bare(found[-1]), {"op": "group", "members": MEMBERS})
+
+    def test_it_grows_as_a_node_writes_it(self):
+        first, second = (create(f"{clock}.1", clock, "rect", clock, 0, 1, 1) for clock in (1, 2))
+        self.journal.write_bytes(log(header(), first))
+        journal = Journal(self.journal)
+        self.assertEqual([event["id"] for event in journal.read_on()], ["1.1"])
+        gate = self.journal.stat().st_size - 1
+        with open(self.journal, "r+b") as file:
+            # The event and a closed gate behind it, and then the gate in front of it is opened.
+            file.seek(gate + 1)
+            file.write(second + b"\x00")
+            file.flush()
+            self.assertEqual(journal.read_on(), [])
+            file.seek(gate)
+            file.write(b"\xc3")
+        self.assertEqual([event["id"] for event in journal.read_on()], ["2.1"])
+        self.assertEqual(journal.read_on(), [])
+
+    def test_what_was_read_isn_t_read_again(self):
+        self.journal.write_bytes(log(header(), create("1.1", 1, "rect", 0, 0, 1, 1), gate=b""))
+        journal = Journal(self.journal)
+        journal.read_on()
+        with open(self.journal, "r+b") as file:
+            file.write(b"\xff" * self.journal.stat().st_size)
+            file.write(b"\xc3" + create("2.1", 2, "rect", 0, 0, 1, 1))
+        self.assertEqual([event["id"] for event in journal.read_on()], ["2.1"])
+
+
+class Faults(WithFolder):
+    def test_what_is_no_log_is_told_each_time(self):
+        made = create("1.1", 1, "rect", 0, 0, 1, 1)
+        rows = {
+            "another magic": b"GDOB" + header()[4:] + b"\x00",
+            "version three": header(version=3) + b"\x00",
+            "no such tag": log(header(), record("1.1", 1, 11, stamp("1.1"))),
+            "no such kind": log(header(), made[:10] + b"\x05" + made[11:]),
+            "no such style": log(header(), record("2.1", 1, 5, stamp("1.1") + b"\x04\x00\x00\x00\x00")),
+            "a label of no UTF-8": log(header(), record("2.1", 1, 6, stamp("1.1") + b"\x01\xff")),
+        }
+        for name, data in rows.items():
+            self.journal.write_bytes(data)
+            journal = Journal(self.journal)
+            for _ in range(2):
+                with self.assertRaises(BadJournal, msg=name):
+                    journal.read_on()

@@ -1,0 +1,129 @@
+// Logs for tests, in the bytes of docs/FORMATS.md, and what the program's `replay` says of them.
+
+import { execFileSync } from "node:child_process";
+import { existsSync } from "node:fs";
+
+const BUILT = new URL("../../../crates/groupdesign/out/groupdesign", import.meta.url).pathname;
+export const PROGRAM = process.env.PAGE_PROGRAM || (existsSync(BUILT) ? BUILT : null);
+const KINDS = { rect: 1, ellipse: 2, line: 3, text: 4 };
+const STYLES = { stroke: 1, fill: 2, width: 3 };
+
+/** What `replay` prints of a log in one of its formats. */
+export function replayed(log, ...words) {
+  return execFileSync(PROGRAM, ["replay", ...words], { input: log, maxBuffer: 1 << 28 }).toString();
+}
+
+/** The events of a log, as the bridge tells them: the object that an event is about is its `target`. */
+export const eventsOf = (log) => JSON.parse(replayed(log, "--format", "events")).map(({ id, ...rest }) => ({ ...rest, target: id }));
+
+/** How many events were applied, dropped, reworked, and undone in all. */
+export function countsOf(log) {
+  const words = replayed(log, "--counts").trim().split("\n").pop().split(" ");
+  return [2, 4, 6, 8].map((at) => Number(words[at]));
+}
+
+class Bytes {
+  constructor() {
+    this.list = [];
+  }
+
+  number(value, size) {
+    let left = BigInt.asUintN(size * 8, BigInt(value));
+    const at = this.list.length;
+    for (let count = 0; count < size; count += 1) {
+      this.list[at + size - 1 - count] = Number(left & 255n);
+      left >>= 8n;
+    }
+    return this;
+  }
+
+  stamp({ clock, site }) {
+    return this.number(clock, 6).number(site, 1);
+  }
+
+  label(text) {
+    const bytes = new TextEncoder().encode(text);
+    this.number(bytes.length, 1).list.push(...bytes);
+    return this;
+  }
+}
+
+const WRITERS = {
+  create: (bytes, e) => [e.x, e.y, e.w, e.h].reduce((all, each) => all.number(each, 4), bytes.number(1, 1).number(KINDS[e.kind], 1)).label(e.label),
+  delete: (bytes, e) => bytes.number(2, 1).stamp(e.on),
+  move: (bytes, e) => bytes.number(3, 1).stamp(e.on).number(e.x, 4).number(e.y, 4),
+  resize: (bytes, e) => bytes.number(4, 1).stamp(e.on).number(e.w, 4).number(e.h, 4),
+  restyle: (bytes, e) => bytes.number(5, 1).stamp(e.on).number(STYLES[e.style], 1).number(e.value ?? 0xffffffff, 4),
+  retext: (bytes, e) => bytes.number(6, 1).stamp(e.on).label(e.label),
+  group: (bytes, e) => e.members.reduce((all, each) => all.stamp(each).number(each.dx, 4).number(each.dy, 4), bytes.number(7, 1).number(e.members.length, 1)),
+  ungroup: (bytes, e) => bytes.number(8, 1).stamp(e.on),
+  raise: (bytes, e) => bytes.number(9, 1).stamp(e.on),
+  lower: (bytes, e) => bytes.number(10, 1).stamp(e.on),
+};
+
+/** The log of events of so many sites, in the order in which they stand. */
+export function logOf(events, sites) {
+  const bytes = new Bytes();
+  bytes.list.push(...new TextEncoder().encode("GDOL"));
+  bytes.number(2, 1).number(7, 4).number(1, 1).number(sites, 1);
+  const counts = new Map();
+  for (const event of events) {
+    counts.set(event.site, (counts.get(event.site) ?? 0) + 1);
+    bytes.number(0xc3, 1).stamp(event).number(counts.get(event.site), 2);
+    WRITERS[event.op](bytes, event);
+  }
+  bytes.number(0, 1);
+  return Buffer.from(bytes.list);
+}
+
+/** A generator of numbers below a bound, the same for the same seed. */
+export function drawer(seed) {
+  let state = seed >>> 0;
+  return (below) => {
+    state = (Math.imul(state, 1664525) + 1013904223) >>> 0;
+    return Math.floor((state / 2 ** 32) * below);
+  };
+}
+
+const compare = (a, b) => a.clock - b.clock || a.site - b.site;
+
+/** An operation on one of the objects that were made before a stamp; none of them need be there any more. */
+function operation(draw, stamp, made) {
+  const place = () => ({ x: draw(2001) - 1000, y: draw(2001) - 1000 });
+  const size = () => ({ w: draw(401) - 200, h: draw(401) - 200 });
+  const before = made.filter((each) => compare(each, stamp) < 0);
+  const pick = draw(20);
+  if (pick < 4 || before.length < 2) return { op: "create", kind: Object.keys(KINDS)[draw(4)], ...place(), ...size(), label: ["", "a", "é \"q\\", "שלום"][draw(4)] };
+  const on = before[draw(before.length)];
+  if (pick < 8) return { op: "move", on, ...place() };
+  if (pick < 9) return { op: "resize", on, ...size() };
+  if (pick < 12) return { op: "restyle", on, ...[{ style: "stroke", value: draw(1 << 24) }, { style: "fill", value: draw(2) ? null : draw(1 << 24) }, { style: "width", value: 1 + draw(64) }][draw(3)] };
+  if (pick < 13) return { op: "retext", on, label: `t${draw(9)}` };
+  if (pick < 16) {
+    const members = [...new Set(Array.from({ length: 2 + draw(4) }, () => before[draw(before.length)]))].sort(compare);
+    return members.length > 1 ? { op: "group", members: members.map((each) => ({ ...each, dx: draw(99) - 49, dy: draw(99) - 49 })) } : { op: "raise", on };
+  }
+  return { op: ["delete", "ungroup", "raise", "lower"][pick - 16], on };
+}
+
+/** Random events of some sites, merged at random, so that many come late. */
+export function randomEvents(seed, count, sites) {
+  const draw = drawer(seed);
+  const made = [];
+  const clocks = Array.from({ length: sites }, () => 0);
+  const lists = Array.from({ length: sites }, () => []);
+  for (let at = 0; at < count; at += 1) {
+    const site = 1 + draw(sites);
+    clocks[site - 1] += 1 + draw(3);
+    const stamp = { clock: clocks[site - 1], site };
+    const event = { ...stamp, ...operation(draw, stamp, made) };
+    if (event.op === "create" || event.op === "group") made.push(stamp);
+    lists[site - 1].push(event);
+  }
+  const events = [];
+  while (lists.some((list) => list.length)) {
+    const list = lists[draw(sites)];
+    if (list.length) events.push(list.shift());
+  }
+  return events;
+}

@@ -1,0 +1,131 @@
+// Words: keys, states of the node, refusals, what late events are told as.
+
+import "./ui_stub.mjs";
+import assert from "node:assert/strict";
+import test from "node:test";
+
+const { chordOf } = await import("../../static/ui/keys.js");
+const { COMMANDS } = await import("../../static/ui/commands.js");
+const { keyText } = await import("../../static/ui/h.js");
+const { stateOf, nameOf, strangerWords } = await import("../../static/ui/standing.js");
+const { stateOf: personState } = await import("../../static/ui/roster.js");
+const { count, initialOf, plainWords, shortened } = await import("../../static/ui/words.js");
+const { tellLates } = await import("../../static/ui/arrivals.js");
+const { deedOf, repairOf } = await import("../../static/ui/deeds.js");
+
+test("a key goes by what it types where that is Latin, else by where it lies", () => {
+  const none = { shiftKey: false, altKey: false, ctrlKey: false, metaKey: false };
+  const rows = [
+    [{ key: "r", code: "KeyR" }, "R"],
+    [{ key: "к", code: "KeyR" }, "R"],
+    [{ key: "я", code: "KeyZ", ctrlKey: true }, "Mod+Z"],
+    [{ key: "Z", code: "KeyZ", ctrlKey: true, shiftKey: true }, "Mod+Shift+Z"],
+    [{ key: "z", code: "KeyY", ctrlKey: true }, "Mod+Z"],
+    [{ key: "å", code: "KeyA", altKey: true }, "Alt+A"],
+    [{ key: "!", code: "Digit1", shiftKey: true }, "Shift+1"],
+    [{ key: "?", code: "Slash", shiftKey: true }, "?"],
+    [{ key: "+", code: "Equal", shiftKey: true }, "+"],
+    [{ key: "[", code: "BracketLeft" }, "["],
+    [{ key: "ü", code: "BracketLeft" }, "["],
+    [{ key: "Delete", code: "Delete" }, "Delete"],
+    [{ key: "ArrowLeft", code: "ArrowLeft", altKey: true }, "Alt+ArrowLeft"],
+    [{ key: "z", code: "KeyZ", metaKey: true }, "Mod+Z"],
+  ];
+  for (const [event, chord] of rows) assert.equal(chordOf({ ...none, ...event }), chord);
+});
+
+test("no key stands for two commands, and each command has a name and an icon", () => {
+  const keys = COMMANDS.flatMap((command) => command.keys);
+  assert.equal(new Set(keys).size, keys.length);
+  assert.equal(new Set(COMMANDS.map((command) => command.id)).size, COMMANDS.length);
+  for (const command of COMMANDS) assert.ok(command.title && command.icon && command.group);
+  assert.equal(keyText("Mod+Shift+Z"), "Ctrl+Shift+Z");
+  assert.equal(keyText("Alt+ArrowLeft"), "Alt+←");
+});
+
+test("where the node stands, in words", () => {
+  const fine = { connected: true, why: null, ended: null, silent: false, waiting: 0, others: 1, here: 1, wasHere: true };
+  const rows = [
+    [{}, "on", "All have all edits", null],
+    [{ waiting: 1 }, "waits", "1 edit waits for others", null],
+    [{ waiting: 3 }, "waits", "3 edits wait for others", null],
+    [{ others: 0, here: 0 }, "on", "You draw alone", null],
+    [{ here: 0 }, "off", "Offline", "Offline: you can go on drawing"],
+    [{ here: 0, waiting: 1 }, "off", "Offline, 1 edit waits", "Offline: 1 edit waits here, safe on this machine"],
+    [{ here: 0, waiting: 1200 }, "off", "Offline, 1,200 edits wait", "Offline: 1,200 edits wait here, safe on this machine"],
+    [{ here: 0, wasHere: false }, "alone", "Nobody else is here", null],
+  ];
+  for (const [other, kind, words, banner] of rows) assert.deepEqual(stateOf({ ...fine, ...other }), { kind, words, banner });
+  const lost = stateOf({ ...fine, connected: false, ended: { status: 5, meaning: "its journal failed", said: "" } });
+  assert.equal(lost.kind, "lost");
+  const whys = { ended: /^.\/draw has ended/, replaced: /^Another .\/draw/ };
+  for (const [why, words] of Object.entries(whys)) assert.match(stateOf({ ...fine, connected: false, why }).banner, words);
+  const ended = stateOf({ ...fine, ended: { status: 5, meaning: "its journal failed", said: "" } });
+  assert.equal(ended.kind, "ended");
+  assert.match(ended.banner, /its journal failed/);
+  assert.equal(stateOf({ ...fine, silent: true }).kind, "silent");
+  const strangers = [
+    ["frame refused: Session", /another session/], ["frame refused: NotForMe", /same order/], ["frame refused: Short at 0", /no frames/],
+    ["polled 1", null], ["echo 1.1 applied", null],
+  ];
+  for (const [line, words] of strangers) words ? assert.match(strangerWords(line), words) : assert.equal(strangerWords(line), null);
+  assert.equal(nameOf("/drawings/spring plan.log"), "spring plan");
+  assert.equal(nameOf(""), "Board");
+});
+
+test("where another person is, in words", () => {
+  const seat = { site: 2, name: "Bob", me: false, here: true, away: null, selection: new Set() };
+  const rows = [
+    [{ away: false, perhaps: false, heard: 3 }, "here now"],
+    [{ away: false, perhaps: true, heard: 3 }, "may be away"],
+    [{ away: true, perhaps: false, heard: 3 }, "away"],
+    [{ away: true, perhaps: false, heard: null }, "hasn’t come yet"],
+  ];
+  for (const [peer, words] of rows) assert.equal(personState(seat, peer), words);
+  assert.equal(personState({ ...seat, me: true }, undefined), "you");
+});
+
+test("counts, initials, refusals and long texts", () => {
+  assert.deepEqual([count(1), count(2), count(1500, "edit")], ["1 object", "2 objects", "1,500 edits"]);
+  assert.deepEqual(["ada", " Борис", "🙂 x", "山田", ""].map(initialOf), ["A", "Б", "🙂", "山", "?"]);
+  assert.equal(plainWords("refused: NoObject"), "it is gone, someone deleted it");
+  assert.equal(plainWords("something else"), "something else");
+  assert.deepEqual([shortened("abc", 3), shortened("abcd", 3), shortened("🙂🙂🙂🙂", 3)], ["abc", "ab…", "🙂🙂…"]);
+});
+
+const event = (stamp, came, more = {}) => {
+  const [clock, site] = stamp.split(".").map(Number);
+  return { op: "move", id: "1.1", clock, site, stamp, came, time: null, late: null, ...more };
+};
+const late = (what, redone = [], by = null) => ({ behind: 2, what, redone, by });
+
+test("late events are told once, with whose edits they came in before", () => {
+  const lates = [event("5.2", 7, { late: late("reworked", ["5.3"]) }), event("6.2", 8, { late: late("dropped", [], "7.1") })];
+  const events = [event("4.1", 0), lates[0], event("5.3", 1), event("6.1", 2), lates[1], event("7.1", 3)];
+  const name = (site) => ["", "You", "Bob", "Chen"][site];
+  assert.equal(tellLates(lates, events, 1, name, true), "Back: 2 late edits of Bob came in before 2 of yours");
+  assert.equal(tellLates(lates, events, 4, name, false), "2 late edits of Bob came in before 3 later ones");
+  const two = [...lates, event("6.3", 9, { late: late("dropped", [], "7.1") })];
+  assert.match(tellLates(two, [...events, two[2]], 1, name, false), /^3 late edits of Bob and Chen came in/);
+});
+
+test("what an event did, and how it was repaired", () => {
+  const made = [event("1.1", 0, { op: "create", kind: "rect", label: "A rather long label, and more of it" }), event("7.1", 1)];
+  const ed = {
+    node: { history: { byStamp: new Map(made.map((each) => [each.stamp, each])) } },
+    model: { byId: new Map() },
+    people: { name: (site) => ["", "You", "Bob"][site] },
+  };
+  assert.deepEqual(deedOf(ed, event("6.2", 3)), { who: "Bob", what: "moved “A rather long label, an…”" });
+  assert.deepEqual(deedOf(ed, event("6.2", 3, { op: "delete", id: "9.9" })), { who: "Bob", what: "deleted an object" });
+  const grouped = event("6.2", 3, { op: "group", members: [{}, {}, {}] });
+  assert.deepEqual(deedOf(ed, grouped), { who: "Bob", what: "grouped 3 objects" });
+  assert.equal(repairOf(ed, event("6.2", 3)), "");
+  const rows = [
+    [late("applied"), /^Came late, behind 2 later edits, and touches none/],
+    [late("dropped", [], "7.1"), /a later edit of yours overwrites it/],
+    [late("reworked", ["7.1"]), /^Came late: 1 later edit that depends on it was undone/],
+    [late("reworked", ["7.1", "8.1"]), /^Came late: 2 later edits that depend on it were undone/],
+  ];
+  for (const [each, words] of rows) assert.match(repairOf(ed, event("6.2", 3, { late: each })), words);
+});
