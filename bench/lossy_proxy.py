@@ -3,8 +3,9 @@
 
     lossy_proxy.py [--lose RATE] [--double RATE] [--delay RATE] [--reorder RATE] [--longest SECONDS] [--seed N] HERE=THERE ..
 
-What comes to each address HERE goes on to THERE. It runs until it is ended, or its standard input is, and then prints what
-became of the datagrams.
+What comes to each address HERE goes on to THERE, from the address HERE whose THERE sent it: a node passes over what comes from
+an address that it doesn't know. It runs until it is ended, or its standard input is, and then prints what became of the
+datagrams.
 """
 
 import argparse
@@ -14,7 +15,7 @@ import signal
 import socket
 import sys
 import time
-from collections import Counter
+from collections import Counter, namedtuple
 from random import Random
 
 KINDS = ["lose", "double", "delay", "reorder"]
@@ -23,6 +24,10 @@ HEADS = ["came", "lost", "doubled", "delayed", "reordered", "sent"]
 MOST = 65_536
 # After so many seconds a datagram that waits for the next one goes on alone.
 ALONE = 0.05
+
+
+# A datagram that came, and the socket from which it goes on.
+Datagram = namedtuple("Datagram", "content socket")
 
 
 def address_of(text):
@@ -46,6 +51,7 @@ class LossyProxy:
 
     def __init__(self, ways, rates, longest, seed):
         self.ways = [Way(*way) for way in ways]
+        self.way_to = {way.there: way for way in self.ways}
         self.rates, self.longest, self.draw = rates, longest, Random(seed)
         self.counts, self.later, self.turn = Counter(), [], 0
 
@@ -60,7 +66,7 @@ class LossyProxy:
     def send(self, way, datagram):
         self.counts["sent"] += 1
         try:
-            way.socket.sendto(datagram, way.there)
+            datagram.socket.sendto(datagram.content, way.there)
         except OSError:
             self.counts["lost"] += 1
 
@@ -92,10 +98,10 @@ class LossyProxy:
     def receive(self, way):
         while True:
             try:
-                datagram, _ = way.socket.recvfrom(MOST)
+                content, source = way.socket.recvfrom(MOST)
             except OSError:
                 return
-            self.take(way, datagram)
+            self.take(way, Datagram(content, self.way_to.get(source, way).socket))
 
     def send_what_is_due(self):
         now = time.monotonic()

@@ -1,6 +1,5 @@
 #!/usr/bin/env python3
-"""Writes the logs of this folder, and the input of the stored run of crates/groupdesign. Run again, it writes the
-same bytes.
+"""Writes the logs of this folder, and the input of the stored run of crates/groupdesign, where their bytes aren't there yet.
 
 A log is a header, then each event behind an open gate, then a closed gate. Numbers are big-endian.
 
@@ -35,6 +34,9 @@ A log of cards has the letters GDOB and version 1, and other events behind the n
 from pathlib import Path
 from struct import pack
 
+HERE = Path(__file__).resolve().parent
+# The input of the run that is stored with the program.
+STORED_INPUT = HERE.parent / "crates/groupdesign/stdin"
 RECT, ELLIPSE, LINE, TEXT = 1, 2, 3, 4
 STROKE, FILL, WIDTH = 1, 2, 3
 NONE = 0xFFFFFFFF
@@ -298,9 +300,19 @@ EXAMPLES = {
     "cut": TWO_SHAPES[:32],
 }
 
-if __name__ == "__main__":
+def write_changed(path, content):
+    """Leaves a file alone that has these bytes: one that is written anew makes a build stale."""
+    if not path.exists() or path.read_bytes() != content:
+        path.write_bytes(content)
+
+
+def main():
     for name, content in EXAMPLES.items():
-        Path(__file__).with_name(name + ".log").write_bytes(content)
+        write_changed(HERE / f"{name}.log", content)
     for name, content in OTHERS.items():
-        Path(__file__).with_name(name).write_bytes(content)
-    (Path(__file__).resolve().parent.parent / "crates/groupdesign/stdin").write_bytes(stored_run())
+        write_changed(HERE / name, content)
+    write_changed(STORED_INPUT, stored_run())
+
+
+if __name__ == "__main__":
+    main()
