@@ -1,0 +1,49 @@
+//! The keys that a search has asked for so far.
+
+ghost use Rattle.std.specs.Prelude.{◌≡◌, ◌≢◌, ℕ, [], IsTrue, OnOk};
+ghost use Rattle.gd_history.specs.Waits.{is_asked};
+
+use std::alloc::{AllocError, Global};
+use std::collections::BTreeSet;
+use std::marker::Model;
+
+/// Keys in order.
+#[derive(Drop)]
+pub(crate) struct Asked {
+    keys: BTreeSet<u64>,
+}
+
+impl Model for Asked {
+    ghost use Rattle.std.specs.Prelude.{ℕ, List};
+
+    ghost Value = { List ℕ };
+
+    ghost view = { λ a. a.keys.keys };
+}
+
+impl Asked {
+    /// No keys. It takes no memory.
+    pub(crate) fn new(alloc: Global) -> Asked
+        ensures { result ≡ [] }
+    {
+        Asked {
+            keys: BTreeSet::new(alloc),
+        }
+    }
+
+    /// Whether the key is one of them.
+    pub(crate) fn has(&self, key: u64) -> bool
+        ensures { result ≡ is_asked self.now key }
+    {
+        self.keys.contains(&key)
+    }
+
+    /// Puts the key among them.
+    pub(crate) fn put(&mut self, key: u64) -> Result<(), AllocError>
+        ensures { OnOk result ((k : ℕ)
+            → k ≢ key → IsTrue (is_asked self.new k) → IsTrue (is_asked self.old k)) }
+    {
+        self.keys.insert(key)?;
+        Ok(())
+    }
+}
