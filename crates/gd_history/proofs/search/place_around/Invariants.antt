@@ -1,0 +1,10 @@
+use Rattle.std.proofs.Common.{◌-◌}
+use Rattle.gd_history.specs.Entries.{events_of}
+use Rattle.gd_history.proofs.Halving.{Between}
+use Rattle.gd_history.proofs.search.place_around.Given as goal
+
+abbrev pub invariant-loop-low : goal.invariant-loop-low
+invariant-loop-low g l = Between l.stamp (events_of l.entries.items) l.low l.high
+
+abbrev pub decreases-loop-low : goal.decreases-loop-low
+decreases-loop-low g l = l.high - l.low
