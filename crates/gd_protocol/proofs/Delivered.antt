@@ -1,14 +1,14 @@
 -- A datagram that is a mail of a world is taken as that mail is delivered, and so are those of a poll.
-use Rattle.std.proofs.Common.{◌≡◌, ℕ, suc, zero, ◌≤◌, false, cond, List, [], ◌∷◌, length, map, slice_get, Some, refl, sym, ap, ◌∙◌, subst, arith}
+use Rattle.std.proofs.Common.{◌≡◌, ℕ, suc, zero, ◌≤◌, false, List, [], ◌∷◌, length, map, slice_get, Some, refl, sym, ap, ◌∙◌, subst, arith}
 use Rattle.std.proofs.lemmas.Bool.{le-ltb}
 use Rattle.std.specs.List.{AllByRecursion as Every}
 use Rattle.gd_base.proofs.Lists.{Every-at}
 use Rattle.gd_grammar.proofs.ExactFrame.{frame-length, frame-written}
-use Rattle.gd_grammar.specs.FrameBytes.{Frame, IsFrame, frame, frame_bytes}
-use Rattle.gd_outside.specs.Seen.{Entry, Packet}
+use Rattle.gd_grammar.specs.FrameBytes.{Frame, IsFrame, frame_bytes}
+use Rattle.gd_outside.specs.Seen.{Entry}
 use Rattle.gd_reference.specs.NodeRun.{after_datagram, is_too_long, of_datagram, received}
 use Rattle.gd_reference.specs.Offers.{take_frame}
-use Rattle.gd_reference.specs.SiteEffects.{after_read, of_frame, of_read}
+use Rattle.gd_reference.specs.SiteEffects.{of_frame}
 use Rattle.gd_reference.specs.SlowSite.{SlowSite}
 use Rattle.gd_reference.specs.World.{World, Deliver, after_from, delivered, happens, with_site}
 use Rattle.gd_protocol.proofs.Lists.{put_same}
@@ -29,7 +29,8 @@ unfolding with_site
 at_delivered w f s to =
     put_same w.at f.head.to (take_frame (w.at f.head.to) f) s (sym to) ∙ ap (λ (t : ℕ). take_frame (w.at t) f) to
 
-pub delivered_datagram : (w : World) (k : ℕ) (f : Frame) (s : ℕ) → Every IsFrame w.mail → slice_get w.mail k ≡ Some f → f.head.to ≡ s
+pub delivered_datagram : (w : World) (k : ℕ) (f : Frame) (s : ℕ) → Every IsFrame w.mail → slice_get w.mail k ≡ Some f
+    → f.head.to ≡ s
     → after_datagram (w.at s) (frame_bytes f) ≡ (happens w (Deliver k)).at s
 unfolding happens
 delivered_datagram w k f s frames there to =
@@ -41,14 +42,16 @@ mail_stays : (w : World) (k : ℕ) (f : Frame) → slice_get w.mail k ≡ Some f
 unfolding happens with_site
 mail_stays w k f there = ap (λ m. (delivered w m).mail) there
 
-brought_still : (v w : World) (s : ℕ) (ks : List ℕ) (es : List Entry) → v.mail ≡ w.mail → BringMail w s ks es → BringMail v s ks es
+brought_still : (v w : World) (s : ℕ) (ks : List ℕ) (es : List Entry) → v.mail ≡ w.mail → BringMail w s ks es
+    → BringMail v s ks es
 brought_still v w s [] [] same b = tt
 brought_still v w s [] (e ∷ es) same b = b
 brought_still v w s (k ∷ ks) [] same b = b
 brought_still v w s (k ∷ ks) (e ∷ es) same (f, there, to, is, rest) =
     (f, ap (λ m. slice_get m k) same ∙ there, to, is, brought_still v w s ks es same rest)
 
-pub received_mail : (most count : ℕ) (w : World) (s : ℕ) (ks : List ℕ) (es : List Entry) → Every IsFrame w.mail → BringMail w s ks es → length ks ≤ most
+pub received_mail : (most count : ℕ) (w : World) (s : ℕ) (ks : List ℕ) (es : List Entry) → Every IsFrame w.mail
+    → BringMail w s ks es → length ks ≤ most
     → (received most count (w.at s) es).site ≡ (after_from w (map Deliver ks)).at s
 unfolding received after_from
 received_mail zero count w s [] [] frames b few = refl
@@ -62,4 +65,5 @@ received_mail (suc most) count w s (k ∷ ks) (e ∷ es) frames (f, there, to, i
     let same = mail_stays w k f there in
     ap (λ x. (received (suc most) count (w.at s) (x ∷ es)).site) is
     ∙ ap (λ x. (received most (suc count) x es).site) (delivered_datagram w k f s frames there to)
-    ∙ received_mail most (suc count) next s ks es (subst (Every IsFrame) (sym same) frames) (brought_still next w s ks es same rest) (omega (arith, few))
+    ∙ received_mail most (suc count) next s ks es (subst (Every IsFrame) (sym same) frames)
+    (brought_still next w s ks es same rest) (omega (arith, few))

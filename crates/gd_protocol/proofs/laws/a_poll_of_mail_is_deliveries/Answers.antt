@@ -11,7 +11,8 @@ use Rattle.gd_protocol.proofs.laws.a_poll_of_mail_is_deliveries.Goals as goal
 
 pub returns-clause-site : goal.returns-clause-site
 returns-clause-site c sites session steps s ks es run b few =
-    received_mail most_datagrams 0 (after sites session steps) s ks es (ranged_after sites session steps run).frames b few
+    received_mail most_datagrams 0 (after sites session steps) s ks es
+    (ranged_after sites session steps run).frames b few
 
 pub returns-clause-taken : goal.returns-clause-taken
 returns-clause-taken c sites session steps k f run there =
