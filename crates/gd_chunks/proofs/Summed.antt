@@ -29,12 +29,14 @@ length-raised from ns =
     ∙ sym (length-append (take from ns) (drop from ns))
     ∙ ap length (take-append-drop from ns)
 
-raised_before : (from k : ℕ) (ns : List ℕ) → from ≤ length ns → k < from → slice_index (raised from ns) k ≡ slice_index ns k
+raised_before : (from k : ℕ) (ns : List ℕ) → from ≤ length ns → k < from
+    → slice_index (raised from ns) k ≡ slice_index ns k
 raised_before from k ns within low =
     let long = length-take-le from ns within in
     get_or_append_left (take from ns) (map (λ n. n + 1) (drop from ns)) 0 k (omega arith) ∙ get_or-take from ns k 0 low
 
-raised_from : (from k : ℕ) (ns : List ℕ) → from ≤ k → k < length ns → slice_index (raised from ns) k ≡ slice_index ns k + 1
+raised_from : (from k : ℕ) (ns : List ℕ) → from ≤ k → k < length ns
+    → slice_index (raised from ns) k ≡ slice_index ns k + 1
 raised_from from k ns high inside =
     let long = length-take-le from ns (omega arith) in
     let at : from + (k - from) ≡ k = omega arith in
@@ -60,9 +62,11 @@ module _ (bs os : List ℕ) (are : AreSummed bs os) where
     sum_read = sum_is ∙ sym (summed_at bs os k inside)
 
   -- a number more
-  module _ (bs2 : List ℕ) (o n : ℕ) (same : (k : ℕ) → k < length bs → slice_index bs2 k ≡ slice_index bs k) (sum : slice_index bs2 (length os / BLOCK) + o ≡ n) where
+  module _ (bs2 : List ℕ) (o n : ℕ) (same : (k : ℕ) → k < length bs → slice_index bs2 k ≡ slice_index bs k)
+      (sum : slice_index bs2 (length os / BLOCK) + o ≡ n) where
     sum_same : (k : ℕ) → k < length os → sum_at bs2 (os ++ o ∷ []) k ≡ sum_at bs os k
-    sum_same k inside = omega (arith, same (k / BLOCK) (block_inside k inside), get_or_append_left os (o ∷ []) 0 k inside)
+    sum_same k inside =
+        omega (arith, same (k / BLOCK) (block_inside k inside), get_or_append_left os (o ∷ []) 0 k inside)
 
     sum_last : (k : ℕ) → length os ≡ k → sum_at bs2 (os ++ o ∷ []) k ≡ n
     sum_last k end = omega (arith, sum, get_or_push os o 0 k end, ap (λ j. slice_index bs2 (j / BLOCK)) end)
@@ -75,8 +79,10 @@ module _ (bs os : List ℕ) (are : AreSummed bs os) where
         (λ k (h : k < length (summed bs2 (os ++ o ∷ []))).
         let here = summed_at bs2 (os ++ o ∷ []) k (omega (arith, length_push os o)) in
         ⊎_elim
-        (λ (inside : k < length os). here ∙ sum_same k inside ∙ sym (summed_at bs os k inside) ∙ sym (get_or_append_left (summed bs os) (n ∷ []) 0 k (omega arith)))
-        (λ (end : length os ≤ k). let last : length os ≡ k = omega arith in here ∙ sum_last k last ∙ sym (get_or_push (summed bs os) n 0 k (omega arith)))
+        (λ (inside : k < length os). here ∙ sum_same k inside ∙ sym (summed_at bs os k inside)
+        ∙ sym (get_or_append_left (summed bs os) (n ∷ []) 0 k (omega arith)))
+        (λ (end : length os ≤ k). let last : length os ≡ k = omega arith in here ∙ sum_last k last
+        ∙ sym (get_or_push (summed bs os) n 0 k (omega arith)))
         (cases_lt k (length os)))
 
   -- the first numbers, and their blocks
@@ -96,7 +102,8 @@ module _ (bs os : List ℕ) (are : AreSummed bs os) where
         ext_get_or 0 (summed (take m bs) (take n os)) (take n (summed bs os)) (omega arith)
         (λ k (h : k < length (summed (take m bs) (take n os))).
         let low : k < n = omega arith in
-        summed_at (take m bs) (take n os) k (omega arith) ∙ sum_kept k low ∙ sym (summed_at bs os k (omega arith)) ∙ sym (get_or-take n (summed bs os) k 0 low))
+        summed_at (take m bs) (take n os) k (omega arith) ∙ sum_kept k low ∙ sym (summed_at bs os k (omega arith))
+        ∙ sym (get_or-take n (summed bs os) k 0 low))
 
     pub AreSummed-take : AreSummed (take m bs) (take n os)
     AreSummed-take =
@@ -109,15 +116,18 @@ module _ (bs os : List ℕ) (are : AreSummed bs os) where
         }
 
   -- a number that begins a block
-  pub summed-begun : (n : ℕ) → length os / BLOCK ≡ length bs → summed (bs ++ n ∷ []) (os ++ 0 ∷ []) ≡ summed bs os ++ n ∷ []
+  pub summed-begun : (n : ℕ) → length os / BLOCK ≡ length bs
+      → summed (bs ++ n ∷ []) (os ++ 0 ∷ []) ≡ summed bs os ++ n ∷ []
   summed-begun n end =
       let first = get_or_push bs n 0 (length os / BLOCK) (sym end) in
       summed-push (bs ++ n ∷ []) 0 n (λ k h. get_or_append_left bs (n ∷ []) 0 k h) (omega arith)
 
   -- a number in the last block
-  module _ (b n : ℕ) (inside : length os / BLOCK ≡ length bs → ⊥) (block : b ≡ get_or bs (length os / BLOCK) b) (rising : (k : ℕ) → k < length (summed bs os) → slice_index (summed bs os) k ≤ n) where
+  module _ (b n : ℕ) (inside : length os / BLOCK ≡ length bs → ⊥) (block : b ≡ get_or bs (length os / BLOCK) b)
+      (rising : (k : ℕ) → k < length (summed bs os) → slice_index (summed bs os) k ≤ n) where
     last_block : b ≡ slice_index bs (length os / BLOCK)
-    last_block = let enough = are.enough in let few = are.few in block ∙ get_or_default bs (length os / BLOCK) b 0 (omega arith)
+    last_block =
+        let enough = are.enough in let few = are.few in block ∙ get_or_default bs (length os / BLOCK) b 0 (omega arith)
 
     pub block_low : b ≤ n
     block_low =
@@ -126,13 +136,20 @@ module _ (bs os : List ℕ) (are : AreSummed bs os) where
         let last = length os - 1 in
         let some : last < length os = omega arith in
         let same : last / BLOCK ≡ length os / BLOCK = omega arith in
-        omega (arith, last_block, ap (λ j. slice_index bs j) same, summed_at bs os last some, rising last (omega (arith, length-summed bs os)))
+        omega (
+          arith,
+          last_block,
+          ap (λ j. slice_index bs j) same,
+          summed_at bs os last some,
+          rising last (omega (arith, length-summed bs os)),
+        )
 
     pub summed-more : summed bs (os ++ (n - b) ∷ []) ≡ summed bs os ++ n ∷ []
     summed-more = summed-push bs (n - b) n (λ k h. refl) (omega (arith, last_block, block_low))
 
   -- numbers raised: the rest of a block, and the blocks behind it
-  module _ (from : ℕ) (within : from ≤ length os) (room : (k : ℕ) → k < length (summed bs os) → slice_index (summed bs os) k + 1 < 2 ^ 64) where
+  module _ (from : ℕ) (within : from ≤ length os)
+      (room : (k : ℕ) → k < length (summed bs os) → slice_index (summed bs os) k + 1 < 2 ^ 64) where
     sum_room : (k : ℕ) → k < length os → sum_at bs os k + 1 < 2 ^ 64
     sum_room k inside = omega (arith, summed_at bs os k inside, room k (omega (arith, length-summed bs os)))
 
@@ -146,15 +163,22 @@ module _ (bs os : List ℕ) (are : AreSummed bs os) where
         let same : BLOCK * k / BLOCK ≡ k = omega arith in
         omega (arith, sum_room (BLOCK * k) first, ap (λ j. slice_index bs j) same)
 
-    module _ (bs2 os2 : List ℕ) (next end last : ℕ) (next_is : next ≡ from / BLOCK + 1) (end_is : end ≡ min (length os) (next * BLOCK)) (last_is : last ≡ length bs) (offsets : AreRaised os os2 from end) (blocks : AreRaised bs bs2 next last) where
+    module _ (bs2 os2 : List ℕ) (next end last : ℕ) (next_is : next ≡ from / BLOCK + 1)
+        (end_is : end ≡ min (length os) (next * BLOCK)) (last_is : last ≡ length bs)
+        (offsets : AreRaised os os2 from end) (blocks : AreRaised bs bs2 next last) where
       sum_before : (k : ℕ) → k < from → sum_at bs2 os2 k ≡ sum_at bs os k
       sum_before k low = omega (arith, offsets.before k low, blocks.before (k / BLOCK) (omega arith))
 
       sum_from : (k : ℕ) → from ≤ k → k < length os → sum_at bs2 os2 k ≡ sum_at bs os k + 1
       sum_from k high inside =
           ⊎_elim
-          (λ (here : k < next * BLOCK). omega (arith, offsets.between k high (omega arith), blocks.before (k / BLOCK) (omega arith)))
-          (λ (behind : next * BLOCK ≤ k). omega (arith, offsets.behind k (omega arith), blocks.between (k / BLOCK) (omega arith) (omega (arith, block_inside k inside))))
+          (λ (here : k < next * BLOCK). omega
+          (arith, offsets.between k high (omega arith), blocks.before (k / BLOCK) (omega arith)))
+          (λ (behind : next * BLOCK ≤ k). omega (
+            arith,
+            offsets.behind k (omega arith),
+            blocks.between (k / BLOCK) (omega arith) (omega (arith, block_inside k inside)),
+          ))
           (cases_lt k (next * BLOCK))
 
       pub summed-raised : summed bs2 os2 ≡ raised from (summed bs os)
@@ -167,8 +191,10 @@ module _ (bs os : List ℕ) (are : AreSummed bs os) where
           let inside : k < length os = omega arith in
           let here = summed_at bs2 os2 k (omega arith) in
           ⊎_elim
-          (λ (low : k < from). here ∙ sum_before k low ∙ sym (summed_at bs os k inside) ∙ sym (raised_before from k (summed bs os) (omega arith) low))
-          (λ (high : from ≤ k). here ∙ sum_from k high inside ∙ ap (λ n. n + 1) (sym (summed_at bs os k inside)) ∙ sym (raised_from from k (summed bs os) high (omega arith)))
+          (λ (low : k < from). here ∙ sum_before k low ∙ sym (summed_at bs os k inside)
+          ∙ sym (raised_before from k (summed bs os) (omega arith) low))
+          (λ (high : from ≤ k). here ∙ sum_from k high inside ∙ ap (λ n. n + 1) (sym (summed_at bs os k inside))
+          ∙ sym (raised_from from k (summed bs os) high (omega arith)))
           (cases_lt k from))
 
       pub AreSummed-raised : AreSummed bs2 os2
@@ -187,7 +213,8 @@ module _ (bs os : List ℕ) (are : AreSummed bs os) where
           }
 
 -- the numbers up to the end, or none of them, where the end lies before the first
-pub AreRaised-upto : (old new : List ℕ) (from to at : ℕ) → to ≤ at → (from ≤ to → at ≤ to) → (to < from → at ≡ from) → AreRaised old new from at → AreRaised old new from to
+pub AreRaised-upto : (old new : List ℕ) (from to at : ℕ) → to ≤ at → (from ≤ to → at ≤ to) → (to < from → at ≡ from)
+    → AreRaised old new from at → AreRaised old new from to
 AreRaised-upto old new from to at end upto idle raised =
     ⊎_elim
     (λ (none : to < from).

@@ -47,7 +47,8 @@ pub(crate) fn find<T>(rows: &[Row<T>], starts: &Starts, at: usize) -> Place
     requires starts { starts.now.items ≡ starts_from 0 rows.now }
     requires at { at ≤ length (joined rows.now) }
     ensures place { IsPlace rows.now at result.row result.column }
-    ensures inside { at < length (joined rows.now) → result.column < length (row_at rows.now result.row) }
+    ensures inside { at < length (joined rows.now)
+        → result.column < length (row_at rows.now result.row) }
 {
     let row = last_upto(starts, at);
     Place {
@@ -107,7 +108,8 @@ fn part<T: Drop>(rows: &mut Vec<Row<T>>, starts: &mut Starts, blank: Vec<T>, row
 fn halved(place: Place) -> Place
     requires { place.row + 1 < 2 ^ 64 }
     ensures row { result.row ≡ (if nat_lt HALF place.column then place.row + 1 else place.row) }
-    ensures column { result.column ≡ (if nat_lt HALF place.column then place.column - HALF else place.column) }
+    ensures column { result.column
+        ≡ (if nat_lt HALF place.column then place.column - HALF else place.column) }
 {
     if HALF < place.column {
         Place {
@@ -135,7 +137,8 @@ pub(crate) fn room_for<T: Drop>(
     requires blank_room { ROW ≤ vec_capacity blank.old }
     requires rows_room { vec_len rows.old < vec_capacity rows.old }
     requires starts_room { 0 < starts.old.room }
-    ensures room { HasRoom rows.old.items rows.new.items starts.new.items at result.row result.column }
+    ensures room { HasRoom rows.old.items rows.new.items starts.new.items at
+        result.row result.column }
     ensures blank { blank.new.items ≡ [] }
 {
     if rows.is_empty() {

@@ -25,7 +25,10 @@ impl Model for Starts {
 
     ghost Value = { StartsValue };
 
-    ghost view = { λ s. record { items = summed s.blocks.items s.offsets.items; room = min (vec_capacity s.offsets) (BLOCK * vec_capacity s.blocks) - vec_len s.offsets } };
+    ghost view = { λ s. record {
+      items = summed s.blocks.items s.offsets.items;
+      room = min (vec_capacity s.offsets) (BLOCK * vec_capacity s.blocks) - vec_len s.offsets;
+    } };
 
     ghost invariant = { λ s. AreSummed s.blocks.items s.offsets.items };
 }
@@ -69,7 +72,8 @@ impl Starts {
     /// Puts a number at the end, where there is room. It may not be below any of the others.
     pub(crate) fn push_reserved(&mut self, number: usize)
         requires room { 0 < self.old.room }
-        requires rising { (k : ℕ) → k < length self.old.items → slice_index self.old.items k ≤ number }
+        requires rising { (k : ℕ)
+            → k < length self.old.items → slice_index self.old.items k ≤ number }
         ensures items { self.new.items ≡ self.old.items ++ number ∷ [] }
         ensures room { self.new.room + 1 ≡ self.old.room }
     {
@@ -86,7 +90,8 @@ impl Starts {
     /// Raises the numbers from the index on by one.
     pub(crate) fn raise(&mut self, from: usize)
         requires from { from ≤ length self.old.items }
-        requires room { (k : ℕ) → k < length self.old.items → slice_index self.old.items k + 1 < 2 ^ 64 }
+        requires room { (k : ℕ)
+            → k < length self.old.items → slice_index self.old.items k + 1 < 2 ^ 64 }
         ensures { self.new.items ≡ raised from self.old.items }
     {
         let next = from / BLOCK + 1;
