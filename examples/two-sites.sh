@@ -19,12 +19,22 @@ give_up() {
     exit 1
 }
 
-# Waits until a file of a site has so many lines of that kind, for at most ten seconds.
+# Waits until a file of a site has so many lines of that kind, or some minutes.
 wait_for() {
     tries=0
     until [ "$(grep -c "$2" "$1")" -ge "$3" ]; do
         tries=$((tries + 1))
-        [ "$tries" -le 500 ] || give_up "no answer: $(tail -n 1 "$1")"
+        [ "$tries" -le 10000 ] || give_up "no answer: $(tail -n 1 "$1")"
+        sleep 0.02
+    done
+}
+
+# Waits until the site of that process is ready, or has ended, or some minutes.
+is_ready() {
+    tries=0
+    until grep -q '^ready' "$room/$1.out"; do
+        tries=$((tries + 1))
+        kill -0 "$2" 2>/dev/null && [ "$tries" -le 10000 ] || return 1
         sleep 0.02
     done
 }
@@ -51,7 +61,7 @@ start() {
 # The first run of the program builds it where that is needed.
 [ "$("$program" replay <"$here/empty.log")" = 'end 0' ] || give_up "$program replays no empty log"
 
-# Ports that others have are few, so that another pair is tried where a site ends at once.
+# Ports that others have are few, so that another pair is tried where a site ends before it is ready.
 port=$((20000 + $$ % 20000))
 until [ -n "$second" ]; do
     here1=127.0.0.1:$port here2=127.0.0.1:$((port + 1))
@@ -62,16 +72,13 @@ until [ -n "$second" ]; do
     start 2
     second=$!
     exec 4>"$room/2.in"
-    sleep 0.2
-    if ! kill -0 "$first" 2>/dev/null || ! kill -0 "$second" 2>/dev/null; then
+    if ! is_ready 1 "$first" || ! is_ready 2 "$second"; then
         kill "$first" "$second" 2>/dev/null
         wait "$first" "$second" 2>/dev/null
         second='' port=$((port + 2))
         [ "$port" -lt 40100 ] || give_up 'no ports are free'
     fi
 done
-wait_for "$room/1.out" '^ready 1 of 2$' 1
-wait_for "$room/2.out" '^ready 2 of 2$' 1
 
 tell 1 'name Ada'
 tell 2 'name Bob'

@@ -1,7 +1,10 @@
 """Nodes of the built program: each a process with a journal on a file and a socket on loopback."""
 
+import itertools
 import os
+import random
 import shutil
+import signal
 import socket
 import subprocess
 import tempfile
@@ -36,9 +39,13 @@ def room(on_disk=False):
 class Peer:
     """The address of another site: what a node sends there, and what it gets from there."""
 
-    def __init__(self, host=HOST):
+    def __init__(self, host=HOST, port=0):
         self.socket = socket.socket(socket.AF_INET6 if ":" in host else socket.AF_INET, socket.SOCK_DGRAM)
-        self.socket.bind((host, 0))
+        try:
+            self.socket.bind((host, port))
+        except OSError:
+            self.socket.close()
+            raise
         self.socket.setblocking(False)
 
     @property
@@ -64,13 +71,30 @@ class Peer:
         self.socket.close()
 
 
+def spare_ports():
+    """Ports that the system gives nobody who asks for any port."""
+    low, high = map(int, Path("/proc/sys/net/ipv4/ip_local_port_range").read_text().split())
+    return max(range(10_000, low), range(high + 1, 65_536), key=len) or range(10_000, 65_536)
+
+
+# Each is handed out once, from one that is drawn on, so that nobody has it when its node binds it, however late that is.
+PORTS = spare_ports()
+TURNS = itertools.count(random.SystemRandom().randrange(len(PORTS)))
+
+
 def free_addresses(count, host=HOST):
-    """Addresses on loopback that nobody has right now."""
-    peers = [Peer(host) for _ in range(count)]
-    addresses = [peer.address for peer in peers]
-    for peer in peers:
+    """Addresses on loopback that nobody has right now, and that are handed out here alone."""
+    addresses = []
+    for turn in itertools.islice(TURNS, len(PORTS)):
+        try:
+            peer = Peer(host, PORTS[turn % len(PORTS)])
+        except OSError:
+            continue
+        addresses.append(peer.address)
         peer.close()
-    return addresses
+        if len(addresses) == count:
+            return addresses
+    raise OSError("no ports are free")
 
 
 def node_words(site, addresses, journal, *flags, session=SESSION):
@@ -85,9 +109,9 @@ class Node:
         self.pending = b""
         command = [*under, PROGRAM, *node_words(site, addresses, journal, *flags, session=session)]
         pipes = {"stdin": subprocess.PIPE, "stdout": subprocess.PIPE, "stderr": subprocess.PIPE, "bufsize": 0}
-        self.process = subprocess.Popen(command, **pipes | options)
-        # One that hangs is ended, so that whoever waits for its answer sees its end.
-        self.guard = threading.Timer(LONGEST, self.process.kill)
+        self.process = subprocess.Popen(command, **pipes | {"start_new_session": True} | options)
+        # One that hangs is ended with what it runs under, so that whoever waits for its answer sees its end.
+        self.guard = threading.Timer(LONGEST, os.killpg, (self.process.pid, signal.SIGKILL))
         self.guard.daemon = True
         self.guard.start()
 

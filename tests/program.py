@@ -2,8 +2,10 @@
 
 import os
 import subprocess
+import threading
 import unittest
 from concurrent.futures import ThreadPoolExecutor
+from contextlib import contextmanager
 from dataclasses import dataclass
 from pathlib import Path
 
@@ -40,6 +42,18 @@ def run_program(words, given=b"", **options):
     options = {"stdout": subprocess.PIPE, "stderr": subprocess.PIPE, "timeout": LONGEST} | options
     done = subprocess.run([PROGRAM, *words], **options)
     return Ended(done.returncode, done.stdout or b"", done.stderr or b"")
+
+
+@contextmanager
+def guarded(process):
+    """A process that is ended where it hangs, so that whoever waits for it sees its end."""
+    guard = threading.Timer(LONGEST, process.kill)
+    guard.daemon = True
+    guard.start()
+    try:
+        yield process
+    finally:
+        guard.cancel()
 
 
 def at_a_time(function, rows):

@@ -11,7 +11,7 @@ from contextlib import contextmanager
 from tests.nodes import Peer, free_addresses, node_words, room, started
 from tests.program import (
     BAD_LOG, DONE, JOURNAL_FAULT, LINK_FAULT, LONGEST, NO_MEMORY, OTHER_JOURNAL, PROGRAM, READ_FAULT,
-    WRITE_FAULT, Case, run_program,
+    WRITE_FAULT, Case, guarded, run_program,
 )
 from tests.spelled import header, log, square
 from tests.test_formats import VOTES, VOTES_TEXT
@@ -78,7 +78,8 @@ class Inputs(Case):
                 with opened(folder / "given", os.O_RDONLY) as file:
                     ended = run_program(words, stdin=file)
                 self.assertEqual((ended.printed, ended.status), (printed, DONE), words)
-            with subprocess.Popen([PROGRAM, *words], stdin=subprocess.PIPE, stdout=subprocess.PIPE, bufsize=0) as process:
+            pipes = {"stdin": subprocess.PIPE, "stdout": subprocess.PIPE, "bufsize": 0}
+            with subprocess.Popen([PROGRAM, *words], **pipes) as process, guarded(process):
                 for at in range(len(given)):
                     process.stdin.write(given[at : at + 1])
                 self.assertEqual((process.communicate()[0], process.returncode), (printed, DONE), words)
