@@ -7,9 +7,11 @@ import subprocess
 from dataclasses import dataclass
 
 from tests.nodes import Node, Peer, free_addresses, room
-from tests.program import DONE, JOURNAL_FAULT, LINK_FAULT, READ_FAULT, WRITE_FAULT, Case, at_a_time
+from tests.program import DONE, JOURNAL_FAULT, LINK_FAULT, LONGEST, PROGRAM, READ_FAULT, WRITE_FAULT, Case, at_a_time
 from tests.read import events_of
 from tests.spelled import frame, log, square
+from tests.test_formats import cards
+from tests.worked import TIE_SNAPSHOT
 
 STRACE = shutil.which("strace")
 CALLS = ["openat", "socket", "bind", "pwrite64", "fsync", "fdatasync", "ftruncate", "read", "write", "recvfrom", "sendto"]
@@ -84,13 +86,15 @@ def calls_of(trace):
     return calls
 
 
+def may_trace():
+    """Whether strace is there, and may trace."""
+    return STRACE and not subprocess.run([STRACE, "-o", "/dev/null", "true"], capture_output=True).returncode
+
+
 class Calls(Case):
     @classmethod
     def setUpClass(cls):
-        if not STRACE or subprocess.run([STRACE, "-o", "/dev/null", "true"], capture_output=True).returncode:
-            cls.whole = None
-        else:
-            cls.whole = session()
+        cls.whole = session() if may_trace() else None
 
     def setUp(self):
         if self.whole is None:
@@ -168,3 +172,45 @@ class Calls(Case):
                 size, at = map(int, re.search(r", (\d+), (\d+)\) += 1 \(INJECTED\)", written[call.number - 1]).groups())
                 if size > 1:
                     self.assertRegex(written[call.number], rf", {size - 1}, {at + 1}\) += {size - 1}$")
+
+
+# Each command that reads, an input that takes it several reads, and what is printed where a read behind so many bytes fails:
+# of a log nothing, of a view and a rehearsal a line for each whole item or line.
+SQUARES = [square((clock, 1), clock) for clock in range(1, 6_001)]
+CARD = b"\x01\x01\x00"
+CARDS = cards([clock.to_bytes(6, "big") + b"\x01" + clock.to_bytes(2, "big") + CARD for clock in range(1, 15_001)])
+STATUS, HELD = b"at 1 status\n", b"held 0 kept 0 line 0 clock 0\n"
+SHORT, ITEM = b"frame refused: Short at 0\n", b"\0\0"
+READS = [
+    *((words.split(), log(SQUARES), lambda size: b"") for words in ("replay", "replay --format json", "upgrade", "snapshot")),
+    (["board"], CARDS, lambda size: b""),
+    (["view"], TIE_SNAPSHOT + ITEM * 70_000, lambda size: SHORT * (max(0, size - len(TIE_SNAPSHOT)) // len(ITEM))),
+    (["rehearse", "--sites", "1"], STATUS * 12_000, lambda size: HELD * (size // len(STATUS))),
+]
+READ = re.compile(r"read\((\d+),.* = (\d+)$")
+
+
+def read_in_pieces(words, given, *strace):
+    """How a run under strace ends over a file of these bytes, what it prints, and its reads: of which file, and how many bytes."""
+    with room() as folder:
+        (folder / "given").write_bytes(given)
+        command = [STRACE, "-qq", "-o", folder / "trace", "-e", "trace=read", *strace, PROGRAM, *words]
+        with open(folder / "given", "rb") as file:
+            ended = subprocess.run(command, stdin=file, capture_output=True, timeout=LONGEST)
+        found = [READ.match(line) for line in (folder / "trace").read_text().splitlines()]
+        return ended.returncode, ended.stdout, [tuple(map(int, each.groups())) if each else (-1, 0) for each in found]
+
+
+class Reads(Case):
+    def test_a_read_that_fails_behind_others(self):
+        if not may_trace():
+            self.skipTest("strace isn't there, or may not trace")
+        for words, given, printed in READS:
+            status, _, reads = read_in_pieces(words, given)
+            own = [number for number, (file, _) in enumerate(reads, 1) if file == 0]
+            self.assertTrue(status == DONE and len(own) > 2, (words, status, own))
+            for number in (own[0], own[1], own[-1]):
+                status, found, before = read_in_pieces(words, given, "-e", f"inject=read:error=EIO:when={number}")
+                size = sum(count for file, count in before[: number - 1] if file == 0)
+                self.assertEqual(status, READ_FAULT, (words, size))
+                self.assertTrue(found == printed(size), (words, size, found[:100]))
