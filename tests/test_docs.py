@@ -60,6 +60,18 @@ class Commands(Case):
         else:
             self.assertNotIn("refused", ended.text)
 
+    # What ./draw hands on to a node, of each member of README's session, at addresses of this machine.
+    def test_words_of_draw(self):
+        found = re.findall(r"^    \w+: +\./draw (.*)$", (ROOT / "README.md").read_text(), re.MULTILINE)
+        self.assertEqual(len(found), 3)
+        for site, words in enumerate(found, 1):
+            address = re.compile(r"\d+\.\d+\.\d+\.\d+:\d+")
+            free = iter(free_addresses(len(address.findall(words))))
+            words = address.sub(lambda _: next(free), words)
+            ended = run_program(["node", *words.split()], b"", cwd=self.folder)
+            self.assertEqual((ended.text, ended.status), (f"ready {site} of 3\n", DONE), words)
+            (self.folder / "mine.log").unlink()
+
     def test_two_sites_draw_together(self):
         done = subprocess.run([ROOT / "examples/two-sites.sh", PROGRAM], capture_output=True, text=True, timeout=LONGEST)
         self.assertEqual(done.returncode, DONE, done.stdout + done.stderr)
