@@ -4,11 +4,12 @@ import os
 import resource
 
 from tests.launcher import checkout, launch
-from tests.nodes import Peer, free_addresses, node_words
+from tests.nodes import Node, Peer, free_addresses, node_words
 from tests.program import (
-    BAD_VIEW, DONE, JOURNAL_FAULT, LINE_LIMIT, LINK_FAULT, OTHER_JOURNAL, READ_FAULT, USAGE, WRITE_FAULT, Case,
+    BAD_LOG, BAD_VIEW, DONE, JOURNAL_FAULT, LINE_LIMIT, LINK_FAULT, OTHER_JOURNAL, READ_FAULT, ROOT, USAGE,
+    WRITE_FAULT, Case,
 )
-from tests.spelled import log
+from tests.spelled import header, log
 from tests.test_limits import nested, nested_text
 from tests.worked import TIE, TIE_SNAPSHOT, TIE_TEXT
 
@@ -35,7 +36,11 @@ class Told(Case):
     def test_where_a_run_was_carried_out_nothing_is_said(self):
         ended = launch(self.folder, ["replay"], TIE)
         self.assertEqual((ended.text, ended.status, ended.said), (TIE_TEXT, DONE, b""))
-        self.assertEqual(launch(self.folder, ["paint"]).status, USAGE)
+
+    def test_other_words_are_told(self):
+        printed = "usage: groupdesign COMMAND OPTIONS\n"
+        for words, said in [(["paint"], "paint"), (["reply"], "replay"), (["replay", "--counts=yes"], "replay"), ([""], "--help")]:
+            self.expect_told(words, b"", USAGE, printed, said)
 
     def test_a_failed_read_or_write_is_told(self):
         folder, full = os.open(self.folder, os.O_RDONLY), os.open("/dev/full", os.O_WRONLY)
@@ -52,11 +57,36 @@ class Told(Case):
         words = node_words(1, free_addresses(2), "three.log", "--resume")
         self.expect_told(words, b"", OTHER_JOURNAL, "other journal\n", "three.log")
 
+    # What is left of a start that failed, and a log that is cut.
+    def test_a_journal_that_is_no_log_is_told(self):
+        for contents, place, said in [(b"", 0, "empty"), (header(), 11, "no whole log")]:
+            (self.folder / "one.log").write_bytes(contents)
+            words = node_words(1, free_addresses(2), "one.log", "--resume")
+            self.expect_told(words, b"", BAD_LOG, f"bad log at {place}: Short\n", "one.log", said)
+
+    def test_what_is_no_journal_of_one_s_own_is_told(self):
+        (self.folder / "folder").mkdir()
+        self.expect_told(node_words(1, free_addresses(2), "folder", "--resume"), b"", JOURNAL_FAULT, "", "folder")
+        self.expect_told(node_words(1, free_addresses(2), "none/one.log"), b"", JOURNAL_FAULT, "", "none/one.log")
+        with Node(1, free_addresses(1), self.folder / "one.log") as node:
+            self.assertTrue(node.is_ready())
+            self.expect_told(node_words(1, free_addresses(2), "one.log", "--resume"), b"", JOURNAL_FAULT, "", "one.log", "held")
+            node.journal.unlink()
+            printed, status, said = node.end(b"create rect 0 0 1 1\n")
+            self.assertEqual((printed, status), ("", JOURNAL_FAULT))
+            self.assertRegex(said, r"^groupdesign: .*one\.log .*was taken away.*\n$")
+        if not os.geteuid():
+            (self.folder / "two.log").write_bytes(log([]))
+            os.chown(self.folder / "two.log", 12345, 12345)
+            words = node_words(1, free_addresses(2), "two.log", "--resume")
+            self.expect_told(words, b"", JOURNAL_FAULT, "", "two.log", "another user")
+
     def test_an_address_that_can_t_be_had_is_told(self):
         taken = Peer()
-        self.expect_told(node_words(1, [taken.address], "j"), b"", LINK_FAULT, "")
+        self.expect_told(node_words(1, [taken.address], "j"), b"", LINK_FAULT, "", taken.address)
         taken.close()
         self.expect_told(node_words(1, ["nowhere.invalid:4101"], "j"), b"", LINK_FAULT, "", "nowhere.invalid")
+        self.expect_told(node_words(1, ["127.0.0.1:4101", "[::1]:4101"], "j"), b"", LINK_FAULT, "", "both kinds")
 
     def test_too_long_an_input_and_no_snapshot_are_told(self):
         self.expect_told(["rehearse", "--sites", "1"], b"a" * 65_537, LINE_LIMIT, "line limit\n")
@@ -69,15 +99,20 @@ class Told(Case):
         self.expect_help()
 
     def expect_help(self):
-        rows = [["--help"], ["-h"], ["help"]] + [[command, "--help"] for command in COMMANDS]
-        texts = [launch(self.folder, words) for words in rows]
-        for words, ended in zip(rows, texts):
-            self.assertEqual((ended.status, ended.said), (DONE, b""), words)
-            self.assertIn(words[0] if len(words) == 2 else "replay", ended.text)
-        self.assertTrue(all(command in texts[0].text for command in COMMANDS), texts[0].text)
-        version = launch(self.folder, ["--version"])
-        self.assertEqual((version.status, version.said, version.text.count("\n")), (DONE, b"", 1))
-        self.assertRegex(version.text, r"^groupdesign \S+")
+        for words in (["--help"], ["-h"], ["help"]):
+            text = self.answer(words)
+            self.assertTrue(all(command in text for command in COMMANDS), text)
+        for command in COMMANDS:
+            for words in ([command, "--help"], [command, "-h"], ["help", command]):
+                self.assertIn(command, self.answer(words))
+        for words in (["--version"], ["-V"]):
+            self.assertEqual(self.answer(words), f"groupdesign {(ROOT / 'VERSION').read_text()}")
+
+    def answer(self, words):
+        """What is printed of words that ask for no run, of which nothing is said."""
+        ended = launch(self.folder, words)
+        self.assertEqual((ended.status, ended.said), (DONE, b""), words)
+        return ended.text
 
     # The signal that a file has reached its limit would end the program before it could say so.
     def test_a_limit_on_files_is_a_failed_journal(self):
