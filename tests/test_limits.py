@@ -4,7 +4,7 @@ import resource
 
 from tests.nodes import answered
 from tests.program import DONE, LINE_LIMIT, Case, at_a_time, run_program
-from tests.spelled import log, square
+from tests.spelled import CLOSED, OPEN, header, log, number, record, square
 
 MOST = 65_535
 SQUARE = "rect {} in {} at {} size 10 10 stroke 000000 fill none width 1\n"
@@ -115,3 +115,16 @@ class Large(Case):
         ended = run_program(["replay"], given)
         self.assertEqual(ended.status, DONE)
         self.assertTrue(ended.text == text, "other lines")
+
+    # A square, and moves of it in stamp order by all sites, as many as a log may have. So want of memory is said of no log of
+    # drawings because of its length alone.
+    def test_the_most_events_of_a_log(self):
+        create, move = record(*square((1, 1), 1)), record((1, 1), 1, ("move", (1, 1), 7, 8))[9:]
+        events = [create]
+        for clock in range(1, MOST + 1):
+            stamp, turn = number(clock, 6), number(clock, 2)
+            events += [stamp + number(site, 1) + turn + move for site in range(1, 17) if (clock, site) != (1, 1)]
+        given = header(sites=16) + OPEN + OPEN.join(events) + CLOSED
+        counts = f"arrivals applied {16 * MOST} dropped 0 reworked 0 undone 0\n"
+        ended = run_program(["replay", "--counts"], given)
+        self.assertEqual((ended.text, ended.status), (SQUARE.format("1.1", "-", "7 8") + "end 1\n" + counts, DONE))
