@@ -5,7 +5,7 @@ import subprocess
 
 from tests.launcher import checkout, launch
 from tests.nodes import free_addresses
-from tests.pages import examples, quoted, rows_of
+from tests.pages import PAGES, examples, quoted, rows_of
 from tests.program import DONE, EXAMPLES, LONGEST, PROGRAM, ROOT, Case, run_program
 from tests.test_formats import VOTES
 from tests.worked import FRAME, TIE
@@ -123,3 +123,28 @@ class Tables(Case):
         typed = "".join(f"at 1 {line}\n" for _, line in rows if line.split()[0] != "poll")
         ended = run_program(["rehearse", "--sites", "1"], typed.encode())
         self.assertEqual(ended.text.splitlines(), [f"refused: {why}" for why, line in rows if line.split()[0] != "poll"])
+
+
+# The pages that lead through the crates.
+LEADING = ["ARCHITECTURE", "DECISIONS", "MODEL", "NEW-DOCUMENT", "PROVING"]
+
+
+class Names(Case):
+    def test_links_lead_somewhere(self):
+        for page in [*PAGES, "tests/README.md", "bench/README.md", "page/README.md"]:
+            for link in re.findall(r"\]\(([^)#]+)", (ROOT / page).read_text()):
+                if not re.match(r"\w+:", link):
+                    self.assertTrue(((ROOT / page).parent / link).exists(), (page, link))
+
+    # Crates, files, and names in words that are joined by an underscore.
+    def test_names_stand_in_the_crates(self):
+        crates = ROOT / "crates"
+        sources = [path for path in crates.glob("*/*/**/*") if path.suffix in (".rt", ".antt") and path.parts[-3] != "out"]
+        files = {path.name for path in sources}
+        words = {path.name for path in crates.iterdir()} | set(re.findall(r"\w+", " ".join(path.read_text() for path in sources)))
+        for page in LEADING:
+            text = (ROOT / f"docs/{page}.md").read_text()
+            named = " ".join(re.findall(r"`([^`\n]+)`", text))
+            self.assertEqual(set(re.findall(r"[A-Za-z_]+\.(?:antt|rt)\b", named)) - files, set(), page)
+            self.assertEqual(set(re.findall(r"\b[a-z]+(?:_[a-z0-9]+)+\b", named)) - words, set(), page)
+            self.assertEqual(set(re.findall(r"\bgd_[a-z]+\b", text)) - words, set(), page)
