@@ -4,7 +4,7 @@ import re
 import shutil
 import signal
 import subprocess
-from dataclasses import dataclass
+from dataclasses import dataclass, replace
 
 from tests.nodes import Node, Peer, free_addresses, room
 from tests.program import DONE, JOURNAL_FAULT, LINK_FAULT, LONGEST, PROGRAM, READ_FAULT, WRITE_FAULT, Case, at_a_time
@@ -14,19 +14,53 @@ from tests.test_formats import cards
 from tests.worked import TIE_SNAPSHOT
 
 STRACE = shutil.which("strace")
-CALLS = ["openat", "socket", "bind", "pwrite64", "fsync", "fdatasync", "ftruncate", "read", "write", "recvfrom", "sendto"]
+CALLS = ["openat", "socket", "bind", "ioctl", "flock", "statx", "pwrite64", "pread64", "fsync", "fdatasync", "ftruncate"]
+CALLS += ["read", "write", "recvfrom", "sendto"]
 CALL = re.compile(r"(\w+)\((?:(\d+)|AT_FDCWD, \"([^\"]*)\")?")
-TYPED = b"create rect 0 0 10 10\npoll\nmove 1.1 5 5\npoll\nquit\n"
-OTHERS = square((1, 2), 1)
-EVENTS = [square((1, 1), 1), OTHERS, ((2, 1), 2, ("move", (1, 1), 5, 5))]
-# What is printed where no call fails, each line with the number of the events that it tells of.
-LINES = [("ready 1 of 2", 0), ("ok 1.1", 1), ("echo 1.2 applied", 2), ("polled 1", 2), ("ok 2.1", 3), ("polled 0", 3)]
 # How a run ends in which that call fails. A frame that is lost is no fault, nor is a receive that failed.
-ENDS = {
-    "openat": JOURNAL_FAULT, "pwrite64": JOURNAL_FAULT, "fsync": JOURNAL_FAULT, "fdatasync": JOURNAL_FAULT,
-    "ftruncate": JOURNAL_FAULT, "socket": LINK_FAULT, "bind": LINK_FAULT, "read": READ_FAULT, "write": WRITE_FAULT,
-    "sendto": DONE, "recvfrom": DONE,
-}
+ENDS = dict.fromkeys(CALLS, JOURNAL_FAULT) | dict.fromkeys(["socket", "bind", "ioctl"], LINK_FAULT)
+ENDS |= {"read": READ_FAULT, "write": WRITE_FAULT, "sendto": DONE, "recvfrom": DONE}
+# With these a program looks at its journal once more behind its run, to say what happened.
+LOOKS = ["openat", "statx", "flock"]
+
+
+@dataclass(frozen=True)
+class Plan:
+    """A short session of site 1 of two: its journal when it starts, if there is one, what is typed, the event of the other site that
+    has come by then, the events that the journal has in the end, and what is printed where no call fails: each line with the
+    number of the events that it tells of."""
+
+    contents: bytes | None
+    typed: bytes
+    theirs: tuple
+    events: list
+    lines: list
+
+    @property
+    def printed(self):
+        return [line for line, _ in self.lines]
+
+    def told(self, lines):
+        """How many events these lines tell of."""
+        return max(told for line, told in self.lines if line in lines)
+
+
+OTHERS, RAISE = square((1, 2), 1), ((2, 2), 2, ("raise", (1, 2)))
+NEW = Plan(
+    None,
+    b"create rect 0 0 10 10\npoll\nmove 1.1 5 5\npoll\nquit\n",
+    OTHERS,
+    [square((1, 1), 1), OTHERS, ((2, 1), 2, ("move", (1, 1), 5, 5))],
+    [("ready 1 of 2", 0), ("ok 1.1", 1), ("echo 1.2 applied", 2), ("polled 1", 2), ("ok 2.1", 3), ("polled 0", 3)],
+)
+KEPT = [square((1, 1), 1), OTHERS]
+AGAIN = Plan(
+    log(KEPT),
+    b"create rect 0 0 10 10\npoll\nmove 2.1 5 5\npoll\nquit\n",
+    RAISE,
+    [*KEPT, square((2, 1), 2), RAISE, ((3, 1), 3, ("move", (2, 1), 5, 5))],
+    [("ready 1 of 2", 2), ("ok 2.1", 3), ("echo 2.2 applied", 4), ("polled 1", 4), ("ok 3.1", 5), ("polled 0", 5)],
+)
 
 
 @dataclass(frozen=True)
@@ -48,20 +82,20 @@ class Session:
     trace: list
 
 
-def session(*strace, resumed=None):
-    """Site 1 of two under strace: a frame of the other site has come, and lines are typed. With `resumed` it goes on from that."""
+def session(plan, *strace):
+    """That session under strace."""
     with room() as folder:
         peer, trace, flags = Peer(), folder / "trace", []
-        if resumed is not None:
-            (folder / "j").write_bytes(resumed)
+        if plan.contents is not None:
+            (folder / "j").write_bytes(plan.contents)
             flags = ["--resume"]
         under = [STRACE, "-qq", "-o", trace, "-e", f"trace={','.join(CALLS)}", *strace]
         try:
             with Node(1, [*free_addresses(1), peer.address], folder / "j", *flags, under=under) as node:
                 first = node.read_line()
                 if first:
-                    peer.send(node, frame([OTHERS]))
-                printed, status, _ = node.end(TYPED)
+                    peer.send(node, frame([plan.theirs]))
+                printed, status, _ = node.end(plan.typed)
         finally:
             peer.close()
         lines = f"{first}\n{printed}".splitlines() if first else []
@@ -81,7 +115,7 @@ def calls_of(trace):
             is_own = is_own or name == "socket"
             if is_own:
                 calls.append(Call(name, counts[name], descriptor or path or ""))
-    while calls and calls[-1].name == "openat":
+    while calls and calls[-1].name in LOOKS:
         calls.pop()
     return calls
 
@@ -94,84 +128,83 @@ def may_trace():
 class Calls(Case):
     @classmethod
     def setUpClass(cls):
-        cls.whole = session() if may_trace() else None
+        cls.wholes = [(plan, session(plan)) for plan in (NEW, AGAIN)] if may_trace() else []
 
     def setUp(self):
-        if self.whole is None:
+        if not self.wholes:
             self.skipTest("strace isn't there, or may not trace")
 
-    def test_the_session_without_a_fault(self):
-        self.assertEqual((self.whole.status, self.whole.lines), (DONE, [line for line, _ in LINES]))
-        self.assertEqual(self.whole.journal, log(EVENTS))
+    def test_the_sessions_without_a_fault(self):
+        for plan, whole in self.wholes:
+            self.assertEqual((whole.status, whole.lines), (DONE, plan.printed))
+            self.assertEqual(whole.journal, log(plan.events))
 
     # Before `ready` the file and its folder are synced, and before each answer the event and its open gate, in that order.
     def test_what_is_told_was_synced(self):
         told = ("pwrite64", "fsync", "fdatasync", "write")
-        names = [(call.name, call.file) for call in calls_of(self.whole.trace) if call.name in told]
-        ready = next(at for at, (name, _) in enumerate(names) if name == "write")
-        synced = {file for name, file in names[:ready] if name in ("fsync", "fdatasync")}
-        journal = {file for name, file in names if name == "pwrite64"}
-        self.assertEqual((len(journal), len(synced), journal < synced), (1, 2, True), names[:ready])
-        kinds = ["sync" if "sync" in name else name for name, _ in names[ready + 1 :]]
-        append = ["pwrite64", "sync", "pwrite64", "sync", "write"]
-        self.assertEqual(kinds, append + append + ["write"] + append + ["write"])
+        for _, whole in self.wholes:
+            names = [(call.name, call.file) for call in calls_of(whole.trace) if call.name in told]
+            ready = next(at for at, (name, _) in enumerate(names) if name == "write")
+            synced = {file for name, file in names[:ready] if name in ("fsync", "fdatasync")}
+            journal = {file for name, file in names if name == "pwrite64"}
+            self.assertEqual((len(journal), len(synced), journal < synced), (1, 2, True), names[:ready])
+            kinds = ["sync" if "sync" in name else name for name, _ in names[ready + 1 :]]
+            append = ["pwrite64", "sync", "pwrite64", "sync", "write"]
+            self.assertEqual(kinds, append + append + ["write"] + append + ["write"])
 
-    def expect_sound(self, call, ended):
-        """What was printed is a front of the lines, and the journal a log of the events that these tell of, and perhaps one more.
-        Where a receive failed the frame isn't there, or comes later."""
-        told = [told for line, told in LINES if line in ended.lines]
-        if call.name != "recvfrom":
-            self.assertEqual(ended.lines, [line for line, _ in LINES][: len(ended.lines)], call)
+    def each_call(self, injected, *names):
+        """A session for each call of each plan, in which strace injects that there: the plan, the call, and how it ended. With names
+        for each call of these alone."""
+        for plan, whole in self.wholes:
+            calls = [call for call in calls_of(whole.trace) if not names or call.name in names]
+            rows = [(plan, "-e", f"inject={call.name}:{injected}:when={call.number}") for call in calls]
+            yield from ((plan, call, ended) for call, ended in zip(calls, at_a_time(session, rows)))
+
+    def expect_to_go_on(self, plan, call, ended):
+        """The journal is a log of the plan's first events, and one can go on from it. Before a node is ready it leaves one as it was."""
         if not ended.lines:
-            return
-        again = session(resumed=ended.journal)
+            if plan.contents is not None:
+                self.assertEqual(ended.journal, plan.contents, call)
+            return []
+        again = session(replace(plan, contents=ended.journal))
         self.assertEqual((again.status, again.lines[0]), (DONE, "ready 1 of 2"), call)
         events = events_of(ended.journal)
         self.assertEqual(ended.journal[: len(log(events)) - 1], log(events, closed=False), call)
-        if call.name == "recvfrom":
-            self.assertEqual([event[0] for event in events if event[0][1] == 1], [(1, 1), (2, 1)], call)
-        else:
-            self.assertEqual(events, EVENTS[: len(events)], call)
-            self.assertIn(len(events) - max(told), (0, 1), call)
+        return events
 
+    def expect_sound(self, plan, call, ended):
+        """What was printed is a front of the lines, and the journal has the events that these tell of, and perhaps one more."""
+        self.assertEqual(ended.lines, plan.printed[: len(ended.lines)], call)
+        events = self.expect_to_go_on(plan, call, ended)
+        if ended.lines:
+            self.assertEqual(events, plan.events[: len(events)], call)
+            self.assertIn(len(events) - plan.told(ended.lines), (0, 1), call)
+
+    # Where a receive failed the frame isn't there, or comes later. A frame that was lost changes nothing here.
     def test_each_call_fails_in_turn(self):
-        calls = calls_of(self.whole.trace)
-        runs = at_a_time(session, [("-e", f"inject={call.name}:error=EIO:when={call.number}") for call in calls])
-        for call, ended in zip(calls, runs):
+        for plan, call, ended in self.each_call("error=EIO"):
             self.assertEqual(ended.status, ENDS[call.name], (call, ended.lines))
-            self.expect_sound(call, ended)
-            if call.name == "sendto":
-                self.assertEqual((ended.lines, ended.journal), (self.whole.lines, self.whole.journal), call)
             if call.name == "recvfrom":
                 self.assertTrue(any(line.startswith("link fault after ") for line in ended.lines), (call, ended.lines))
+                own = [event[0] for event in self.expect_to_go_on(plan, call, ended) if event[0][1] == 1]
+                self.assertEqual(own, [event[0] for event in plan.events if event[0][1] == 1], call)
+            else:
+                self.expect_sound(plan, call, ended)
+            if call.name == "sendto":
+                self.assertEqual((ended.lines, ended.journal), (plan.printed, log(plan.events)), call)
 
     def test_it_is_killed_at_each_call(self):
-        calls = calls_of(self.whole.trace)
-        runs = at_a_time(session, [("-e", f"inject={call.name}:signal=KILL:when={call.number}") for call in calls])
-        for call, ended in zip(calls, runs):
+        for plan, call, ended in self.each_call("signal=KILL"):
             self.assertIn(ended.status, (-signal.SIGKILL, 128 + signal.SIGKILL), call)
-            if call.name != "recvfrom" or ended.lines:
-                self.expect_killed(call, ended)
-
-    def expect_killed(self, call, ended):
-        told = [told for line, told in LINES if line in ended.lines]
-        self.assertEqual(ended.lines, [line for line, _ in LINES][: len(ended.lines)], call)
-        if ended.lines:
-            events = events_of(ended.journal)
-            self.assertEqual(events, EVENTS[: len(events)], call)
-            self.assertIn(len(events) - max(told), (0, 1), call)
-            again = session(resumed=ended.journal)
-            self.assertEqual((again.status, again.lines[0]), (DONE, "ready 1 of 2"), call)
+            self.expect_sound(plan, call, ended)
 
     # A write that the disk took in part is gone on with behind that part: it isn't called whole.
     def test_a_short_write_is_gone_on_with(self):
-        for call in calls_of(self.whole.trace):
-            if call.name == "pwrite64":
-                ended = session("-e", f"inject=pwrite64:retval=1:when={call.number}")
-                written = [line for line in ended.trace if line.startswith("pwrite64(")]
-                size, at = map(int, re.search(r", (\d+), (\d+)\) += 1 \(INJECTED\)", written[call.number - 1]).groups())
-                if size > 1:
-                    self.assertRegex(written[call.number], rf", {size - 1}, {at + 1}\) += {size - 1}$")
+        for _, call, ended in self.each_call("retval=1", "pwrite64"):
+            written = [line for line in ended.trace if line.startswith("pwrite64(")]
+            size, at = map(int, re.search(r", (\d+), (\d+)\) += 1 \(INJECTED\)", written[call.number - 1]).groups())
+            if size > 1:
+                self.assertRegex(written[call.number], rf", {size - 1}, {at + 1}\) += {size - 1}$")
 
 
 # Each command that reads, an input that takes it several reads, and what is printed where a read behind so many bytes fails:
