@@ -13,8 +13,8 @@ from tests.program import (
     BAD_LOG, DONE, JOURNAL_FAULT, LINK_FAULT, LONGEST, NO_MEMORY, OTHER_JOURNAL, PROGRAM, READ_FAULT,
     WRITE_FAULT, Case, guarded, run_program,
 )
-from tests.spelled import header, log, number, square
-from tests.test_formats import VOTES, VOTES_TEXT, cards
+from tests.spelled import header, log, square
+from tests.test_formats import VOTES, VOTES_TEXT
 from tests.test_words import NOTHING_CHURNED
 from tests.worked import TIE, TIE_SNAPSHOT, TIE_TEXT, tie_of
 
@@ -261,39 +261,13 @@ class Memory(Case):
 
         return run_program(words, given, preexec_fn=limit, env={"PATH": os.environ["PATH"]})
 
-    def setUp(self):
+    def test_where_memory_runs_out_nothing_is_printed(self):
         sizes = (16 << 20, 32 << 20, 64 << 20)
-        self.little = next((size for size in sizes if self.limited_memory(["replay"], TIE, size).status == DONE), None)
-        if not self.little:
+        little = next((size for size in sizes if self.limited_memory(["replay"], TIE, size).status == DONE), None)
+        if not little:
             self.skipTest(f"this build doesn't start in {sizes[-1] >> 20} MiB")
-
-    def expect_no_memory(self, words, given):
-        """What is printed where memory runs out. Standard error says so."""
-        ended = self.limited_memory(words, given, self.little)
-        self.assertEqual(ended.status, NO_MEMORY, words)
-        self.assertRegex(ended.said, rb"^groupdesign: out of memory[^\n]*\n$")
-        return ended.text
-
-    # It takes more than twice as much. A node and a rehearsal have answered lines by then.
-    def test_where_memory_runs_out_nothing_more_is_printed(self):
+        # It takes more than twice as much.
         large = log([square((clock, site), clock) for clock in range(1, 65_536) for site in range(1, 9)], sites=8)
-        for words in (["replay"], ["replay", "--format", "json"], ["upgrade"], ["snapshot"]):
-            self.assertEqual(self.expect_no_memory(words, large), "", words)
-        self.assertEqual(self.expect_no_memory(["view"], run_program(["snapshot"], large).printed), "")
-        titled = b"\1\1\xC8" + b"a" * 200
-        records = [number(clock, 6) + number(site, 1) + number(clock, 2) + titled for clock in range(1, 65_536) for site in (1, 2)]
-        self.assertEqual(self.expect_no_memory(["board"], cards(records)), "")
-        with room() as folder:
-            (folder / "j").write_bytes(large)
-            self.assertEqual(self.expect_no_memory(node_words(1, free_addresses(8), folder / "j", "--resume"), b""), "")
-            self.assertTrue((folder / "j").read_bytes() == large, "another journal")
-        label, sites = "a" * 200, (1, 2)
-        typed = "".join(f"at {site} create rect 0 0 1 1 {label}\n" for _ in range(50_000) for site in sites)
-        answers = "".join(f"ok {clock}.{site}\n" for clock in range(1, 50_001) for site in sites)
-        printed = self.expect_no_memory(["rehearse", "--sites", "2"], typed.encode())
-        self.assertTrue(printed and answers.startswith(printed), printed[-100:])
-        with room() as folder:
-            words, typed = node_words(1, free_addresses(1), folder / "j"), f"create rect 0 0 1 1 {label}\n" * 65_535
-            answers = "ready 1 of 1\n" + "".join(f"ok {clock}.1\n" for clock in range(1, 65_536))
-            printed = self.expect_no_memory(words, typed.encode())
-            self.assertTrue(printed.count("\n") > 1 and answers.startswith(printed), printed[-100:])
+        for words in (["replay"], ["replay", "--format", "json"], ["snapshot"]):
+            ended = self.limited_memory(words, large, little)
+            self.assertEqual((ended.printed, ended.status), (b"", NO_MEMORY), words)
