@@ -42,6 +42,13 @@ export const meet = (a, b) => a.x0 <= b.x1 && b.x0 <= a.x1 && a.y0 <= b.y1 && b.
 export const within = (a, b) => a.x0 >= b.x0 && a.x1 <= b.x1 && a.y0 >= b.y0 && a.y1 <= b.y1;
 
 /**
+ * Whether the first box lies in the second, and reaches none of its edges.
+ * @param {Box} a
+ * @param {Box} b
+ */
+export const inside = (a, b) => a.x0 > b.x0 && a.x1 < b.x1 && a.y0 > b.y0 && a.y1 < b.y1;
+
+/**
  * @param {Box} box
  * @param {number} x
  * @param {number} y

@@ -1,6 +1,6 @@
 // The shown drawing: items with boxes, in paint order, by id and by place; and what a gesture previews over them.
 
-import { around, grown } from "./boxes.js";
+import { around, grown, inside } from "./boxes.js";
 import { Grid } from "./grid.js";
 import { arrange, boxGroups } from "./groups.js";
 import { Ids, isSame, itemOf } from "./items.js";
@@ -97,6 +97,7 @@ export class Model {
       return was;
     }
     const item = itemOf(plain, z);
+    this.bound(was, item);
     this.byId.set(item.id, item);
     this.plains.set(item.id, plain);
     if (item.kind !== "group") {
@@ -108,6 +109,17 @@ export class Model {
   }
 
   /**
+   * Keeps the box around all where one item becomes another. It is unknown where one that reached its edge does.
+   * @param {Item | undefined} was
+   * @param {Item | null} now
+   */
+  bound(was, now) {
+    if (this.bounds === undefined) return;
+    if (was && was.kind !== "group" && this.bounds && !inside(was.box, this.bounds)) this.bounds = undefined;
+    else if (now && now.kind !== "group") this.bounds = around([this.bounds, now.box]);
+  }
+
+  /**
    * @param {string} id
    * @param {Box[]} boxes
    */
@@ -115,6 +127,7 @@ export class Model {
     const was = this.byId.get(id);
     if (!was || was.id !== id) return false;
     if (was.kind !== "group") boxes.push(was.ink);
+    this.bound(was, null);
     this.grid.take(id);
     this.byId.delete(id);
     this.plains.delete(id);
@@ -147,7 +160,6 @@ export class Model {
 
   /** @param {Box[]} boxes */
   told(boxes) {
-    if (boxes.length) this.bounds = undefined;
     for (const id of this.over.keys()) if (!this.byId.has(id)) this.over.delete(id);
     this.placeOver();
     this.hear(boxes);

@@ -51,6 +51,25 @@ test("differences lead to what the whole is", () => {
   check([["1.1", null], ["3.1", null], ["5.1", null]]);
 });
 
+test("the box around all is kept as objects come, move and go", () => {
+  const model = new Model();
+  const made = (id, x, y) => [id, plain(id, "rect", x, y, 10, 10)];
+  const check = (changes, wanted) => {
+    model.patch(new Map(changes), null);
+    assert.deepEqual(model.all(), wanted);
+  };
+  check([], null);
+  check([made("1.1", 0, 0)], box(0, 0, 10, 10));
+  check([made("2.1", 100, 50), made("3.1", 40, 20)], box(0, 0, 110, 60));
+  check([made("3.1", 50, 20)], box(0, 0, 110, 60));
+  check([made("3.1", 50, 70)], box(0, 0, 110, 80));
+  check([made("3.1", 50, 30)], box(0, 0, 110, 60));
+  check([made("3.1", -5, -5), made("1.1", 20, 20)], box(-5, -5, 110, 60));
+  check([["2.1", null], ["3.1", { ...made("3.1", 0, 0)[1], kind: "line" }]], box(0, 0, 30, 30));
+  check([["1.1", null], ["3.1", null]], null);
+  check([made("4.1", 7, 8)], box(7, 8, 17, 18));
+});
+
 test("what is the same stays the same item, and only boxes that look different are told", () => {
   const model = new Model();
   model.show(GROUPED);
