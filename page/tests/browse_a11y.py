@@ -3,6 +3,7 @@
 from selenium.webdriver.common.keys import Keys
 
 from page.tests.browse_ui import WithOnePage
+from page.tests.counting import counted
 from page.tests.places import wait_for
 
 # Pairs of colours of the page's tokens: text needs 4.5 to 1, marks 3 to 1 (WCAG 2, 1.4.3 and 1.4.11).
@@ -82,18 +83,16 @@ class Accessibility(WithOnePage):
     def test_a_large_drawing_costs_the_tree_nothing_while_one_draws(self):
         page = self.page
         page.do("ed.edits.do('many', Array.from({ length: 3000 }, (_, at) => `create rect ${(at % 60) * 20} ${Math.floor(at / 60) * 20} 10 10`))")
-        wait_for(lambda: page.is_settled() and len(page.ids()) == 3000, 120)
-        spent = page.do("""
-            const spent = [];
-            for (let turn = 0; turn < 20; turn += 1) {
-              ed.selection.ids = new Set([ed.model.items[turn].id]);
-              const start = performance.now();
-              ed.objects.update();
-              spent.push(performance.now() - start);
-            }
-            return spent.sort((a, b) => a - b)[10];
-        """)
-        self.assertLess(spent, 2)
+        wait_for(lambda: page.is_settled() and len(page.ids()) == 3000)
+        with counted(self.driver) as runs:
+            page.do("""
+                for (let turn = 0; turn < 20; turn += 1) {
+                  ed.selection.ids = new Set([ed.model.items[turn].id]);
+                  ed.objects.update();
+                }
+            """)
+        # It is made anew when the drawing rests, and not at each of the twenty.
+        self.assertLess(max(runs.values()), 5 * 3000)
         rows = "document.querySelectorAll('[role=treeitem]').length"
         wait_for(lambda: page.ask(rows) > 0)
         self.assertLessEqual(page.ask(rows), 300)

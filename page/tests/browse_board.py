@@ -82,8 +82,8 @@ class Making(WithBoard):
         (create, *_) = self.typed_by(self.one, write)
         self.assertRegex(create, r"^create text 400 2\d\d \d+ \d+ Two  words$")
         # A double click on paper writes too, and a blank text is none.
-        self.assert_typed(self.one, lambda: (self.one.click((700, 500), 2), self.one.write("   "), self.one.click((900, 600))))
-        (create,) = self.typed_by(self.one, lambda: (self.one.click((700, 500), 2), self.one.write("here"), self.one.click((900, 600))))
+        self.assert_typed(self.one, lambda: (self.one.click_twice((700, 500)), self.one.write("   "), self.one.click((900, 600))))
+        (create,) = self.typed_by(self.one, lambda: (self.one.click_twice((700, 500)), self.one.write("here"), self.one.click((900, 600))))
         self.assertIn("here", create)
 
     def test_what_is_made_has_the_style_that_was_chosen(self):
@@ -139,8 +139,7 @@ class Moving(WithBoard):
         (rect,) = self.make(self.one, "create rect 300 200 100 60", select=True)
 
         def nudge():
-            self.one.press(Keys.ARROW_RIGHT, Keys.ARROW_RIGHT, Keys.ARROW_UP)
-            self.one.press(Keys.ARROW_DOWN, hold=["shift"])
+            self.one.keys_at_once("ArrowRight", "ArrowRight", "ArrowUp", "Shift+ArrowDown")
             wait_for(lambda: self.one.item(rect)["y"] != 200)
 
         self.assert_typed(self.one, nudge, f"move {rect} 302 209")
@@ -193,7 +192,7 @@ class Resizing(WithBoard):
 
     def test_a_text_is_larger_by_its_corner_and_wraps_by_its_side(self):
         def write():
-            self.one.click((400, 300), 2)
+            self.one.click_twice((400, 300))
             self.one.write("Some words to wrap")
             self.one.press(Keys.ENTER, hold=["ctrl"])
 
@@ -253,7 +252,7 @@ class Selecting(WithBoard):
         # At an edge, beside the handles.
         self.one.click((330, 200))
         self.assertEqual(self.one.selected(), [group])
-        self.one.click((330, 200), 2)
+        self.one.click_twice((330, 200))
         self.assertEqual([self.one.selected(), self.one.ask("ed.selection.scope")], [[first], group])
         self.assert_typed(self.one, lambda: self.one.drag((300, 240), (310, 260), hold=["ctrl"]), f"move {first} 310 220")
         self.one.press(Keys.ESCAPE)

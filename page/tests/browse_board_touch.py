@@ -57,7 +57,8 @@ class Touch(WithBoard):
 
     def test_a_long_press_opens_the_menu(self):
         (rect,) = self.make(self.one, "create rect 300 200 300 200", "fill @1 DAE6FF")
-        self.assert_typed(self.one, lambda: self.one.long_press((400, 300)))
-        wait_for(lambda: self.one.ask("document.querySelector('[role=menu]:not([hidden])') !== null"))
+        is_open = lambda: self.one.ask("document.querySelector('[role=menu]:not([hidden])') !== null")
+        self.assert_typed(self.one, lambda: self.one.long_press((400, 300), is_open))
+        self.assertTrue(is_open())
         self.assertEqual(self.one.selected(), [rect])
         self.one.picture("board-long-press")

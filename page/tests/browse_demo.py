@@ -34,7 +34,7 @@ class Pane(Page):
     def __init__(self, driver, number):
         self.number = number
         self.driver = driver
-        wait_for(lambda: self.ask("document.body.dataset.ready"), 120)
+        wait_for(lambda: self.ask("document.body.dataset.ready"))
 
     def ask(self, expression, *given):
         self.enter()
@@ -82,7 +82,7 @@ class Demonstration(unittest.TestCase):
         def is_same():
             return all(pane.is_settled() for pane in self.panes) and self.panes[0].shown() == self.panes[1].shown()
 
-        wait_for(is_same, 120)
+        wait_for(is_same)
 
     def test_1_one_is_cut_off_both_draw_and_all_comes_together(self):
         one, two = self.panes
@@ -171,7 +171,7 @@ class Demonstration(unittest.TestCase):
         self.driver.get(self.run_of_draw.address)
         wait_for(lambda: len(self.outside("iframe")) == 2)
         for pane in self.panes:
-            wait_for(lambda: pane.ask("document.body.dataset.ready"), 120)
+            wait_for(lambda: pane.ask("document.body.dataset.ready"))
             self.assertFalse(pane.find("#link").is_displayed())
 
     def test_4_it_is_there_dark_and_light_wide_and_narrow(self):
@@ -181,7 +181,7 @@ class Demonstration(unittest.TestCase):
                 self.driver.get(self.run_of_draw.address)
                 wait_for(lambda: len(self.outside("iframe")) == 2)
                 for pane in self.panes:
-                    wait_for(lambda: pane.ask("document.body.dataset.ready"), 120)
+                    wait_for(lambda: pane.ask("document.body.dataset.ready"))
                 self.driver.switch_to.default_content()
                 self.assertLessEqual(self.driver.execute_script(WIDER), 0)
                 self.driver.switch_to.default_content()

@@ -64,8 +64,8 @@ class Large(WithBoard):
             journal.write_bytes(large(OBJECTS, site=site))
 
     def setUp(self):
-        wait_for(lambda: all(page.ask("ed.model.items.length") == OBJECTS for page in self.pages), 120)
-        wait_for(lambda: all(page.ask("ed.node.events.length") >= OBJECTS for page in self.pages), 120)
+        wait_for(lambda: all(page.ask("ed.model.items.length") == OBJECTS for page in self.pages))
+        wait_for(lambda: all(page.ask("ed.node.events.length") >= OBJECTS for page in self.pages))
         for page in self.pages:
             page.do("ed.camera.wasShown = false; ed.fit()")
             wait_for(lambda: page.ask(f"ed.scene.kept?.zoom === ed.camera.zoom && {AT_REST}"))
@@ -105,7 +105,7 @@ class Large(WithBoard):
                     "const whole = ed.scene.paintSheet.bind(ed.scene); ed.scene.paintSheet = () => { ed.scene.wholes += 1; whole(); }")
         self.typed_by(self.one, lambda: self.one.do("ed.edits.do('m', ['move 7.1 3 3'])"))
         for page in self.pages:
-            wait_for(lambda: page.item("7.1")["x"] == 3, 120)
+            wait_for(lambda: page.item("7.1")["x"] == 3)
             self.assertEqual(page.ask("ed.model.items.filter((item) => window.before.get(item.id) !== item).map((item) => item.id)"), ["7.1"])
             wait_for(lambda: page.ask("ed.scene.damage.length") == 0)
             self.assertEqual(page.ask("ed.scene.wholes"), 0)
@@ -114,21 +114,21 @@ class Large(WithBoard):
         """How often blocks of the page's modules ran until a page shows what an act did."""
         with counted(page.driver) as runs:
             act()
-            wait_for(lambda: page.is_settled() and page.ask(AT_REST), 120)
+            wait_for(lambda: page.is_settled() and page.ask(AT_REST))
         self.assertTrue(runs, "nothing was counted")
         return runs
 
     def test_an_edit_costs_nothing_for_each_object(self):
         def show(goal):
-            self.one.driver.execute_async_script(DO, [f"move 2050.1 {goal} 600"])
-            self.two.driver.execute_async_script(SEEN, "2050.1", goal)
+            self.one.driver.execute_async_script(DO, [f"move 2550.1 {goal} 600"])
+            self.two.driver.execute_async_script(SEEN, "2550.1", goal)
 
         for goal, page in enumerate(self.pages * 2, 1500):
             # The box around all is asked of each object only where one at its edge has changed, which this one isn't.
             page.ask("ed.model.all()")
             runs = self.counts_of(page, lambda: show(goal))
             for (module, function, place), count in runs.items():
-                most = LOOKS * OBJECTS if module in LISTS else OBJECTS - 1
+                most = LOOKS * OBJECTS if module in LISTS else OBJECTS // 2
                 self.assertLessEqual(count, most, f"{function} of {module} at {place}")
 
     def test_with_500_changed_in_one_batch(self):

@@ -2,7 +2,6 @@
 
 import unittest
 
-from selenium.webdriver.common.action_chains import ActionChains
 from selenium.webdriver.common.keys import Keys
 
 from page.tests.browser import Page, Run, browser
@@ -35,7 +34,7 @@ class WithOnePage(unittest.TestCase):
             ed.edits.do('clear', ed.model.items.filter((i) => !i.parent).map((i) => `delete ${i.id}`));
             Object.assign(ed.style, { stroke: '000000', fill: null, width: 2 });
         """)
-        wait_for(lambda: not self.page.ids() and self.page.is_settled(), 120)
+        wait_for(lambda: not self.page.ids() and self.page.is_settled())
         self.page.home()
         self.page.do("ed.focusBoard()")
 
@@ -87,7 +86,8 @@ class Tools(WithOnePage):
 
     def test_a_tool_that_was_clicked_twice_stays(self):
         page = self.page
-        ActionChains(self.driver).double_click(page.find("[data-tool=ellipse]")).perform()
+        box = page.find("[data-tool=ellipse]").rect
+        page.click_twice_at(box["x"] + box["width"] / 2, box["y"] + box["height"] / 2)
         self.assertTrue(page.ask("ed.lockTool"))
         for x in (200, 400):
             page.drag((x, 200), (x + 60, 260), hold=("ctrl",))

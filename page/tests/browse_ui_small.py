@@ -63,8 +63,7 @@ class Small(WithOnePage):
             self.size(name)
             for what, act in acts:
                 page.do(act, names[0])
-                page.do("document.getAnimations().forEach((each) => each.finish())")
-                time.sleep(0.4)
+                page.rest()
                 targets = page.do(TARGETS)
                 self.assertGreater(len(targets), 5)
                 small = [each for each in targets if each[1] < LEAST - 4.5 * (name == "narrow") or each[2] < LEAST]
@@ -165,11 +164,11 @@ class Small(WithOnePage):
         for name in SIZES:
             for theme in ("light", "dark"):
                 self.size(name, theme, is_touch=name != "desktop")
-                page.do("ed.selection.clear(); ed.fit()")
-                time.sleep(0.5)
+                page.do("ed.selection.clear(); ed.camera.wasShown = false; ed.fit()")
+                page.rest()
                 page.picture(f"look-{name}-{theme}")
                 self.choose(names[0], names[2])
-                time.sleep(0.3)
+                page.rest()
                 page.picture(f"look-{name}-{theme}-selected")
                 self.assertLessEqual(page.ask("document.documentElement.scrollWidth - innerWidth"), 0)
 

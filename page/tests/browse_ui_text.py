@@ -12,7 +12,7 @@ OPEN = "!document.querySelector('.label-field').hidden"
 class Text(WithOnePage):
     def write_at(self, place, text):
         """Double clicks at a place and writes, without an end."""
-        self.page.click(place, times=2)
+        self.page.click_twice(place)
         wait_for(lambda: self.page.ask(OPEN))
         self.page.write(text)
 
@@ -99,12 +99,12 @@ class Text(WithOnePage):
     def test_a_double_click_in_the_middle_of_an_empty_shape_writes_its_label(self):
         page = self.page
         (name,) = self.made("create rect 300 300 200 120")
-        page.click((390, 350), 2)
+        page.click_twice((390, 350))
         page.write("Inside" + Keys.ESCAPE)
         wait_for(lambda: self.item(name)["label"] == "Inside")
         # Away from the middle a shape without a fill is paper.
         (other,) = self.made("create rect 300 500 200 120")
-        page.click((330, 600), 2)
+        page.click_twice((330, 600))
         page.write("Beside" + Keys.ESCAPE)
         wait_for(lambda: len(page.ids()) == 3)
         self.assertEqual(self.item(other)["label"], "")

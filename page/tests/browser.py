@@ -7,6 +7,7 @@ import signal
 import subprocess
 import sys
 import tempfile
+import time
 import unittest
 from pathlib import Path
 
@@ -15,13 +16,12 @@ from selenium.common.exceptions import WebDriverException
 from selenium.webdriver.chrome.service import Service
 from selenium.webdriver.common.action_chains import ActionChains
 from selenium.webdriver.common.actions.action_builder import ActionBuilder
-from selenium.webdriver.common.actions.pointer_input import PointerInput
 from selenium.webdriver.common.keys import Keys
 
 from page.audience import Audience
 from page.demo import Proxy
 from page.draw import ROOT
-from page.tests.places import wait_for
+from page.tests.places import PATIENCE, wait_for
 
 PROGRAM = os.environ.get("PAGE_PROGRAM", "")
 SCREENSHOTS = ROOT / "page/out/screenshots"
@@ -51,7 +51,7 @@ def browser(*flags):
     for left in reversed(range(ATTEMPTS)):
         try:
             made = webdriver.Chrome(options=options, service=Service(shutil.which("chromedriver")))
-            made.set_script_timeout(60)
+            made.set_script_timeout(PATIENCE)
             return made
         except WebDriverException:
             # On a busy machine it may not start in the minute that its driver waits.
@@ -70,7 +70,7 @@ class Run:
 
     def end(self):
         self.process.send_signal(signal.SIGTERM)
-        self.process.communicate(timeout=30)
+        self.process.communicate(timeout=PATIENCE)
         return self.process.returncode
 
 
@@ -163,16 +163,26 @@ class Page:
         self.press(key)
         self.drag(begin, end, hold=hold)
 
-    def click(self, place, times=1, hold=(), button=0):
+    def click(self, place, hold=(), button=0):
         self.hold(*hold)
         actions = self.pointer()
         pointer = actions.w3c_actions.pointer_action
         pointer.move_to_location(*self.at(place))
-        for _ in range(times):
-            pointer.pointer_down(button=button)
-            pointer.pointer_up(button=button)
+        pointer.pointer_down(button=button)
+        pointer.pointer_up(button=button)
         actions.perform()
         self.let_go(*hold)
+
+    def click_twice(self, place):
+        self.click_twice_at(*self.at(place))
+
+    def click_twice_at(self, x, y):
+        """A double click: two clicks 100 ms apart by their own times, however long the browser takes for them."""
+        began = time.time()
+        for count in (1, 2):
+            for kind in ("mousePressed", "mouseReleased"):
+                event = {"type": kind, "x": x, "y": y, "button": "left", "clickCount": count, "timestamp": began + 0.1 * count}
+                self.driver.execute_cdp_cmd("Input.dispatchMouseEvent", event)
 
     def press(self, *keys, hold=()):
         """Presses keys, wherever the focus is."""
@@ -218,15 +228,22 @@ class Page:
             finger.create_pointer_up(0)
         actions.perform()
 
-    def long_press(self, place, seconds=0.8):
-        """A finger that stays for a while."""
-        finger = PointerInput("touch", "finger")
-        actions = ActionBuilder(self.driver, mouse=finger)
-        finger.create_pointer_move(duration=0, x=place[0], y=place[1])
-        finger.create_pointer_down(button=0)
-        finger.create_pause(seconds)
-        finger.create_pointer_up(0)
-        actions.perform()
+    def long_press(self, place, until):
+        """A finger that stays until something has come."""
+        point = {"x": place[0], "y": place[1]}
+        self.driver.execute_cdp_cmd("Input.dispatchTouchEvent", {"type": "touchStart", "touchPoints": [point]})
+        wait_for(until)
+        self.driver.execute_cdp_cmd("Input.dispatchTouchEvent", {"type": "touchEnd", "touchPoints": []})
+
+    def keys_at_once(self, *keys):
+        """Keys that are pressed in a row without any time between them. A word `Shift+` in front holds that down."""
+        script = """
+        for (const word of arguments[0]) {
+          const key = word.split('+').at(-1);
+          const event = { key, code: key, shiftKey: word.startsWith('Shift+'), bubbles: true, cancelable: true };
+          document.activeElement.dispatchEvent(new KeyboardEvent('keydown', event));
+        }"""
+        self.do(script, list(keys))
 
     # What is seen.
 
@@ -256,6 +273,15 @@ class Page:
     def is_settled(self):
         """Whether the node has shown all that was typed here."""
         return self.ask("ed.edits.pending.layers.length === 0 && !ed.model.over.size")
+
+    def rest(self):
+        """Waits until nothing moves, and what is shown was laid out and painted."""
+        script = """
+        const done = arguments[0];
+        document.getAnimations().forEach((each) => each.finish());
+        requestIdleCallback(() => requestAnimationFrame(() => requestAnimationFrame(() => done())));
+        """
+        self.driver.execute_async_script(script)
 
     def errors(self):
         return [entry["message"] for entry in self.driver.get_log("browser") if entry["level"] == "SEVERE"]
@@ -354,7 +380,7 @@ class WithTwoPages(unittest.TestCase):
             is_settled = all(page.is_settled() for page in self.pages)
             return is_settled and held[0] == held[1] and self.one.shown() == self.two.shown()
 
-        wait_for(is_same, 120)
+        wait_for(is_same)
         return self.one.shown()
 
     def settled(self, page):
@@ -376,7 +402,7 @@ class WithTwoPages(unittest.TestCase):
             page.do("ed.history.toNow(); ed.setTool('select'); ed.escape(); ed.camera.set(0, 0, 1)")
         self.wait_until_same()
         self.one.do("ed.edits.do('clear', ed.model.items.filter((i) => !i.parent).map((i) => `delete ${i.id}`))")
-        wait_for(lambda: not any(page.ids() for page in self.pages), 120)
+        wait_for(lambda: not any(page.ids() for page in self.pages))
         for page in self.pages:
             page.do("ed.selection.clear(); ed.edits.done = []; ed.edits.undone = []; ed.banner(null); ed.focusBoard();"
                 "document.getElementById('bubbles').replaceChildren()")

@@ -9,7 +9,8 @@ import unittest
 from pathlib import Path
 
 STAND_IN = Path(__file__).resolve().parent / "stand_in.py"
-PATIENCE = 20
+# In seconds. What is waited for comes at once on an idle machine, and on a slow and busy one much later.
+PATIENCE = 180
 
 
 def wait_for(call, seconds=PATIENCE):

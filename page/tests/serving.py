@@ -8,7 +8,7 @@ import aiohttp
 from page.audience import Audience
 from page.desk import Desk
 from page.server import Server
-from page.tests.places import WithStandIn
+from page.tests.places import PATIENCE, WithStandIn
 
 TOKEN = "a-token-of-thirty-two-characters"
 ROW = "rect 1.1 in - at 0 0 size 1 1 stroke 000000 fill none width 1"
@@ -31,7 +31,7 @@ class Socket:
     def __init__(self, socket):
         self.socket, self.told, self.count = socket, [], 0
 
-    async def next(self, wanted, seconds=20):
+    async def next(self, wanted, seconds=PATIENCE):
         """The next message that a call says yes to. Raises `AssertionError` where the socket is closed before."""
         while True:
             message = await asyncio.wait_for(self.socket.receive(), seconds)
@@ -98,7 +98,7 @@ class WithServer(WithStandIn):
         self.addCleanup(writer.close)
         return reader, writer
 
-    async def sent(self, data, seconds=20):
+    async def sent(self, data, seconds=PATIENCE):
         """All that is answered to bytes, until the server closes the connection."""
         reader, writer = await self.connect()
         writer.write(data)

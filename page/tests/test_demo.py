@@ -6,6 +6,7 @@ import unittest
 
 from page.audience import Audience
 from page.demo import Proxy
+from page.tests.places import PATIENCE
 
 
 class Between(unittest.TestCase):
@@ -21,7 +22,7 @@ class Between(unittest.TestCase):
         host, port = address.split(":")
         made = socket.socket(socket.AF_INET, socket.SOCK_DGRAM)
         made.bind((host, int(port)))
-        made.settimeout(5)
+        made.settimeout(PATIENCE)
         self.addCleanup(made.close)
         return made
 
@@ -33,7 +34,7 @@ class Between(unittest.TestCase):
         """All that comes to a site, until there are so many and then none comes for some time."""
         found = []
         while True:
-            self.sites[goal - 1].settimeout(quiet if len(found) >= count else 20)
+            self.sites[goal - 1].settimeout(quiet if len(found) >= count else PATIENCE)
             try:
                 found.append(self.sites[goal - 1].recv(100))
             except TimeoutError:
@@ -54,7 +55,7 @@ class Between(unittest.TestCase):
     def test_they_come_from_the_address_at_which_their_sender_is_known(self):
         for source, goal in ((1, 2), (2, 1), (3, 1)):
             self.send(source, goal, b"a")
-            self.sites[goal - 1].settimeout(20)
+            self.sites[goal - 1].settimeout(PATIENCE)
             _, (host, port) = self.sites[goal - 1].recvfrom(100)
             self.assertEqual(f"{host}:{port}", self.proxy.addresses(goal)[source - 1])
 

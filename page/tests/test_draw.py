@@ -16,7 +16,7 @@ from unittest import mock
 from page import draw
 from page.draw import ROOT, asked
 from page.server import HERE
-from page.tests.places import STAND_IN, WithStandIn, wait_for
+from page.tests.places import PATIENCE, STAND_IN, WithStandIn, wait_for
 
 NODE = ["--session", "7", "--site", "1"]
 ADDRESS = re.compile(rf"http://{re.escape(HERE)}:(\d+)/([\w-]+)/$")
@@ -80,13 +80,13 @@ class WithRuns(WithStandIn):
 
     def end(self, run, sign=signal.SIGTERM):
         run.send_signal(sign)
-        rest, said = run.communicate(timeout=60)
+        rest, said = run.communicate(timeout=PATIENCE)
         return run.returncode, rest, said
 
     def fails(self, *words):
         """The status and what is said by a run that doesn't begin."""
         run = self.run_draw(*words)
-        printed, said = run.communicate(timeout=60)
+        printed, said = run.communicate(timeout=PATIENCE)
         self.assertEqual(printed, "")
         self.assertNotIn("Traceback", said)
         return run.returncode, said
@@ -97,7 +97,7 @@ class Runs(WithRuns):
         for sign in (signal.SIGTERM, signal.SIGINT):
             run, address = self.start()
             self.assertRegex(address, ADDRESS)
-            with urllib.request.urlopen(address, timeout=20) as page:
+            with urllib.request.urlopen(address, timeout=PATIENCE) as page:
                 self.assertIn(b"<title>", page.read())
             self.assertEqual(self.end(run, sign), (0, "", ""))
             self.assertEqual(self.typed()[-1], "quit")
@@ -120,7 +120,7 @@ class Runs(WithRuns):
         self.assertEqual(ADDRESS.match(other)[1], port)
         self.assertNotEqual(ADDRESS.match(other)[2], token)
         with self.assertRaises(urllib.error.HTTPError) as said:
-            urllib.request.urlopen(address, timeout=20)
+            urllib.request.urlopen(address, timeout=PATIENCE)
         self.assertEqual(said.exception.code, 403)
         self.assertIn(b"Open the address that it printed", said.exception.read())
         said.exception.close()
@@ -222,6 +222,6 @@ runpy.run_path({path!r}, run_name="__main__")
 class Python(WithStandIn):
     def test_without_aiohttp_it_says_what_to_install(self):
         words = [sys.executable, "-c", BARE.format(path=str(ROOT / "draw"))]
-        done = subprocess.run(words, capture_output=True, text=True, timeout=60)
+        done = subprocess.run(words, capture_output=True, text=True, timeout=PATIENCE)
         self.assertEqual((done.returncode, done.stdout), (1, ""))
         self.assertIn("apt install python3-aiohttp", done.stderr)
