@@ -128,7 +128,7 @@ class Silent(WithDesk):
             self.assertEqual(self.heard("end"), [])
 
     async def test_the_others_are_away_where_nothing_comes(self):
-        with mock.patch("page.peers.AWAY", 0.3), mock.patch("page.desk.WATCH_EVERY", 0.05):
+        with mock.patch("page.peers.AWAY", 2), mock.patch("page.desk.WATCH_EVERY", 0.05):
             desk = await self.desk(polls=[["polled 1"]] * 30)
             await until(lambda: any(peer["away"] for each in self.heard("peers") for peer in each["peers"]))
             self.assertFalse(self.heard("peers")[0]["peers"][0]["away"])
