@@ -27,7 +27,7 @@ export class Claims {
   constructor() {
     /** @type {Map<string, {top: string, standing: Set<string>}>} by part: the last stamp, and the stamps that it stands for */
     this.last = new Map();
-    /** @type {Map<string, Set<string>>} the stamps of what was done to objects of this page */
+    /** @type {Map<string, Set<string>>} the stamps of what was done to objects since they are watched */
     this.work = new Map();
     /** @type {Set<string>} the stamps of this page's own lines */
     this.own = new Set();
@@ -67,7 +67,7 @@ export class Claims {
   }
 
   /**
-   * An object was made by this page: what is done to it counts from now on.
+   * An object was made or deleted by this page: what is done to it counts from now on.
    * @param {string} id
    */
   watch(id) {
@@ -84,23 +84,31 @@ export class Claims {
   }
 
   /**
-   * Whether nobody else has set these parts since an event. Of an object that this page made again since, whether nobody else
-   * has set them at all.
+   * Whether nobody else has set these parts since an event. Of an object that this page made again by it or since, whether
+   * nobody else has set them at all.
    * @param {string} stamp
    * @param {string[]} keys
    * @param {string} id
    */
   allows(stamp, keys, id) {
     if (this.holds(stamp, keys)) return true;
-    if (!this.work.has(id) || !isLater(id, stamp)) return false;
+    if (!this.work.has(id) || isLater(stamp, id)) return false;
     return keys.every((key) => !this.last.has(key) || this.own.has(this.last.get(key).top));
   }
 
   /**
-   * Whether another one has worked on an object of this page.
+   * Whether another one has worked on an object since it is watched.
    * @param {string} id
    */
   isShared(id) {
-    return [...(this.work.get(id) ?? [])].some((stamp) => !this.own.has(stamp));
+    return this.othersOn(id).length > 0;
+  }
+
+  /**
+   * The sites of others' edits of an object since it is watched.
+   * @param {string} id
+   */
+  othersOn(id) {
+    return [...(this.work.get(id) ?? [])].filter((stamp) => !this.own.has(stamp)).map((stamp) => stampParts(stamp).site);
   }
 }

@@ -1,35 +1,39 @@
 // Gestures become edits: lists of lines that are typed as one batch, and one step of undo. `@3` in a line stands for the id
 // that the batch's third line makes. Until the node has answered, an object that was made has a name, `~` and two numbers.
 
+import { MOST_LINES } from "../core/lines.js";
 import { Lost } from "../core/node.js";
 import { Claims, keysOf } from "./claims.js";
 import { Foresight, wordsOf } from "./effects.js";
 import { inverseOf } from "./inverse.js";
 import { Layer } from "./pending.js";
-import { canTurn, isPartOf, shownOf, withParts } from "./turning.js";
+import { remainsOf } from "./remains.js";
+import { turn } from "./turning.js";
 
 export { copyLines, createLines, fitLabel } from "./making.js";
 
 /** @typedef {import("../core/types.js").Ed} Ed */
 /** @typedef {import("../core/types.js").Refusal} Refusal */
 /** @typedef {import("./pending.js").Pending} Pending */
+/** @typedef {import("./remains.js").Remains} Remains */
 /**
  * A line of a gesture.
  * @typedef {object} Step
  * @property {string} line with names for what this page made
  * @property {string | null} back the line that takes it back
  * @property {string | null} why why there is none, in words
+ * @property {Remains | null} remains what is made anew when it is taken back
  * @property {string | null} name what it makes
  * @property {boolean} isDone whether it is in the drawing, and not taken back
  * @property {string | null} stamp of the last event that was made by it, or by taking it back
  * @property {string[]} keys the parts that it touches
  * @property {Map<string, Set<string>>} before what counted as the last of these parts before that event
+ * @property {Step | null} source the step that took away what this one makes anew
+ * @property {string | null} was the name of what this one makes anew
  */
-/** @typedef {{name: string, steps: Step[]}} Gesture */
+/** @typedef {{name: string, steps: Step[], turned?: () => void}} Gesture `turned` hears that it is taken back or done again */
 
 const MOST_GESTURES = 500;
-/** As many lines as one batch takes. */
-const MOST_LINES = 10000;
 
 export class Edits {
   /**
@@ -71,21 +75,25 @@ export class Edits {
     if (this.done.length > MOST_GESTURES) this.done.shift();
     this.undone = [];
     ed.say(name);
-    const sent = this.send(gesture.steps, (step) => step.line, () => gesture.steps, null);
+    const sent = this.send(gesture.steps, (step) => step.line, () => gesture.steps);
     if (pick) ed.selection.set(pick(gesture.steps.map((step) => step.name)).filter(Boolean));
     ed.rested();
-    const isDone = await sent;
+    const isDone = !(await sent).length;
     if (!gesture.steps.some((step) => step.isDone)) this.done = this.done.filter((each) => each !== gesture);
     ed.stacks();
     return isDone;
   }
 
-  undo() {
-    this.turn(this.done, this.undone, true);
+  /**
+   * Takes a gesture back.
+   * @param {Gesture} [gesture] the last one, where it isn't said
+   */
+  undo(gesture) {
+    return turn(this, true, gesture);
   }
 
   redo() {
-    this.turn(this.undone, this.done, false);
+    return turn(this, false);
   }
 
   /**
@@ -95,21 +103,48 @@ export class Edits {
    */
   begin(name, lines) {
     this.batches += 1;
-    const batch = this.batches;
     const foresight = new Foresight(this.ed.model);
     const fresh = new Set();
     const steps = lines.map((raw, index) => {
-      const line = this.named(raw, (word) => (/^@\d+$/.test(word) ? `~${batch}.${word.slice(1)}` : this.names.get(word) ?? word));
-      const { op, words } = wordsOf(line);
-      const makes = op === "create" || op === "group" ? `~${batch}.${index + 1}` : null;
-      const target = makes ?? words[1];
-      const inverse = fresh.has(target) ? { back: null, why: null } : inverseOf(op, target, foresight.plain(this.idOf(target)));
-      if (makes) fresh.add(makes);
-      foresight.take(this.real(line), makes);
-      const keys = keysOf(op, target, op === "group" ? words.slice(1) : []);
-      return { line, ...inverse, name: makes, isDone: false, stamp: null, keys, before: new Map() };
+      const step = this.stepOf(raw, index + 1);
+      const { op, words } = wordsOf(step.line);
+      const target = step.name ?? words[1];
+      if (!fresh.has(target)) Object.assign(step, this.wayBack(op, target, foresight));
+      if (step.name) fresh.add(step.name);
+      foresight.take(this.real(step.line), step.name);
+      return step;
     });
     return { name, steps };
+  }
+
+  /**
+   * A line of the batch as a step that isn't done yet. What the second line of batch 4 makes is named `~4.2`.
+   * @param {string} raw
+   * @param {number} number its place in these lines, from 1
+   * @param {number} [before] how many lines of the batch lie in front of them
+   * @returns {Step}
+   */
+  stepOf(raw, number, before = 0) {
+    const made = (/** @type {number} */ place) => `~${this.batches}.${before + place}`;
+    const line = this.named(raw, (word) => (/^@\d+$/.test(word) ? made(Number(word.slice(1))) : this.names.get(word) ?? word));
+    const { op, words } = wordsOf(line);
+    const name = op === "create" || op === "group" ? made(number) : null;
+    const keys = keysOf(op, name ?? words[1], op === "group" ? words.slice(1) : []);
+    const none = /** @type {any} */ (null);
+    const way = { back: none, why: none, remains: none, source: none, was: none };
+    return { line, ...way, name, isDone: false, stamp: none, keys, before: new Map() };
+  }
+
+  /**
+   * @param {string} op
+   * @param {string} target
+   * @param {Foresight} foresight what is there before the line
+   * @returns {Partial<Step>}
+   */
+  wayBack(op, target, foresight) {
+    const id = this.idOf(target);
+    const remains = remainsOf(foresight, op, id);
+    return remains ? { remains } : inverseOf(op, target, foresight.plain(id));
   }
 
   /**
@@ -143,9 +178,9 @@ export class Edits {
    * @param {Step[]} steps
    * @param {(step: Step) => string} text the line that is typed for a step
    * @param {() => Step[]} choose which of the steps go out, when their turn has come
-   * @param {((refusals: Refusal[]) => void) | null} after
+   * @returns {Promise<Refusal[]>} what was refused, as is said here too
    */
-  async send(steps, text, choose, after) {
+  async send(steps, text, choose) {
     const layer = this.foresee(steps, text);
     /** @type {Step[]} */
     let sent = [];
@@ -155,14 +190,14 @@ export class Edits {
         return this.wireLines(sent, text);
       });
       const refusals = this.take(sent, text, answers, layer, steps, edits);
-      after?.(refusals);
       if (refusals.length) this.ed.refuse(refusals);
-      return refusals.length === 0;
+      return refusals;
     } catch (fault) {
       this.pending.drop(layer);
       const why = fault instanceof Lost ? "Lost" : /** @type {Error} */ (fault).message;
-      this.ed.refuse([{ line: this.real(text(steps[0])), why }]);
-      return false;
+      const refusals = [{ line: this.real(text(steps[0])), why }];
+      this.ed.refuse(refusals);
+      return refusals;
     } finally {
       this.ed.rested();
     }
@@ -230,10 +265,14 @@ export class Edits {
   accept(step, isForward, stamp, names) {
     if (isForward && step.name) {
       names.set(step.name, stamp);
-      this.ids.set(step.name, stamp);
-      this.names.set(stamp, step.name);
+      for (const name of [step.name, step.was].filter(Boolean)) {
+        this.ids.set(name, stamp);
+        this.names.set(stamp, name);
+      }
       this.claims.watch(stamp);
     }
+    if (isForward) for (const id of step.remains?.made.keys() ?? []) this.claims.watch(this.idOf(this.names.get(id) ?? id));
+    if (step.source) Object.assign(step.source, { isDone: false, stamp });
     step.before = this.claims.claim(stamp, this.realKeys(step), step.stamp ? step.before : null);
     step.stamp = stamp;
     step.isDone = isForward;
@@ -242,44 +281,5 @@ export class Edits {
   /** @param {Step} step */
   realKeys(step) {
     return step.keys.map((key) => this.named(`key ${key}`, (word) => this.idOf(word)).slice(4));
-  }
-
-  /**
-   * Takes the last gesture back, or does it again.
-   * @param {Gesture[]} from
-   * @param {Gesture[]} to
-   * @param {boolean} isUndo
-   */
-  async turn(from, to, isUndo) {
-    const { ed } = this;
-    if (ed.readOnly) return;
-    ed.settle();
-    const gesture = from.pop();
-    if (!gesture) {
-      ed.say(isUndo ? "There is nothing to undo" : "There is nothing to do again");
-      return;
-    }
-    const all = isUndo ? gesture.steps.filter((step) => step.back).reverse() : gesture.steps.filter((step) => step.back || isPartOf(gesture, step));
-    const final = isUndo ? gesture.steps.find((step) => step.why)?.why : null;
-    if (final) ed.banner({ text: `${final[0].toUpperCase()}${final.slice(1)}`, lasts: 5000 });
-    if (!all.length) {
-      ed.rested();
-      return;
-    }
-    to.push(gesture);
-    let kept = 0;
-    const choose = () => {
-      const open = all.filter((step) => step.back && step.stamp && step.isDone === isUndo);
-      const chosen = open.filter((step) => canTurn(this, step, isUndo));
-      kept = open.length - chosen.length;
-      return isUndo ? chosen : withParts(gesture, chosen);
-    };
-    const sent = this.send(all, (step) => (isUndo ? step.back : step.line), choose, null);
-    ed.selection.set(shownOf(this, all), null);
-    ed.say(`${isUndo ? "Undid" : "Did again"}: ${gesture.name}`);
-    ed.rested();
-    await sent;
-    if (kept) ed.banner({ text: `${kept} of ${all.length} changes stayed: changed or deleted since`, lasts: 6000 });
-    ed.stacks();
   }
 }

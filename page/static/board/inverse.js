@@ -2,10 +2,9 @@
 
 /** @typedef {import("../core/types.js").Plain} Plain */
 
-/** What nothing takes back so far, in words. */
+/** What nothing takes back so far, in words; what is made anew has no need of any. */
 const FINAL = /** @type {Record<string, string>} */ ({
-  delete: "a delete can’t be taken back yet",
-  ungroup: "dissolving a group can’t be taken back yet",
+  ungroup: "a group in a group can’t be made again yet",
   raise: "what was brought to the front can’t be put back yet",
   lower: "what was sent to the back can’t be put back yet",
 });

@@ -65,6 +65,11 @@ export class Layer {
   get isReordering() {
     return this.turns.some((turn) => turn.op !== "create" && turn.op !== "delete");
   }
+
+  /** Whether the order changes where it doesn't count after all. What wasn't deleted has to go back to its place. */
+  get isReorderingBack() {
+    return this.turns.some((turn) => turn.op !== "create");
+  }
 }
 
 export class Pending {
@@ -121,7 +126,7 @@ export class Pending {
    */
   answered(layer, refused, names, edits) {
     const touched = new Set(layer.byId.keys());
-    const isReordering = layer.isReordering && refused.size > 0;
+    const isReordering = layer.isReorderingBack && refused.size > 0;
     layer.without(refused);
     for (const each of this.layers) each.rename(names);
     layer.edits = edits;
@@ -138,7 +143,7 @@ export class Pending {
   drop(layer) {
     if (!this.layers.includes(layer)) return;
     this.layers = this.layers.filter((each) => each !== layer);
-    this.show(new Set(layer.byId.keys()), layer.isReordering);
+    this.show(new Set(layer.byId.keys()), layer.isReorderingBack);
   }
 
   /**

@@ -4,6 +4,8 @@
 /** @typedef {import("./types.js").Plain} Plain */
 
 export const MOST_LABEL = 200;
+/** As many lines as one batch takes. */
+export const MOST_LINES = 10_000;
 /** A label has no line feed, but U+2028 may stand in it. */
 export const BREAK = "\u2028";
 

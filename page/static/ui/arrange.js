@@ -10,6 +10,8 @@ import { count } from "./words.js";
 
 /** As many objects as a group takes. */
 const MOST_MEMBERS = 32;
+/** For so many milliseconds what was deleted is offered back. */
+const PUT_BACK_LASTS = 7000;
 
 /** How far a box goes, within the box around all, for each way to align. */
 const WAYS = /** @type {Record<string, {name: string, by: (box: Box, all: Box) => [number, number]}>} */ ({
@@ -127,10 +129,24 @@ export function duplicate(ed) {
   ed.edits.do(`Duplicated ${count(tops.length)}`, lines, (ids) => tops.map((top) => ids[(made.get(top.id) ?? 0) - 1]));
 }
 
-/** @param {Ed} ed */
-export function remove(ed) {
-  const ids = [...ed.selection.ids];
-  ed.edits.do(`Deleted ${count(ids.length)}`, ids.map((id) => `delete ${id}`));
+/**
+ * Deletes what is selected, and offers it back.
+ * @param {Ed} ed
+ */
+export async function remove(ed) {
+  const { edits } = ed;
+  const ids = ed.selection.list().map((item) => item.id);
+  const before = edits.done.at(-1);
+  const sent = edits.do(`Deleted ${count(ids.length)}`, ids.map((id) => `delete ${id}`));
+  const gesture = edits.done.at(-1);
+  if (!gesture || gesture === before) return;
+  const text = ed.node.sites > 1 ? `${gesture.name} for everybody` : gesture.name;
+  const banner = ed.banner({
+    text, icon: "trash", action: "Put back", key: "Mod+Z", run: () => edits.undo(gesture), lasts: PUT_BACK_LASTS,
+  });
+  gesture.turned = () => banner?.remove();
+  await sent;
+  if (!edits.done.includes(gesture)) banner?.remove();
 }
 
 /**

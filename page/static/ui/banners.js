@@ -1,6 +1,6 @@
 // What the page says: banners under the top, bubbles beside an object, and words for assistive technology alone.
 
-import { h } from "./h.js";
+import { h, keyText } from "./h.js";
 import { icon } from "./icons.js";
 import { plainWords } from "./words.js";
 
@@ -12,6 +12,7 @@ import { plainWords } from "./words.js";
  * @property {string} [icon]
  * @property {boolean} [stays] whether it stays until it is taken away by who made it
  * @property {string} [action] the words of its button
+ * @property {string} [key] the key that does the same
  * @property {() => void} [run] what its button does
  * @property {number} [lasts] for how many milliseconds it is shown; without it, until it is dismissed
  */
@@ -61,12 +62,15 @@ function bannerOf(banner) {
   const parts = [
     icon(banner.icon ?? "info", 18),
     h("span", { dir: "auto" }, banner.text),
-    banner.action && h("button", { type: "button", class: "quiet", onclick: act }, banner.action),
+    banner.action && h("button", { type: "button", class: "quiet", onclick: act }, banner.action, banner.key && keyOf(banner.key)),
     !banner.stays && h("button", dismiss, icon("close", 16)),
   ];
   made.append(...parts.filter((part) => part instanceof Node));
   return made;
 }
+
+/** @param {string} key */
+const keyOf = (key) => h("kbd", { class: "for-keys", "aria-hidden": "true" }, keyText(key));
 
 /**
  * A bubble at the object of the first refusal, at the selection, or at the pointer.

@@ -64,7 +64,7 @@ export class Clipboard {
   }
 
   drop() {
-    const ids = [...this.ed.selection.ids];
+    const ids = this.ed.selection.list().map((item) => item.id);
     this.ed.edits.do(`Cut ${count(ids.length)}`, ids.map((id) => `delete ${id}`));
   }
 

@@ -168,21 +168,203 @@ test("an undo right behind a gesture waits for that one's answers", async () => 
   assert.deepEqual(places(model), []);
 });
 
-test("a delete can't be taken back, and that is said; the gesture before it can", async () => {
+test("what nothing takes back is said, with what the next undo is about", async () => {
   const { ed, answer, told, typed, rest } = page(rect("1.2"), rect("2.2"));
-  ed.edits.do("Moved", ["move 2.2 9 0"]);
+  ed.edits.do("Moved 1 object", ["move 2.2 9 0"]);
   await answer();
-  for (const line of ["delete 1.2", "ungroup 1.2", "raise 2.2", "lower 2.2"]) {
+  for (const line of ["raise 2.2", "lower 2.2"]) {
     ed.edits.do("Did", [line]);
     await answer();
     ed.edits.undo();
     await rest();
     assert.equal(typed.length, 0);
   }
-  assert.equal(told.banners.length, 4);
-  assert.equal(told.banners[0], "A delete can’t be taken back yet");
+  assert.equal(told.banners.length, 2);
+  assert.match(told.banners[0], /^What was brought to the front can’t be put back yet\. Undo once more .*“Moved 1 object”$/);
   ed.edits.undo();
   assert.deepEqual(await answer(), ["move 2.2 0 0"]);
+});
+
+const looked = (id, x, more) => ({ ...rect(id, x), ...more });
+
+test("what was deleted is put back as new objects that look the same, from the bottom to the top", async () => {
+  const { ed, model, answer, told } = page(
+    looked("1.2", 5, { stroke: "FF0000", fill: "00FF00", width: 3, label: " a @1" }), rect("2.2", 50), { ...rect("3.2", 90), kind: "ellipse" },
+  );
+  // In whatever order they were selected.
+  ed.edits.do("Deleted 2 objects", ["delete 3.2", "delete 1.2"]);
+  await answer();
+  assert.deepEqual(places(model), ["2.2 50"]);
+  ed.edits.undo();
+  assert.deepEqual(places(model), ["2.2 50", "~2.1 5", "~2.5 90"]);
+  assert.deepEqual(await answer(), [
+    "create rect 5 0 10 10  a @1", "stroke @1 FF0000", "fill @1 00FF00", "width @1 3", "create ellipse 90 0 10 10",
+  ]);
+  assert.deepEqual([...ed.selection.ids], ["103.1", "107.1"]);
+  assert.deepEqual(told.banners, []);
+  assert.deepEqual([ed.edits.done.length, ed.edits.undone.length], [0, 1]);
+});
+
+test("gestures from before a delete go on with what was put back, and it is deleted and put back again", async () => {
+  for (const id of ["1.2", null]) {
+    const { ed, answer } = page(...(id ? [rect(id)] : []));
+    if (!id) ed.edits.do("Made", ["create rect 0 0 10 10"]);
+    if (!id) await answer();
+    const name = id ?? "101.1";
+    ed.edits.do("Moved", [`move ${name} 9 0`]);
+    await answer();
+    ed.edits.do("Deleted", [`delete ${name}`]);
+    await answer();
+    ed.edits.undo();
+    assert.deepEqual(await answer(), ["create rect 9 0 10 10"]);
+    const second = ed.model.items[0].id;
+    ed.edits.redo();
+    assert.deepEqual(await answer(), [`delete ${second}`]);
+    ed.edits.undo();
+    assert.deepEqual(await answer(), ["create rect 9 0 10 10"]);
+    const third = ed.model.items[0].id;
+    ed.edits.undo();
+    assert.deepEqual(await answer(), [`move ${third} 0 0`]);
+    ed.edits.redo();
+    assert.deepEqual(await answer(), [`move ${third} 9 0`]);
+    if (id) continue;
+    ed.edits.undo();
+    await answer();
+    ed.edits.undo();
+    assert.deepEqual(await answer(), [`delete ${third}`]);
+  }
+});
+
+test("groups are grouped again, with the groups in them", async () => {
+  const inner = { kind: "group", id: "8.2", in: "9.2", at: [0, 0] };
+  const outer = { kind: "group", id: "9.2", in: null, at: [0, 0] };
+  const items = [outer, inner, looked("1.2", 1, { in: "8.2" }), looked("2.2", 2, { in: "8.2" }), looked("3.2", 3, { in: "9.2" })];
+  const { ed, model, answer } = page(...items);
+  ed.edits.do("Deleted", ["delete 9.2"]);
+  await answer();
+  assert.deepEqual(places(model), []);
+  ed.edits.undo();
+  assert.deepEqual(await answer(), ["create rect 1 0 10 10", "create rect 2 0 10 10", "group @1 @2", "create rect 3 0 10 10", "group @3 @4"]);
+  assert.deepEqual([...ed.selection.ids], ["106.1"]);
+  ed.edits.redo();
+  assert.deepEqual(await answer(), ["delete 106.1"]);
+});
+
+test("a group that was dissolved is made again, unless it was in a group", async () => {
+  const { ed, answer, told, typed, rest } = page(
+    { kind: "group", id: "9.2", in: null, at: [0, 0] }, { kind: "group", id: "8.2", in: "9.2", at: [0, 0] },
+    looked("1.2", 1, { in: "8.2" }), looked("2.2", 2, { in: "8.2" }), looked("3.2", 3, { in: "9.2" }),
+  );
+  ed.edits.do("Dissolved", ["ungroup 8.2"]);
+  await answer();
+  ed.edits.undo();
+  await rest();
+  assert.equal(typed.length, 0);
+  assert.match(told.banners[0], /^A group in a group can’t be made again yet/);
+  ed.edits.do("Dissolved", ["ungroup 9.2"]);
+  await answer();
+  ed.edits.undo();
+  assert.deepEqual(await answer(), ["group 1.2 2.2 3.2"]);
+  ed.edits.redo();
+  assert.deepEqual(await answer(), ["ungroup 103.1"]);
+});
+
+test("where it matters that what was put back is another object, that is said", async () => {
+  const inGroup = [{ kind: "group", id: "9.2", in: null, at: [0, 0] }, looked("1.2", 1, { in: "9.2" }), looked("2.2", 50, { in: "9.2" })];
+  const covered = [rect("1.2"), rect("2.2", 5)];
+  const beside = [rect("1.2"), rect("2.2", 50), rect("3.2", 55)];
+  const rows = [[inGroup, "Put back 1 object outside its group"], [covered, "Put back 1 object on top"], [beside, undefined]];
+  for (const [items, words] of rows) {
+    const { ed, answer, told } = page(...items);
+    ed.edits.do("Deleted", ["delete 1.2"]);
+    await answer();
+    ed.edits.undo();
+    await answer();
+    assert.equal(told.banners[0], words);
+  }
+  // What lay below doesn't count, nor what was deleted too.
+  const { ed, answer, told, other, tick } = page(...covered);
+  ed.people = { name: () => "Bob" };
+  for (const lines of [["delete 2.2"], ["delete 1.2", "delete 2.2"]]) {
+    ed.edits.do("Deleted", lines);
+    await answer();
+    ed.edits.undo();
+    await answer();
+    ed.edits.undo();
+  }
+  assert.deepEqual(told.banners, []);
+  const [first] = ed.model.items;
+  ed.edits.do("Deleted", [`delete ${first.id}`]);
+  await answer();
+  other({ op: "move", target: first.id, x: 1, y: 1, clock: tick() });
+  ed.edits.undo();
+  await answer();
+  assert.deepEqual(told.banners, ["Put back 1 object on top and without what Bob changed since"]);
+});
+
+test("what was put back and changed by another isn't deleted by a redo", async () => {
+  const { ed, answer, other, told, tick } = page(rect("1.2"));
+  ed.edits.do("Deleted", ["delete 1.2"]);
+  await answer();
+  ed.edits.undo();
+  await answer();
+  other({ op: "move", target: "102.1", x: 1, y: 1, clock: tick() });
+  ed.edits.redo();
+  assert.deepEqual(await answer(), []);
+  assert.deepEqual(told.banners, ["1 of 1 changes stayed: changed or deleted since"]);
+});
+
+test("what another one had deleted first isn't put back", async () => {
+  const { ed, model, answer } = page(rect("1.2"), rect("2.2", 5));
+  ed.edits.do("Deleted", ["delete 1.2", "delete 2.2"]);
+  ed.edits.undo();
+  assert.deepEqual(places(model), ["~2.1 0", "~2.2 5"]);
+  await answer("refused: NoObject");
+  assert.deepEqual(await answer(), ["create rect 5 0 10 10"]);
+  assert.deepEqual(ed.model.items.map((item) => item.x), [0, 5]);
+});
+
+test("a put-back that nobody heard can be done later, and no other gesture is taken back instead", async () => {
+  const { ed, answer, told, typed, rest } = page(rect("1.2"), rect("2.2"));
+  ed.edits.do("Moved", ["move 2.2 9 0"]);
+  await answer();
+  ed.edits.do("Deleted", ["delete 1.2"]);
+  await answer();
+  ed.edits.undo();
+  await rest();
+  typed.shift().fail(new Lost("Lost"));
+  await rest();
+  assert.deepEqual(told.refused.map(({ why }) => why), ["Lost"]);
+  assert.deepEqual([ed.edits.done.length, ed.edits.undone.length], [2, 0]);
+});
+
+test("one gesture alone is taken back, whatever was done since, and only once", async () => {
+  const { ed, answer, typed, rest } = page(rect("1.2"), rect("2.2"));
+  ed.edits.do("Deleted", ["delete 1.2"]);
+  await answer();
+  const [gesture] = ed.edits.done;
+  ed.edits.do("Moved", ["move 2.2 9 0"]);
+  await answer();
+  ed.edits.undo(gesture);
+  assert.deepEqual(await answer(), ["create rect 0 0 10 10"]);
+  ed.edits.undo(gesture);
+  await rest();
+  assert.equal(typed.length, 0);
+  ed.edits.undo();
+  assert.deepEqual(await answer(), ["move 2.2 0 0"]);
+});
+
+test("more is put back than one batch takes", async () => {
+  const many = Array.from({ length: 4000 }, (_, at) => looked(`${at + 1}.2`, at, { stroke: "FF0000", fill: "00FF00" }));
+  const { ed, model, answer } = page(...many);
+  ed.edits.do("Deleted", many.map(({ id }) => `delete ${id}`));
+  await answer();
+  ed.edits.undo();
+  assert.equal(model.items.length, 4000);
+  const [first, second] = [await answer(), await answer()];
+  assert.deepEqual([first.length, second.length], [10000, 2000]);
+  // The 3,334th is made by the last line of the first batch.
+  assert.deepEqual([first.at(-1), second[0]], ["create rect 3333 0 10 10", "stroke 14000.1 FF0000"].map((line) => line.replace("14000", "14100")));
 });
 
 test("a refused line goes back and says why; a gesture of which nothing was taken is no step of undo", async () => {
