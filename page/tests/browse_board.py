@@ -39,7 +39,7 @@ class Making(WithBoard):
     def test_shapes_are_drawn_by_dragging(self):
         rows = [
             ("r", (300, 200), (450, 300), ("ctrl",), "rect 300 200 150 100"),
-            ("3", (450, 300), (300, 200), ("ctrl",), "rect 300 200 150 100"),
+            ("2", (450, 300), (300, 200), ("ctrl",), "rect 300 200 150 100"),
             ("o", (300, 200), (420, 260), ("ctrl", "shift"), "ellipse 300 200 120 120"),
             ("o", (300, 200), (280, 260), ("ctrl", "shift"), "ellipse 240 200 60 60"),
             ("r", (400, 300), (450, 320), ("ctrl", "alt"), "rect 350 280 100 40"),
@@ -427,8 +427,38 @@ class Undoing(WithBoard):
         wait_for(lambda: "1 of 2 changes stayed" in self.one.banners())
         self.assert_seen(first, x=700, y=500)
 
-    def test_a_delete_cant_be_taken_back_and_that_is_said(self):
-        self.make(self.one, "create rect 300 200 100 60", select=True)
+    def test_what_was_deleted_is_put_back_as_new_objects(self):
+        first, second = self.make(self.one, "create rect 300 200 100 60 Start", "fill @1 FFF2AE", "create ellipse 500 200 90 60", select=True)
         self.typed_by(self.one, lambda: self.one.press(Keys.DELETE))
-        self.assert_typed(self.one, lambda: self.one.press("z", hold=["ctrl"]))
-        self.assertIn("can’t be taken back yet", self.one.banners())
+        wait_for(lambda: not self.two.ids())
+        self.assertEqual(self.one.banners(), "Deleted 2 objects for everybodyPut backCtrl+Z")
+        lines = self.typed_by(self.one, lambda: self.one.press("z", hold=["ctrl"]))
+        again, other = self.one.ids()
+        self.assertEqual(lines, ["create rect 300 200 100 60 Start", f"fill {again} FFF2AE", "create ellipse 500 200 90 60"])
+        self.assertEqual(self.one.selected(), [again, other])
+        self.assertEqual(self.one.banners(), "")
+        self.assert_seen(again, label="Start", fill="FFF2AE")
+        self.assert_typed(self.one, lambda: self.one.press("z", hold=["ctrl", "shift"]), f"delete {again}", f"delete {other}")
+        self.assertNotIn(first, self.one.ids())
+        self.assertNotIn(second, self.one.ids())
+
+    def test_the_banner_puts_back_what_was_deleted_whatever_was_done_since(self):
+        one, two = self.make(self.one, "create rect 300 200 100 60", "create rect 500 200 100 60", select=True)
+        self.one.do("ed.selection.set([arguments[0]], null)", one)
+        self.typed_by(self.one, lambda: self.one.press(Keys.BACKSPACE))
+        self.one.do("ed.selection.set([arguments[0]], null)", two)
+        self.typed_by(self.one, lambda: self.one.press(Keys.ARROW_RIGHT))
+        self.assert_typed(self.one, self.one.find(".banner .quiet").click, "create rect 300 200 100 60")
+        self.assert_typed(self.one, lambda: self.one.press("z", hold=["ctrl"]), f"move {two} 500 200")
+
+    def test_what_is_put_back_lacks_what_the_other_one_did_to_it_meanwhile(self):
+        (name,) = self.make(self.one, "create rect 300 200 100 60", select=True)
+        self.cut(1)
+        self.typed_by(self.one, lambda: self.one.press(Keys.DELETE))
+        self.typed_by(self.two, lambda: self.two.do("ed.edits.do('m', [`move ${arguments[0]} 700 500`])", name))
+        self.cut()
+        wait_for(lambda: self.one.ask("ed.node.events.some((each) => each.site === 2 && each.id === arguments[0])", name))
+        self.one.press("z", hold=["ctrl"])
+        wait_for(lambda: "Put back 1 object without what Site 2 changed since" in self.one.banners())
+        (again,) = self.wait_until_same()
+        self.assertIn("at 300 200 size 100 60", again)

@@ -75,7 +75,7 @@ class Tools(WithOnePage):
             self.assertEqual(page.ask("ed.tool"), tool)
             self.assertEqual(page.ask("document.activeElement.id"), "board")
         for key, tool in (("r", "rect"), ("o", "ellipse"), ("e", "ellipse"), ("l", "line"), ("t", "text"), ("h", "hand"), ("v", "select"),
-                          ("3", "rect"), ("к", "rect"), ("м", "select")):
+                          ("2", "rect"), ("4", "ellipse"), ("6", "line"), ("8", "text"), ("1", "select"), ("к", "rect"), ("м", "select")):
             code = {"к": "KeyR", "м": "KeyV"}.get(key)
             if code:
                 page.do("document.activeElement.dispatchEvent(new KeyboardEvent('keydown', {key: arguments[0], code: arguments[1], bubbles: true}))", key, code)

@@ -272,7 +272,7 @@ export class Edits {
       this.claims.watch(stamp);
     }
     if (isForward) for (const id of step.remains?.made.keys() ?? []) this.claims.watch(this.idOf(this.names.get(id) ?? id));
-    if (step.source) Object.assign(step.source, { isDone: false, stamp });
+    if (step.source) Object.assign(step.source, { isDone: false, stamp: step.was ? stamp : step.source.stamp });
     step.before = this.claims.claim(stamp, this.realKeys(step), step.stamp ? step.before : null);
     step.stamp = stamp;
     step.isDone = isForward;

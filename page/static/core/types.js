@@ -140,6 +140,7 @@
  * @property {(on: boolean) => void} sheet
  * @property {() => void} stacks
  * @property {(x: number, y: number, at?: Place) => void} openMenu
+ * @property {() => void} openSaves
  * @property {() => void} rested
  * @property {() => void} busied
  * @property {() => void} placed

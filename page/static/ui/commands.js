@@ -52,13 +52,14 @@ const commandsOf = (group, rows) =>
 const choose = (id) => (/** @type {Ed} */ ed) => ed.setTool(/** @type {import("../core/types.js").Tool} */ (id));
 const isTool = { tool: true };
 
+// The numbers are those of Excalidraw. 3, 5 and 7 stand there for tools that aren't here.
 const TOOLS = commandsOf("Tools", [
   ["select", "Select", "select", ["V", "1"], always, choose("select"), isTool],
-  ["hand", "Hand", "hand", ["H", "2"], always, choose("hand"), isTool],
-  ["rect", "Rectangle", "rect", ["R", "3"], canWrite, choose("rect"), isTool],
+  ["hand", "Hand", "hand", ["H"], always, choose("hand"), isTool],
+  ["rect", "Rectangle", "rect", ["R", "2"], canWrite, choose("rect"), isTool],
   ["ellipse", "Ellipse", "ellipse", ["O", "4", "E"], canWrite, choose("ellipse"), isTool],
-  ["line", "Line", "line", ["L", "5"], canWrite, choose("line"), isTool],
-  ["text", "Text", "text", ["T", "6"], canWrite, choose("text"), isTool],
+  ["line", "Line", "line", ["L", "6"], canWrite, choose("line"), isTool],
+  ["text", "Text", "text", ["T", "8"], canWrite, choose("text"), isTool],
 ]);
 
 /** @type {When} */
@@ -141,16 +142,17 @@ const HISTORY = commandsOf("History", [
 
 const FILE = commandsOf("File", [
   ["open", "Import a file", "open", ["Mod+O"], canWrite, (ed) => ed.importing.choose()],
+  ["save", "Save or export", "save", ["Mod+S"], always, (ed) => ed.openSaves()],
   ["saveSvg", "Export as SVG", "image", [], hasItems, (ed) => ed.exporting.saveSvg()],
   ["savePng", "Export as PNG", "image", [], hasItems, (ed) => ed.exporting.savePng()],
   ["savePdf", "Export as PDF", "image", [], hasItems, (ed) => ed.exporting.savePdf()],
   ["print", "Print", "print", ["Mod+P"], hasItems, (ed) => ed.exporting.print()],
-  ["saveText", "Save as lines", "save", ["Mod+S"], always, (ed) => ed.exporting.saveFrom("text")],
-  ["saveJson", "Save as JSON", "save", [], always, (ed) => ed.exporting.saveFrom("json")],
-  ["saveLog", "Save the journal", "history", [], always, (ed) => ed.exporting.saveFrom("log")],
-  ["saveEvents", "Save the list of events", "history", [], always, (ed) => ed.exporting.saveFrom("events")],
   ["copySvg", "Copy as SVG", "image", ["Mod+Shift+C"], hasItems, (ed) => ed.exporting.copySvg()],
   ["copyPng", "Copy as PNG", "image", ["Alt+Shift+C"], hasItems, (ed) => ed.exporting.copyPng()],
+  ["saveLog", "Save the journal", "history", [], always, (ed) => ed.exporting.saveFrom("log")],
+  ["saveJson", "Save as JSON", "save", [], always, (ed) => ed.exporting.saveFrom("json")],
+  ["saveText", "Save as lines", "save", [], always, (ed) => ed.exporting.saveFrom("text")],
+  ["saveEvents", "Save the list of events", "history", [], always, (ed) => ed.exporting.saveFrom("events")],
 ]);
 
 const PEOPLE = commandsOf("People", [

@@ -4,11 +4,14 @@ import { button, h } from "./h.js";
 
 /** @typedef {import("../core/types.js").Ed} Ed */
 
+const PICTURES = ["saveSvg", "savePng", "savePdf"];
+const COPIES = ["saveLog", "saveJson", "saveText", "saveEvents"];
+const SAVES = [PICTURES, COPIES];
 const MENU = [
   ["palette", "objects"],
-  ["open"],
-  ["saveText", "saveJson", "saveLog", "saveEvents"],
-  ["saveSvg", "savePng", "savePdf", "print", "copySvg", "copyPng"],
+  ["open", ...PICTURES, "print", "copySvg", "copyPng"],
+  COPIES,
+  ["zoomIn", "zoomOut", "fit"],
   ["roster", "rename"],
   ["theme", "help"],
 ];
@@ -16,19 +19,24 @@ const MENU = [
 /** @typedef {{showName: (name: string) => void, showState: (kind: string, text: string) => void}} FileIsland */
 
 /**
+ * Fills the island, and puts `openSaves` on `ed`.
  * @param {Ed} ed
  * @param {HTMLElement} host
  * @returns {FileIsland}
  */
 export function makeFile(ed, host) {
-  const menu = button("menu", "Menu", () => {
-    if (ed.menu.isOpen) {
-      ed.menu.close();
-      return;
-    }
+  const menu = button("menu", "Menu", () => (ed.menu.isOpen ? ed.menu.close() : open(MENU)), {
+    props: { "aria-haspopup": "menu", "aria-expanded": "false" },
+  });
+  /**
+   * @param {string[][]} parts
+   * @param {string} [note]
+   */
+  const open = (parts, note) => {
     const box = menu.getBoundingClientRect();
-    ed.menu.open(box.left, box.bottom + 8, MENU, menu);
-  }, { props: { "aria-haspopup": "menu", "aria-expanded": "false" } });
+    ed.menu.open(box.left, box.bottom + 8, parts, menu, note);
+  };
+  ed.openSaves = () => open(SAVES, `All is kept already, in ${ed.node.journal || "the journal"}`);
   const name = h("h1", { class: "board-name", title: "" });
   const dot = h("span", { class: "dot-state", "aria-hidden": "true" });
   const words = h("span", { class: "state-words" });

@@ -34,7 +34,7 @@ const find = (id) => /** @type {HTMLElement} */ (document.getElementById(id));
  * Makes the islands and puts them on `ed`: `menu`, `roster`, `objects`, `stylePanel`, `history`, `editor`, `clipboard`,
  * `exporting`, `importing`, `palette`, `help`, `standing`; and what they do: `say`, `banner`, `refuse`, `kindName`,
  * `describe`, `short`, `pad`, `fit`, `walk`, `escape`, `focusBoard`, `closePopups`, `setReadOnly`, `styleFor`, `setTool`,
- * `sheet`, `stacks`, `openMenu`, `rested`, `busied`, `placed`, `setTheme`.
+ * `sheet`, `stacks`, `openMenu`, `openSaves`, `rested`, `busied`, `placed`, `setTheme`.
  *
  * The board calls `ed.rested()` when a gesture, the selection or the drawing has changed, `ed.busied()` when a gesture
  * begins, `ed.placed()` when the camera has moved, `ed.standing.update()` when what is known of the node, its peers, its

@@ -62,11 +62,12 @@ export class Menu {
    * @param {number} y
    * @param {string[][]} parts lists of ids of commands; a line stands between lists
    * @param {HTMLElement | null} [opener] the button that it belongs to
+   * @param {string} [note] what stands above all
    */
-  open(x, y, parts, opener = null) {
+  open(x, y, parts, opener = null, note = "") {
     const { ed } = this;
     this.opener = opener;
-    this.el.replaceChildren();
+    this.el.replaceChildren(...(note ? [h("p", { class: "fine", role: "presentation" }, note)] : []));
     for (const ids of parts) {
       const rows = ids.map(commandOf).filter((command) => opener || command.when(ed));
       if (!rows.length) continue;

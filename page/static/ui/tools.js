@@ -69,9 +69,9 @@ function toolButton(ed, { id, icon, title, keys }) {
     if (lock) ed.say(`${title} stays chosen`);
   };
   const made = button(icon, title, (event) => event.detail < 2 && choose(false), {
-    key: `${keys[0]} or ${keys[1]}`,
+    key: keys.slice(0, 2).join(" or "),
     props: { "data-tool": id, "aria-pressed": "false", "aria-keyshortcuts": keys.join(" ") },
-    children: [h("small", { "aria-hidden": "true" }, keys[1])],
+    children: [h("small", { "aria-hidden": "true" }, keys[1] ?? keys[0])],
   });
   made.addEventListener("dblclick", () => choose(MAKING.has(tool)));
   return made;

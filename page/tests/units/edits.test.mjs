@@ -203,6 +203,8 @@ test("what was deleted is put back as new objects that look the same, from the b
   assert.deepEqual([...ed.selection.ids], ["103.1", "107.1"]);
   assert.deepEqual(told.banners, []);
   assert.deepEqual([ed.edits.done.length, ed.edits.undone.length], [0, 1]);
+  ed.edits.redo();
+  assert.deepEqual(await answer(), ["delete 107.1", "delete 103.1"]);
 });
 
 test("gestures from before a delete go on with what was put back, and it is deleted and put back again", async () => {
