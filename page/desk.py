@@ -212,7 +212,7 @@ class Desk:
         silence = self.node.silence() if self.node else 0
         peers = self.peers.told(self.called(), silence)
         heard = [each["heard"] for each in peers["peers"]]
-        plain = ([{**each, "heard": None} for each in peers["peers"]], peers["waiting"], peers["silent"])
+        plain = {**peers, "peers": [{**each, "heard": None} for each in peers["peers"]]}
         if plain != self.told_peers or 0 in heard:
             self.told_peers = plain
             self.tell("peers", **peers)

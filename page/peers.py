@@ -3,8 +3,8 @@
 import time
 from bisect import bisect_right
 
-# How many seconds without a sign make a site one that is away, and a node one that is silent.
-AWAY, SILENT = 3, 5
+# How many seconds without a sign make it unsure whether anybody is there, a site one that is away, and a node one that is silent.
+UNSURE, AWAY, SILENT = 1, 3, 5
 
 
 class Peers:
@@ -57,6 +57,10 @@ class Peers:
             return late, len(late) == 1
         return [], False
 
+    def is_quiet(self):
+        """Whether nothing came for so long that it isn't sure that anything still comes."""
+        return time.monotonic() - self.datagram_at >= UNSURE
+
     def told(self, names, silence):
         """What a page is told. While the node itself says nothing nobody is called away."""
         now = time.monotonic()
@@ -72,7 +76,7 @@ class Peers:
             }
             for site in self.others
         ]
-        return {"peers": peers, "waiting": self.waiting(), "silent": is_silent}
+        return {"peers": peers, "waiting": self.waiting(), "quiet": self.is_quiet(), "silent": is_silent}
 
     def resume(self):
         """The node starts again, or answers again behind a silence: the time before tells nothing of others."""

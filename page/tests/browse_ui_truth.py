@@ -72,7 +72,7 @@ class Truth(WithTwoPages):
         one, two = self.one, self.two
         self.make(one, "create rect 300 300 100 80 First", "create rect 500 300 100 80 Second", "create rect 700 300 100 80 Third")
         self.wait_until_same()
-        wait_for(lambda: self.state(one) == "All have all edits")
+        wait_for(lambda: self.state(one) == "Connected")
         first, second, third = one.ids()
         self.cut(2)
         # The same is edited at both sides, so that what comes late has to be repaired.
@@ -87,7 +87,7 @@ class Truth(WithTwoPages):
         self.wait_until_same()
         told = wait_for(lambda: next((text for text in (one.banners(), two.banners()) if text.startswith("Back: ")), None))
         self.assertRegex(told, r"^Back: \d+ late edits? of (Ada|Bob|Site [12]) came in before \d+ of yours")
-        wait_for(lambda: self.state(one) == self.state(two) == "All have all edits")
+        wait_for(lambda: self.state(one) == self.state(two) == "Connected")
         self.lates_are_as_replayed()
 
     def lates_are_as_replayed(self):

@@ -3,7 +3,7 @@
 import unittest
 from unittest import mock
 
-from page.peers import AWAY, SILENT, Peers
+from page.peers import AWAY, SILENT, UNSURE, Peers
 
 
 class Known(unittest.TestCase):
@@ -27,6 +27,14 @@ class Known(unittest.TestCase):
         self.assertEqual(self.away(peers), ([1, 3], []))
         peers.datagrams()
         self.assertEqual(self.away(peers), ([], []))
+
+    def test_soon_after_the_last_sign_nothing_is_sure(self):
+        peers = Peers(2, 3)
+        for seconds, is_quiet in ((0, False), (UNSURE / 2, False), (UNSURE / 2, True)):
+            self.now += seconds
+            self.assertEqual(peers.told({}, 0)["quiet"], is_quiet)
+        peers.datagrams()
+        self.assertFalse(peers.told({}, 0)["quiet"])
 
     def test_the_one_that_the_line_waits_for_is_away(self):
         peers = Peers(1, 3)

@@ -48,7 +48,10 @@ export class Node {
     this.isReady = false;
     /** @type {End | null} */
     this.ended = null;
+    /** Whether the node answers nothing. */
     this.silent = false;
+    /** Whether it isn't sure that anything still comes from others. */
+    this.quiet = false;
     this.waiting = 0;
     /** @type {Peer[]} */
     this.peers = [];
@@ -201,7 +204,7 @@ export class Node {
     if (is === "hello") this.greet(rest);
     else if (is === "who") this.who = rest.who;
     else if (is === "standing") this.standing = rest.standing;
-    else if (is === "peers") Object.assign(this, { peers: rest.peers, waiting: rest.waiting, silent: rest.silent ?? false });
+    else if (is === "peers") Object.assign(this, { peers: rest.peers, waiting: rest.waiting, quiet: rest.quiet, silent: rest.silent });
     else if (is === "news") this.news.push(...rest.news);
     else if (is === "end") this.ended = rest.end;
     else if (is === "begun") this.ended = null;

@@ -20,7 +20,7 @@ export function makeEmpty(ed, host) {
     h("p", { class: "for-keys" }, ...keys("Space"), " and drag to pan, ", ...keys("Mod", "K"), " finds every command."),
     h("p", { class: "for-touch" }, "Pick a tool, then draw with a finger. Tap twice to write."),
     h("p", { class: "for-touch" }, "Two fingers pan and zoom, a long press opens the menu."),
-    h("p", {}, "Go on while you are cut off: it all comes together later, and the bar below shows how."),
+    h("p", {}, "Go on while you are cut off: it all comes together later, and a history shows how."),
     h("div", { class: "empty-acts" }, open),
   );
   const update = () => {

@@ -28,6 +28,12 @@ export function stateOf(seat, peer) {
   return peer.perhaps ? "may be away" : "here now";
 }
 
+/**
+ * What stands for a person in a circle: the first letter of the name, or the number of the site while there is no name.
+ * @param {Seat} seat
+ */
+export const letterOf = ({ site, name }) => (name === `Site ${site}` ? String(site) : initialOf(name));
+
 export class Roster {
   /**
    * @param {Ed} ed
@@ -76,7 +82,7 @@ export class Roster {
   /** @param {Seat} seat */
   face(seat) {
     const props = { class: `face${seat.away ? " away" : ""}`, vars: { "--who": this.colour(seat.site) }, "aria-hidden": "true" };
-    return h("span", props, initialOf(seat.name));
+    return h("span", props, letterOf(seat));
   }
 
   /** Shows who is here, where that isn't what is shown already. */

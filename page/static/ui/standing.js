@@ -12,6 +12,7 @@ import { count } from "./words.js";
  * @property {"ended" | "replaced" | null} why why it isn't, where that is known
  * @property {import("../core/types.js").End | null} ended
  * @property {boolean} silent whether the node has answered nothing for a while
+ * @property {boolean} quiet whether nothing came from others for a moment
  * @property {number} waiting how many edits nobody else has confirmed
  * @property {number} others how many other sites there are
  * @property {number} here how many of these are here
@@ -21,7 +22,7 @@ import { count } from "./words.js";
 /**
  * A state of the node: its kind, how it is said in a few words, and the banner that says it where there is one.
  * @typedef {object} State
- * @property {"on" | "waits" | "alone" | "off" | "silent" | "ended" | "lost"} kind
+ * @property {"on" | "waits" | "quiet" | "alone" | "off" | "silent" | "ended" | "lost"} kind
  * @property {string} words
  * @property {string | null} banner
  */
@@ -40,7 +41,7 @@ const waits = (waiting) => `${count(waiting, "edit")} ${waiting === 1 ? "waits" 
  * @param {Facts} facts
  * @returns {State}
  */
-export function stateOf({ connected, why, ended, silent, waiting, others, here, wasHere }) {
+export function stateOf({ connected, why, ended, silent, quiet, waiting, others, here, wasHere }) {
   if (!connected) {
     return { kind: "lost", words: "No connection", banner: `${LOST[why ?? "unknown"]} All accepted edits are in the journal.` };
   }
@@ -55,7 +56,9 @@ export function stateOf({ connected, why, ended, silent, waiting, others, here, 
   }
   if (!others) return { kind: "on", words: "You draw alone", banner: null };
   if (here && waiting) return { kind: "waits", words: `${waits(waiting)} for others`, banner: null };
-  if (here) return { kind: "on", words: "All have all edits", banner: null };
+  if (here && quiet) return { kind: "quiet", words: "Listening for others …", banner: null };
+  // That all have all edits can't be known: what others draw now is on its way at best.
+  if (here) return { kind: "on", words: "Connected", banner: null };
   if (!wasHere && !waiting) return { kind: "alone", words: "Nobody else is here", banner: null };
   const banner = waiting ? `Offline: ${waits(waiting)} here, safe on this machine` : "Offline: you can go on drawing";
   return { kind: "off", words: waiting ? `Offline, ${waits(waiting)}` : "Offline", banner };
@@ -183,8 +186,10 @@ export const nameOf = (journal) => (journal.split("/").at(-1) ?? "").replace(/\.
  * @returns {Facts}
  */
 function factsOf({ node }) {
-  const { connected, why, ended, silent, waiting, peers } = node;
-  const here = peers.filter((peer) => !peer.away).length;
+  const { connected, why, ended, silent, quiet, waiting, peers, link, site } = node;
+  // In a demonstration it is known at once who is cut off.
+  const cut = new Set(link?.cut);
+  const here = cut.has(site) ? 0 : peers.filter((peer) => !peer.away && !cut.has(peer.site)).length;
   const wasHere = peers.some((peer) => peer.heard !== null);
-  return { connected, why, ended, silent, waiting, others: peers.length, here, wasHere };
+  return { connected, why, ended, silent, quiet, waiting, others: peers.length, here, wasHere };
 }

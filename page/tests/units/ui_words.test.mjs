@@ -8,7 +8,7 @@ const { chordOf } = await import("../../static/ui/keys.js");
 const { COMMANDS } = await import("../../static/ui/commands.js");
 const { keyText } = await import("../../static/ui/h.js");
 const { stateOf, nameOf, strangerWords } = await import("../../static/ui/standing.js");
-const { stateOf: personState } = await import("../../static/ui/roster.js");
+const { letterOf, stateOf: personState } = await import("../../static/ui/roster.js");
 const { count, initialOf, plainWords, shortened } = await import("../../static/ui/words.js");
 const { tellLates } = await import("../../static/ui/arrivals.js");
 const { deedOf, repairOf } = await import("../../static/ui/deeds.js");
@@ -44,9 +44,11 @@ test("no key stands for two commands, and each command has a name and an icon", 
 });
 
 test("where the node stands, in words", () => {
-  const fine = { connected: true, why: null, ended: null, silent: false, waiting: 0, others: 1, here: 1, wasHere: true };
+  const fine = { connected: true, why: null, ended: null, silent: false, quiet: false, waiting: 0, others: 1, here: 1, wasHere: true };
   const rows = [
-    [{}, "on", "All have all edits", null],
+    [{}, "on", "Connected", null],
+    [{ quiet: true }, "quiet", "Listening for others …", null],
+    [{ quiet: true, waiting: 1 }, "waits", "1 edit waits for others", null],
     [{ waiting: 1 }, "waits", "1 edit waits for others", null],
     [{ waiting: 3 }, "waits", "3 edits wait for others", null],
     [{ others: 0, here: 0 }, "on", "You draw alone", null],
@@ -83,6 +85,7 @@ test("where another person is, in words", () => {
   ];
   for (const [peer, words] of rows) assert.equal(personState(seat, peer), words);
   assert.equal(personState({ ...seat, me: true }, undefined), "you");
+  assert.deepEqual([letterOf(seat), letterOf({ ...seat, name: "Site 2" }), letterOf({ ...seat, name: "Site 7" })], ["B", "2", "S"]);
 });
 
 test("counts, initials, refusals and long texts", () => {
