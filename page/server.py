@@ -14,6 +14,8 @@ from page.talk import Talk
 HERE = "127.0.0.1"
 STATIC = Path(__file__).resolve().parent / "static"
 TYPES = {".html": "text/html", ".css": "text/css", ".js": "text/javascript", ".svg": "image/svg+xml", ".png": "image/png"}
+# What stands in the place of a page to which another page led.
+ELSEWHERE = "elsewhere.html"
 # The name of a file of the page: words with `/` between them, none of which begins with a full stop.
 NAME = re.compile(r"[a-zA-Z0-9_-][a-zA-Z0-9_.-]*(/[a-zA-Z0-9_-][a-zA-Z0-9_.-]*)*")
 # A gesture over thousands of objects is one message.
@@ -102,8 +104,14 @@ class Server:
         if any(origin not in self.origins for origin in origins) or len(origins) > 1:
             raise web.HTTPForbidden(text="another origin\n")
         if request.headers.get("Sec-Fetch-Site", "same-origin") not in ("same-origin", "none"):
-            raise web.HTTPForbidden(text="another origin\n")
+            return self.elsewhere(request)
         return await handler(request)
+
+    def elsewhere(self, request):
+        """What another page gets. Who followed a link of it is asked, by a page of this address, whether to go on."""
+        if request.headers.get("Sec-Fetch-Dest") != "document" or request.path == f"/{self.token}/socket":
+            raise web.HTTPForbidden(text="another origin\n")
+        return web.Response(status=403, body=(STATIC / ELSEWHERE).read_bytes(), content_type="text/html", charset="utf-8")
 
     async def add_headers(self, request, response):
         """Sends the headers of this run with each answer, and ends the connection behind each but that of a socket."""

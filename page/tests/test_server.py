@@ -43,6 +43,20 @@ class Admission(WithServer):
         for site in ("same-origin", "none"):
             self.assertEqual(await self.status(f"/{TOKEN}/", Sec_Fetch_Site=site), 200)
 
+    async def test_who_followed_a_link_of_another_page_is_asked_whether_to_go_on(self):
+        asking = (STATIC / "elsewhere.html").read_bytes()
+        for path in ("", "?desk=1", "panes.html", "nothing"):
+            status, body, headers = await self.get(f"/{TOKEN}/{path}", Sec_Fetch_Site="cross-site", Sec_Fetch_Dest="document")
+            self.assertEqual((status, body), (403, asking), path)
+            self.assertEqual(headers["Content-Type"], "text/html; charset=utf-8")
+            self.assertIn("frame-ancestors 'none'", headers["Content-Security-Policy"])
+        # A frame, a script and whatever else another page loads gets nothing of it.
+        for kind in ("iframe", "script", "empty", "image"):
+            _, body, _ = await self.get(f"/{TOKEN}/", Sec_Fetch_Site="cross-site", Sec_Fetch_Dest=kind)
+            self.assertEqual(body, b"another origin\n", kind)
+        status, body, _ = await self.get(f"/{TOKEN}/", Sec_Fetch_Site="cross-site", Sec_Fetch_Dest="document", Host="evil.example")
+        self.assertEqual((status, body == asking), (421, False))
+
     async def test_a_socket_needs_the_origin_and_the_token(self):
         with self.assertRaises(aiohttp.WSServerHandshakeError) as found:
             await self.open(Origin=None)
