@@ -190,6 +190,25 @@ class Style(WithOnePage):
         wait_for(lambda: self.item(one)["stroke"] == "12AB34")
         self.assertEqual(recent.get_attribute("aria-pressed"), "true")
 
+    def test_one_begins_to_choose_a_colour_of_ones_own_from_what_is_seen(self):
+        page = self.page
+        one, two, three = self.made("create rect 100 100 80 60", "stroke @1 D92D20", "fill @1 12AB34", "create rect 300 100 80 60", "create line 300 300 9 9")
+        begin = "['stroke', 'fill'].map((part) => document.querySelector(`.row-${part} input[type=color]`).value)"
+        shown = "['stroke', 'fill'].map((part) => ed.model.byId.get(arguments[0])[part])"
+        for theme, ink, paper in (("light", "#1c2026", "#fafaf8"), ("dark", "#ebeef2", "#15181d")):
+            page.do("ed.setTheme(arguments[0])", theme)
+            self.choose(one)
+            swatch = page.ask("getComputedStyle(document.querySelector('.row-stroke [data-value=D92D20]')).backgroundColor")
+            stroke, fill = page.ask(begin)
+            self.assertEqual(f"rgb({', '.join(str(int(stroke[at : at + 2], 16)) for at in (1, 3, 5))})", swatch)
+            self.assertEqual(fill, "#12ab34")
+            self.choose(two)
+            self.assertEqual(page.ask(begin), [ink, paper])
+            self.choose(three, one, two)
+            self.assertEqual(page.ask(begin)[1], "#12ab34")
+        page.do("ed.setTheme('light')")
+        self.assertEqual(page.ask(shown, one), ["D92D20", "12AB34"])
+
     def test_the_next_shape_gets_what_was_chosen_before_it(self):
         page = self.page
         page.press("r")

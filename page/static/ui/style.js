@@ -22,6 +22,8 @@ import { count } from "./words.js";
 
 const WIDTHS = /** @type {[number, string][]} */ ([[2, "Thin"], [4, "Medium"], [8, "Bold"]]);
 const MOST_WIDTH = 64;
+/** What is seen through a shape without fill, light and dark. */
+const PAPER = ["#fafaf8", "#15181d"];
 const TITLES = { stroke: "Stroke", fill: "Fill", width: "Width" };
 const NAMES = /** @type {Record<string, string>} */ ({ rect: "rectangle", ellipse: "ellipse", line: "line", text: "text" });
 const ALIGN = ["alignL", "alignC", "alignR", "alignT", "alignM", "alignB", "distH", "distV"];
@@ -83,7 +85,7 @@ export class StylePanel {
    */
   colourRow(part, list) {
     const swatches = list.map(([hex, name]) => this.swatch(part, hex, name));
-    const own = h("input", { type: "color", "aria-label": `${TITLES[part]}: own colour` });
+    const own = h("input", { type: "color", "aria-label": `${TITLES[part]}: own colour`, value: "#ffffff" });
     own.addEventListener("change", () => this.set(part, own.value.slice(1).toUpperCase()));
     const label = h("label", { class: "swatch own", "data-tip": "Own colour" }, own, icon("plus", 14));
     const recent = new Recent(part, (hex) => this.swatch(part, hex, `#${hex}`));
@@ -209,14 +211,15 @@ export class StylePanel {
     const shown = value === undefined ? null : String(value ?? "none");
     for (const each of choices) each.setAttribute("aria-pressed", String(each.dataset.value === shown));
     if ("field" in row && document.activeElement !== row.field) row.field.value = value === undefined ? "" : String(value);
-    if ("own" in row) this.showColour(row, value);
+    if ("own" in row) this.showColour(row, value, this.ed.selection.shapes().find((shape) => has(part, shape.kind))?.[part] ?? null);
   }
 
   /**
    * @param {StylePanel["rows"]["stroke"]} row
    * @param {Value | undefined} value
+   * @param {Value} first the value of the first shape, where they differ
    */
-  showColour(row, value) {
+  showColour(row, value, first) {
     const { dark } = this.ed.scene;
     for (const each of [...row.choices, ...row.recent.swatches]) {
       const hex = each.dataset.value ?? "none";
@@ -225,7 +228,9 @@ export class StylePanel {
     const hex = typeof value === "string" ? value : null;
     const isOwn = hex !== null && !row.choices.some((each) => each.dataset.value === hex);
     row.label.dataset.on = isOwn ? "1" : "";
-    if (hex) row.own.value = `#${hex.toLowerCase()}`;
+    // One begins to choose from what is seen; where there is no fill, from the paper.
+    const begin = value === undefined ? first : value;
+    row.own.value = typeof begin === "string" ? shownColour(begin, dark).toLowerCase() : PAPER[dark ? 1 : 0];
     if (isOwn && hex) row.label.style.setProperty("--swatch", shownColour(hex, dark));
     else row.label.style.removeProperty("--swatch");
   }
