@@ -28,7 +28,8 @@ export function makeZoom(ed, bar) {
   const level = h("button", { type: "button", class: "tool zoomtext", "data-tip": "Zoom to 100 % · Shift+0" });
   level.addEventListener("click", () => run(ed, "zoom100"));
   const [out, into] = ["zoomOut", "zoomIn"].map((id) => commandButton(ed, id, { class: "wide-only" }));
-  bar.append(undo, redo, h("span", { class: "rule", role: "separator" }), out, level, into, commandButton(ed, "fit"));
+  const lens = h("span", { class: "lens", role: "presentation" }, out, level, into, commandButton(ed, "fit"));
+  bar.append(undo, redo, h("span", { class: "rule", role: "separator" }), lens);
   roving(bar);
   ed.stacks = () => {
     const { done, undone } = ed.edits;

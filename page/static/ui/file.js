@@ -11,7 +11,6 @@ const MENU = [
   ["palette", "objects"],
   ["open", ...PICTURES, "print", "copySvg", "copyPng"],
   COPIES,
-  ["zoomIn", "zoomOut", "fit"],
   ["roster", "rename"],
   ["theme", "help"],
 ];

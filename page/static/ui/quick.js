@@ -7,9 +7,10 @@ import { button, roving } from "./h.js";
 /** @typedef {import("../core/types.js").Ed} Ed */
 
 const WIDEST = 900;
-const ACTS = ["duplicate", "front", "group", "delete"];
+const ACTS = ["duplicate", "front", "group", "ungroup", "delete"];
 const GAP = { side: 8, above: 68, below: 16 };
-const ROOM = { top: 68, bottom: 190 };
+const ROOM = { top: 68, bottom: 190, bottomOfSlim: 244 };
+const SLIM = 720;
 
 /**
  * @param {Ed} ed
@@ -58,6 +59,7 @@ function put(ed, bar, frame) {
   const middle = (frame.x0 + frame.x1 - width) / 2;
   const x = Math.max(GAP.side, Math.min(innerWidth - width - GAP.side, middle));
   const isAbove = frame.y0 - GAP.above > ROOM.top;
-  const y = Math.min(innerHeight - ROOM.bottom, isAbove ? frame.y0 - GAP.above : frame.y1 + GAP.below);
+  const room = innerWidth < SLIM ? ROOM.bottomOfSlim : ROOM.bottom;
+  const y = Math.min(innerHeight - room, isAbove ? frame.y0 - GAP.above : frame.y1 + GAP.below);
   bar.style.transform = `translate(${Math.round(x)}px, ${Math.round(Math.max(ROOM.top, y))}px)`;
 }
