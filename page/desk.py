@@ -33,6 +33,8 @@ class Desk:
         self.site, self.sites, self.is_demo, self.desks = number, number, False, [number]
         # Edits that earlier runs of the node took, and the number of the last one that was shown.
         self.edits_before, self.shown, self.was_silent, self.is_fault_told = 0, -1, False, False
+        # Of each gesture of several edits since this program started the clocks of the first and the last one.
+        self.gestures = []
         self.node, self.rounds, self.tasks = None, None, []
         self.starting, self.typing = asyncio.Lock(), asyncio.Lock()
         audience.openings.append((number, self.opening))
@@ -104,8 +106,9 @@ class Desk:
         if self.rounds:
             self.rounds.expect(batch.verbs)
         answers = await batch.all_answers()
-        own = zip(answers, batch.texts)
-        self.tell_news([{"what": "own", "event": each[3:], "line": text} for each, text in own if each.startswith("ok ")])
+        own = [(each[3:], text) for each, text in zip(answers, batch.texts) if each.startswith("ok ")]
+        self.note_gesture([int(event.partition(".")[0]) for event, _ in own])
+        self.tell_news([{"what": "own", "event": event, "line": text} for event, text in own])
         return {"answers": answers, "edits": self.edits}
 
     def type(self, typed):
@@ -204,6 +207,12 @@ class Desk:
             for text in self.history.messages(self.number, first):
                 self.audience.spread(text, self.number)
 
+    def note_gesture(self, clocks):
+        """Tells that edits are one gesture. No others of this site lie between, since batches are typed one behind the other."""
+        if len(clocks) > 1:
+            self.gestures.append([clocks[0], clocks[-1]])
+            self.tell("gestures", gestures=self.gestures[-1:])
+
     def note_event(self, event, is_new):
         self.peers.event(event["clock"], event["site"], is_new)
 
@@ -246,6 +255,7 @@ class Desk:
         yield message("peers", desk=self.number, **self.peers.told(self.called(), silence))
         whole = self.picture.whole()
         yield message("picture", desk=self.number, edits=self.shown, others=False, polled_at=None, whole=True, **whole)
+        yield message("gestures", desk=self.number, gestures=self.gestures)
         yield from self.history.messages(self.number)
         if self.end:
             yield message("end", desk=self.number, end=self.end)

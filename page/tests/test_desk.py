@@ -148,7 +148,20 @@ class Telling(WithDesk):
         self.assertEqual(told["who"]["who"], [{"site": 1, "name": None, "focus": None}])
         self.assertEqual(told["standing"]["standing"], {"held": 0, "kept": 0, "line": 0, "clock": 0})
         self.assertEqual((told["peers"]["silent"], [each["site"] for each in told["peers"]["peers"]]), (False, [2]))
-        self.assertEqual(list(told), ["hello", "news", "who", "standing", "peers", "picture", "history"])
+        self.assertEqual(list(told), ["hello", "news", "who", "standing", "peers", "picture", "gestures", "history"])
+
+    async def test_the_edits_of_a_gesture_are_told_as_one(self):
+        desk = await self.desk(poll_every=1000, refused={"raise 9.1": "NoObject"})
+        await until(lambda: "who" in self.typed())
+        first = len(self.typed()) + 1
+        for lines in (["raise 1.1"], ["raise 9.1", "raise 1.1", "raise 9.1", "raise 2.1"], ["raise 9.1", "raise 1.1"], ["focus 1.1"]):
+            await desk.batch(lines)
+        told = [each["gestures"] for each in self.heard("gestures")]
+        # The stand-in counts all lines, those too that it refuses.
+        (clocks,) = told[0]
+        self.assertEqual((len(told), clocks[1] - clocks[0]), (1, 2))
+        self.assertGreater(clocks[0], first)
+        self.assertEqual(self.opened(desk)["gestures"]["gestures"], [clocks])
 
     async def test_events_are_told_once_with_what_came_of_them(self):
         first, second = (create(f"{clock}.2", clock, "rect", 0, 0, 1, 1) for clock in (1, 2))

@@ -61,6 +61,8 @@ export class Node {
     this.standing = { held: 0, kept: 0, line: 0, clock: 0 };
     /** @type {LinkSettings | null} */
     this.link = null;
+    /** @type {[number, number][]} of own gestures of several edits the clocks of the first and the last one, by rising clocks */
+    this.gestures = [];
     /** @type {any[]} */
     this.news = [];
     this.edits = 0;
@@ -206,6 +208,7 @@ export class Node {
     else if (is === "standing") this.standing = rest.standing;
     else if (is === "peers") Object.assign(this, { peers: rest.peers, waiting: rest.waiting, quiet: rest.quiet, silent: rest.silent });
     else if (is === "news") this.news.push(...rest.news);
+    else if (is === "gestures") this.gestures.push(...rest.gestures);
     else if (is === "end") this.ended = rest.end;
     else if (is === "begun") this.ended = null;
     else if (is === "link") this.link = { loss: rest.loss, twice: rest.twice, delay: rest.delay, cut: rest.cut };
@@ -215,7 +218,7 @@ export class Node {
   /** @param {any} hello */
   greet(hello) {
     const { desk, site, sites, session, demo, journal, desks, names } = hello;
-    Object.assign(this, { desk, site, sites, session, demo, journal, desks, names: names ?? {}, ended: null });
+    Object.assign(this, { desk, site, sites, session, demo, journal, desks, names: names ?? {}, ended: null, gestures: [] });
   }
 
   /**

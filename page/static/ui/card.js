@@ -1,13 +1,22 @@
-// The card of the event that is looked at: who did what, when, and how a late one was repaired.
+// The card of the step that is looked at: who did what, when, and how a late event was repaired.
 
 import { personColour } from "../board/colours.js";
-import { deedOf, isRepaired, repairOf, timeOf } from "./deeds.js";
+import { isRepaired, repairOf, stepDeedOf, timeOf, voidOf } from "./deeds.js";
 import { button, h, keyText } from "./h.js";
 import { icon } from "./icons.js";
 
 /** @typedef {import("../core/types.js").Ed} Ed */
 /** @typedef {import("../core/types.js").Event} Event */
-/** @typedef {{events: Event[], step: (by: number) => void, toNow: () => void}} Walk what goes through the events */
+/** @typedef {{events: Event[], step: (by: 1 | -1) => void, toNow: () => void}} Walk what goes through the events */
+
+/**
+ * Which events of how many a step has, in words.
+ * @param {Event[]} step
+ * @param {number} at how many events are shown
+ * @param {number} all
+ */
+export const placeOf = (step, at, all) =>
+  step.length > 1 ? `Events ${at - step.length + 1} to ${at} of ${all}` : `Event ${at} of ${all}`;
 
 export class Card {
   /**
@@ -22,12 +31,12 @@ export class Card {
   }
 
   /**
-   * @param {Event | undefined} event none in front of the first one
+   * @param {Event[]} step none in front of the first one
    * @param {number} at how many events are shown
    */
-  show(event, at) {
+  show(step, at) {
     const first = h("div", { class: "hist-line" }, "Before the first event");
-    this.el.replaceChildren(...(event ? this.parts(event, at) : [first]), this.acts(at));
+    this.el.replaceChildren(...(step.length ? this.parts(step, at) : [first]), this.acts(at));
     this.el.hidden = false;
   }
 
@@ -36,17 +45,18 @@ export class Card {
   }
 
   /**
-   * @param {Event} event
+   * @param {Event[]} step
    * @param {number} at
    */
-  parts(event, at) {
+  parts(step, at) {
     const { ed } = this;
-    const { who, what } = deedOf(ed, event);
+    const event = step[step.length - 1];
+    const { who, what } = stepDeedOf(ed, step);
     const dot = h("i", { class: "dot", vars: { "--who": personColour(event.site, ed.scene.dark) } });
-    const where = [`Event ${at} of ${this.walk.events.length}`, timeOf(event), event.stamp].filter(Boolean).join(" · ");
+    const where = [placeOf(step, at, this.walk.events.length), timeOf(event), event.stamp].filter(Boolean).join(" · ");
     const line = h("div", { class: "hist-line" }, dot, h("b", { dir: "auto" }, who), ` ${what}`);
-    const repair = isRepaired(event) ? [h("div", { class: "hist-late" }, icon("late", 14), repairOf(ed, event))] : [];
-    return [line, h("div", { class: "hist-more" }, where), ...repair];
+    const more = isRepaired(event) ? repairOf(ed, event) : voidOf(ed, event);
+    return [line, h("div", { class: "hist-more" }, where), more && h("div", { class: "hist-late" }, icon("late", 14), more)].filter(Boolean);
   }
 
   /**
@@ -56,10 +66,10 @@ export class Card {
   acts(at) {
     const { walk } = this;
     const back = h("button", { type: "button", class: "primary", onclick: () => walk.toNow() }, "Back to now");
-    const previous = button("prev", "One event back", () => walk.step(-1), {
+    const previous = button("prev", "One step back", () => walk.step(-1), {
       key: keyText("Alt+ArrowLeft"), props: { disabled: at === 0 },
     });
-    const next = button("next", "One event on", () => walk.step(1), {
+    const next = button("next", "One step on", () => walk.step(1), {
       key: keyText("Alt+ArrowRight"), props: { disabled: at === walk.events.length },
     });
     return h("div", { class: "hist-acts" }, previous, next, back);

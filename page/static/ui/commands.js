@@ -133,8 +133,8 @@ const hasLate = (ed) => ed.history.lates().length > 0;
 const isPast = (ed) => ed.history.at !== null;
 
 const HISTORY = commandsOf("History", [
-  ["histPrev", "One event back", "prev", ["Alt+ArrowLeft"], hasEvents, (ed) => ed.history.step(-1)],
-  ["histNext", "One event on", "next", ["Alt+ArrowRight"], hasEvents, (ed) => ed.history.step(1)],
+  ["histPrev", "One step back", "prev", ["Alt+ArrowLeft"], hasEvents, (ed) => ed.history.step(-1)],
+  ["histNext", "One step on", "next", ["Alt+ArrowRight"], hasEvents, (ed) => ed.history.step(1)],
   ["histPlay", "Play the history", "play", ["Shift+P"], hasEvents, (ed) => ed.history.play()],
   ["histLate", "Next late event", "late", ["Alt+L"], hasLate, (ed) => ed.history.lateStep()],
   ["histNow", "Back to now", "now", ["Alt+N"], isPast, (ed) => ed.history.toNow()],

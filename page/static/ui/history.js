@@ -1,14 +1,15 @@
-// The history bar: all events in stamp order. The slider shows the drawing as it was behind any of them, play walks
-// through, and a card says who did what, when, and how a late one was repaired.
+// The history bar: all events in stamp order. The slider shows the drawing as it was behind any of them, play and keys walk
+// through by gestures where these are known, and a card says who did what, when, and how a late one was repaired.
 
 import { boxOf } from "../board/boxes.js";
 import { personColour } from "../board/colours.js";
 import { Arrivals } from "./arrivals.js";
-import { Card } from "./card.js";
-import { deedOf, isRepaired, repairOf } from "./deeds.js";
+import { Card, placeOf } from "./card.js";
+import { deedOf, isRepaired, repairOf, stepDeedOf, voidOf } from "./deeds.js";
 import { button, h, keyText } from "./h.js";
 import { icon } from "./icons.js";
 import { Lane } from "./lane.js";
+import { stepAt, stepFrom } from "./steps.js";
 
 /** @typedef {import("../core/types.js").Ed} Ed */
 /** @typedef {import("../core/types.js").Event} Event */
@@ -129,11 +130,11 @@ export class HistoryBar {
     this.at = at;
     ed.model.show(ed.node.itemsAt(at));
     ed.overlay.flashes = [];
-    const event = events[at - 1];
-    if (event) this.light(event, at);
+    const step = stepAt(ed.node, at);
+    if (step.length) this.light(step, at);
     this.range.value = String(at);
-    this.range.setAttribute("aria-valuetext", event ? this.words(event, at) : "Before the first event");
-    this.card.show(event, at);
+    this.range.setAttribute("aria-valuetext", step.length ? this.words(step, at) : "Before the first event");
+    this.card.show(step, at);
     this.draw();
     ed.setReadOnly(IN_PAST);
     ed.touch("scene");
@@ -151,14 +152,15 @@ export class HistoryBar {
   }
 
   /**
-   * Lights what an event is about: the object, or where it was, and what was done again for it.
-   * @param {Event} event
+   * Lights what a step is about: the objects, or where they were, and what was done again for a late event.
+   * @param {Event[]} step
    * @param {number} at
    */
-  light(event, at) {
+  light(step, at) {
     const { ed } = this;
-    const { who, what } = deedOf(ed, event);
-    const ids = [event.id].filter((id) => ed.model.byId.has(id));
+    const event = step[step.length - 1];
+    const { who, what } = stepDeedOf(ed, step);
+    const ids = [...new Set(step.map((each) => each.id))].filter((id) => ed.model.byId.has(id));
     const place = ids.length ? null : this.placeBefore(event, at);
     const redone = event.late?.redone ?? [];
     const came = event.late?.what === "dropped" ? "came late, overwritten" : `came late, ${redone.length} redone`;
@@ -183,18 +185,19 @@ export class HistoryBar {
   }
 
   /**
-   * @param {Event} event
+   * @param {Event[]} step
    * @param {number} at
    */
-  words(event, at) {
-    const { who, what } = deedOf(this.ed, event);
-    return `Event ${at} of ${this.events.length}: ${who} ${what}. ${repairOf(this.ed, event)}`;
+  words(step, at) {
+    const { who, what } = stepDeedOf(this.ed, step);
+    const event = step[step.length - 1];
+    return `${placeOf(step, at, this.events.length)}: ${who} ${what}. ${repairOf(this.ed, event) || voidOf(this.ed, event)}`;
   }
 
-  /** @param {number} by */
+  /** @param {1 | -1} by */
   step(by) {
     this.stop();
-    this.go((this.at ?? this.events.length) + by);
+    this.go(stepFrom(this.ed.node, this.at ?? this.events.length, by));
   }
 
   /** Goes to the next late event that was repaired, behind the last one to the first. */
@@ -216,7 +219,7 @@ export class HistoryBar {
     const event = this.events[this.at - 1];
     const box = event && (ed.model.boxOf([event.id]) ?? this.placeBefore(event, this.at));
     if (box) ed.camera.reveal(box, ed.pad());
-    ed.say(event ? this.words(event, this.at) : "");
+    ed.say(event ? this.words(stepAt(ed.node, this.at), this.at) : "");
   }
 
   play() {
@@ -231,7 +234,7 @@ export class HistoryBar {
     this.showPlaying(true);
     const tick = () => {
       const late = this.lates().find((one) => one > k) ?? Infinity;
-      k = Math.min(k + stride, late);
+      k = Math.min(stepFrom(this.ed.node, k + stride - 1, 1), late);
       this.go(k);
       if (k >= this.events.length || this.at === null) this.toNow();
       else this.timer = setTimeout(tick, isRepaired(this.events[k - 1]) ? each * PLAY.late : each);

@@ -1,0 +1,33 @@
+// Steps of the history: gestures, where these are known.
+
+import assert from "node:assert/strict";
+import test from "node:test";
+
+const { stepAt, stepFrom } = await import("../../static/ui/steps.js");
+
+const events = (...stamps) => stamps.map((stamp) => ({ stamp, clock: Number(stamp.split(".")[0]), site: Number(stamp.split(".")[1]) }));
+const stamps = (list) => list.map((event) => event.stamp);
+
+test("an own gesture is one step, another one's events are a step each", () => {
+  const node = { site: 1, events: events("1.1", "2.1", "3.1", "4.2", "5.2", "6.1", "7.1", "8.1"), gestures: [[1, 2], [6, 8]] };
+  const walk = (from, by) => {
+    const way = [from];
+    while (stepFrom(node, way.at(-1), by) !== way.at(-1)) way.push(stepFrom(node, way.at(-1), by));
+    return way;
+  };
+  assert.deepEqual(walk(0, 1), [0, 2, 3, 4, 5, 8]);
+  assert.deepEqual(walk(8, -1), [8, 5, 4, 3, 2, 0]);
+  // From the middle of one to its borders.
+  assert.deepEqual([stepFrom(node, 7, 1), stepFrom(node, 7, -1), stepFrom(node, 1, 1), stepFrom(node, 1, -1)], [8, 5, 2, 0]);
+  assert.deepEqual(stamps(stepAt(node, 2)), ["1.1", "2.1"]);
+  assert.deepEqual(stamps(stepAt(node, 8)), ["6.1", "7.1", "8.1"]);
+  assert.deepEqual([1, 3, 4, 7].map((k) => stamps(stepAt(node, k))), [["1.1"], ["3.1"], ["4.2"], ["7.1"]]);
+  assert.deepEqual(stepAt(node, 0), []);
+});
+
+test("an event that came in between parts a gesture, and where none is known each event is a step", () => {
+  const between = { site: 1, events: events("1.1", "2.1", "2.2", "3.1"), gestures: [[1, 3]] };
+  assert.deepEqual([0, 2, 3].map((k) => stepFrom(between, k, 1)), [2, 3, 4]);
+  const none = { site: 1, events: events("1.1", "2.1"), gestures: [] };
+  assert.deepEqual([stepFrom(none, 0, 1), stepFrom(none, 2, -1), stepFrom(none, 2, 1), stepFrom(none, 0, -1)], [1, 1, 2, 0]);
+});
