@@ -55,7 +55,7 @@ class Meanwhile(WithBoard):
         self.two.do("ed.edits.do('d', [`delete ${arguments[0]}`])", rect)
         wait_for(lambda: not self.one.ids())
         self.assert_typed(self.one, self.one.release)
-        wait_for(lambda: "someone deleted it" in self.one.bubble())
+        wait_for(lambda: self.one.bubble() in ("Not done: Site 2 deleted it", "Not done: it is gone, someone deleted it"))
         self.assertEqual(self.one.ask("[ed.model.over.size, ed.model.shadow.size, ed.selection.ids.size]"), [0, 0, 0])
 
     def test_what_is_dragged_and_moved_by_the_other_one_goes_where_it_is_dropped(self):

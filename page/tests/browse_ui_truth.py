@@ -85,8 +85,11 @@ class Truth(WithTwoPages):
         two.picture("offline")
         self.cut()
         self.wait_until_same()
-        told = wait_for(lambda: next((text for text in (one.banners(), two.banners()) if text.startswith("Back: ")), None))
-        self.assertRegex(told, r"^Back: \d+ late edits? of (Ada|Bob|Site [12]) came in before \d+ of yours")
+        for page in self.pages:
+            told = wait_for(lambda: (text := page.banners()).startswith("Together again: ") and text)
+            self.assertRegex(told, r"^Together again: \d+ edits? by (Ada|Bob|Site [12]) (is|are) in now")
+        lates = [text for page in self.pages if ", " in (text := page.banners())]
+        self.assertRegex(lates[0], r"in now, (\d+ of them )?before \d+ of yours")
         wait_for(lambda: self.state(one) == self.state(two) == "Connected")
         self.lates_are_as_replayed()
 
@@ -109,7 +112,7 @@ class Truth(WithTwoPages):
         page.do("ed.banner(null)")
         page.find(".late-count").click()
         self.assertTrue(page.find(".hist-card").is_displayed())
-        self.assertIn("Came late", page.text(".hist-card"))
+        self.assertRegex(page.text(".hist-card"), "Came late|was not applied")
         self.assertRegex(page.text(".hist-more"), r"^Event \d+ of \d+ · \d+:\d+:\d+.* · \d+\.\d$")
         page.picture("history-card")
         events = page.ask("ed.node.events.length")
@@ -124,15 +127,66 @@ class Truth(WithTwoPages):
         self.assertEqual(page.text(".hist-line"), "Before the first event")
         page.press(Keys.ARROW_RIGHT, hold=["alt"])
         self.assertEqual(page.ask("ed.history.at"), 1)
-        page.find('.hist-card [aria-label="One event on"]').click()
+        page.find('.hist-card [aria-label="One step on"]').click()
         self.assertEqual(page.ask("ed.history.at"), 2)
-        page.find('.hist-card [aria-label="One event back"]').click()
+        page.find('.hist-card [aria-label="One step back"]').click()
         self.assertEqual(page.ask("ed.history.at"), 1)
         now = page.find(".now")
         now.click()
         self.assertFalse(page.find(".hist-card").is_displayed())
         wait_for(lambda: page.shown() == self.one.shown())
         self.assertIsNone(page.ask("ed.readOnly"))
+
+    def test_41_who_deleted_what_the_other_one_moved_is_said_to_both(self):
+        one, two = self.one, self.two
+        self.make(one, "create rect 300 300 100 80 Start")
+        (name,) = self.wait_until_same() and one.ids()
+        self.cut(2)
+        # What has the lower stamp goes first: the delete, so that the move behind it is on an object that is gone.
+        self.make(two, f"delete {name}")
+        self.make(one, "create rect 500 300 10 10", "delete @1", f"move {name} 310 320")
+        wait_for(lambda: "away" in one.ask("document.querySelectorAll('.face')[1].className"))
+        self.cut()
+        words = "deleted “Start” while you moved it: the move was not applied"
+        wait_for(lambda: words in one.banners())
+        one.picture("moved-and-deleted")
+        one.find("#banners .quiet").click()
+        self.assertIn("deleted it while you moved it: the move was not applied", one.text(".hist-late"))
+        moved = one.ask("ed.node.events.findIndex((event) => event.op === 'move' && event.id === arguments[0]) + 1", name)
+        one.do("ed.history.go(arguments[0])", moved)
+        self.assertIn("deleted it while you moved it: the move was not applied", one.text(".hist-late"))
+        one.picture("history-void")
+        one.press(Keys.ESCAPE)
+        wait_for(lambda: two.banners().startswith("Together again: 3 edits by"))
+        self.wait_until_same()
+
+    def test_42_a_gesture_is_one_step_of_the_keys_and_of_playing(self):
+        one = self.one
+        before = one.ask("ed.node.events.length")
+        self.make(one, "create rect 300 300 100 80 First", "fill @1 FFF2AE", "create rect 500 300 100 80 Second")
+        wait_for(lambda: one.ask("ed.node.events.length") == before + 3)
+        self.make(one, *(f"move {name} {200 + 10 * at} 400" for at, name in enumerate(one.ids())))
+        wait_for(lambda: one.ask("ed.node.events.length") == before + 5)
+        shown = []
+        for _ in range(2):
+            one.press(Keys.ARROW_LEFT, hold=["alt"])
+            shown.append((one.ask("ed.history.at"), one.text(".hist-line"), one.text(".hist-more").split(" · ")[0]))
+        all = before + 5
+        made = f"Events {before + 1} to {before + 3} of {all}"
+        self.assertEqual(shown, [(before + 3, "You made 2 objects", made), (before, shown[1][1], shown[1][2])])
+        one.press(Keys.ARROW_RIGHT, Keys.ARROW_RIGHT, hold=["alt"])
+        self.assertEqual((one.ask("ed.history.at"), one.text(".hist-line")), (all, "You moved 2 objects"))
+        one.picture("history-gesture")
+        one.press(Keys.ESCAPE)
+        # A page that is opened anew knows it too.
+        one.driver.refresh()
+        wait_for(lambda: one.ask("document.body.dataset.ready && ed.node.events.length") == all)
+        one.home()
+        one.do("ed.history.go(arguments[0])", before)
+        one.find("#history .tool").click()
+        seen = "window.seen ??= []; if (ed.history.at !== window.seen.at(-1)) window.seen.push(ed.history.at); return ed.history.at"
+        wait_for(lambda: one.do(seen) is None)
+        self.assertLessEqual(set(one.ask("window.seen")), {before, before + 3, all, None})
 
     def test_5_the_slider_goes_by_keys_and_tells_what_it_shows(self):
         self.make(self.one, "create rect 300 300 100 80 First", "move @1 310 300", "create rect 500 300 100 80 Second")
@@ -147,8 +201,9 @@ class Truth(WithTwoPages):
         wait_for(lambda: len(page.ids()) == 2)
 
     def test_6_playing_walks_through_all_and_ends_now(self):
-        self.make(self.one, *(f"create rect {100 + 30 * each} 300 20 20" for each in range(5)))
         page = self.one
+        for each in range(5):
+            self.make(page, f"create rect {100 + 30 * each} 300 20 20")
         page.do("ed.history.go(ed.node.events.length - 4)")
         page.find("#history .tool").click()
         self.assertEqual(page.find("#history .tool").get_attribute("aria-label"), "Pause")

@@ -1,6 +1,6 @@
 // What others' events did as they arrive: flashes where they are, and a banner where late ones had to be repaired.
 
-import { isRepaired } from "./deeds.js";
+import { isRepaired, lossOf } from "./deeds.js";
 import { count } from "./words.js";
 
 /** @typedef {import("../core/types.js").Ed} Ed */
@@ -10,29 +10,45 @@ import { count } from "./words.js";
 const REST = 700;
 const MOST_TURNS = 8;
 const BANNER_LASTS = 12_000;
+const CALM_LASTS = 6000;
 const FLASH = { plain: 1600, late: 4000 };
 /** More flashes than these at once would say nothing. */
 const MOST_FLASHES = 200;
 
 /**
- * What is said of late events that were put before one's own or others' edits.
- * @param {Event[]} lates late events of others, at least one
+ * What is said of others' events that came in, some of them late.
+ * @param {Event[]} came at least one
+ * @param {Event[]} lates those of them that are told as late
  * @param {Event[]} events all events in stamp order
  * @param {number} site one's own
  * @param {(site: number) => string} nameOf
  * @param {boolean} isBack whether this machine was cut off until now
  */
-export function tellLates(lates, events, site, nameOf, isBack) {
+export function tellArrived(came, lates, events, site, nameOf, isBack) {
+  const told = isBack ? came : lates;
+  const who = [...new Set(told.map((event) => nameOf(event.site)))];
+  const names = who.length > 1 ? `${who.slice(0, -1).join(", ")} and ${who.at(-1)}` : who[0];
+  const are = told.length === 1 ? "is" : "are";
+  const all = count(told.length, "edit");
+  const before = lates.length ? beforeWhat(lates, events, site) : "";
+  if (!isBack) return `${all} by ${names} came late and ${are} in now, before ${before}`;
+  const those = lates.length === came.length ? "" : `${lates.length.toLocaleString("en")} of them `;
+  return `Together again: ${all} by ${names} ${are} in now${before && `, ${those}before ${before}`}`;
+}
+
+/**
+ * What lies behind late events and was there before them, in words.
+ * @param {Event[]} lates
+ * @param {Event[]} events
+ * @param {number} site
+ */
+function beforeWhat(lates, events, site) {
   const stamps = new Set(lates.map((late) => late.stamp));
   const first = events.findIndex((event) => stamps.has(event.stamp));
   const came = lates.reduce((least, late) => Math.min(least, late.came), Infinity);
   const behind = events.slice(first + 1).filter((event) => event.came < came);
   const own = behind.filter((event) => event.site === site).length;
-  const who = [...new Set(lates.map((late) => nameOf(late.site)))];
-  const names = who.length > 1 ? `${who.slice(0, -1).join(", ")} and ${who.at(-1)}` : who[0];
-  const before = own ? `before ${own.toLocaleString("en")} of yours` : `before ${count(behind.length, "later one")}`;
-  const edits = count(lates.length, "late edit");
-  return `${isBack ? "Back: " : ""}${edits} of ${names} came in ${before}`;
+  return own ? `${own.toLocaleString("en")} of yours` : count(behind.length, "later one");
 }
 
 export class Arrivals {
@@ -42,8 +58,8 @@ export class Arrivals {
     this.since = Date.now();
     /** How many events had arrived when they were last looked at. */
     this.told = 0;
-    /** @type {Event[]} */
-    this.lates = [];
+    /** @type {Event[]} others' events that weren't told of yet */
+    this.came = [];
     this.timer = 0;
     this.isBack = false;
     this.kind = "on";
@@ -66,7 +82,7 @@ export class Arrivals {
     const others = fresh.filter((event) => event.site !== node.site);
     if (!others.length) return;
     if (this.ed.history.at === null) for (const event of others.slice(-MOST_FLASHES)) this.flash(event);
-    this.lates.push(...others.filter((event) => event.late));
+    this.came.push(...others);
     this.wait(0);
   }
 
@@ -89,15 +105,18 @@ export class Arrivals {
   }
 
   tell() {
-    const { ed, isBack } = this;
+    const { ed, came, isBack } = this;
     // Who draws with others at the same time has late ones all along. These are told of where they had to be repaired.
-    const lates = this.lates.filter((event) => isBack || isRepaired(event));
-    this.lates = [];
+    const lates = came.filter((event) => event.late && (isBack || isRepaired(event)));
+    this.came = [];
     this.isBack = false;
-    if (!lates.length) return;
-    const text = tellLates(lates, ed.node.events, ed.node.site, (site) => ed.people.name(site), isBack);
-    const first = lates.find(isRepaired) ?? lates[0];
+    if (!lates.length && !(isBack && came.length)) return;
+    const words = tellArrived(came, lates, ed.node.events, ed.node.site, (site) => ed.people.name(site), isBack);
+    const loss = lates.map((event) => lossOf(ed, event)).find(Boolean);
+    const first = lates.find((event) => lossOf(ed, event)) ?? lates.find(isRepaired) ?? lates[0];
     const show = () => ed.history.goTo(ed.node.events.indexOf(first) + 1);
-    ed.banner({ tone: "late", icon: "late", text, action: "Show", run: show, lasts: BANNER_LASTS });
+    const act = first ? { action: "Show", run: show } : {};
+    const look = first ? { tone: "late", icon: "late" } : { tone: "calm", icon: "people" };
+    ed.banner({ ...look, ...act, text: loss ? `${words}. ${loss}` : words, lasts: first ? BANNER_LASTS : CALM_LASTS });
   }
 }

@@ -78,11 +78,25 @@ const keyOf = (key) => h("kbd", { class: "for-keys", "aria-hidden": "true" }, ke
  * @param {{line?: string, why: string}[]} refusals
  */
 function bubbleOf(ed, refusals) {
-  const words = plainWords(refusals[0].why);
+  const words = deleterOf(ed, refusals[0]) ?? plainWords(refusals[0].why);
   const text = refusals.length > 1 ? `${refusals.length} edits weren’t done: ${words}` : `Not done: ${words}`;
   const [x, y] = placeOf(ed, refusals[0].line);
   const vars = { "--x": `${clamp(x, 120, innerWidth - 120)}px`, "--y": `${clamp(y - 14, 90, innerHeight)}px` };
   return h("div", { class: "bubble", vars }, icon("info", 16), text);
+}
+
+/**
+ * Who deleted the object of a line, in words, or null where it isn't that or isn't known.
+ * @param {Ed} ed
+ * @param {import("../core/types.js").Refusal} refusal
+ */
+function deleterOf(ed, { line, why }) {
+  const id = why.endsWith("NoObject") ? line?.split(" ")[1] : null;
+  if (!id) return null;
+  const gone = ed.node.events.find((event) => event.op === "delete" && event.id === id);
+  if (!gone) return null;
+  const name = ed.people.name(gone.site);
+  return `${name === "You" ? "you" : name} deleted it`;
 }
 
 /**

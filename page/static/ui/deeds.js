@@ -47,6 +47,70 @@ export function deedOf(ed, event) {
 }
 
 /**
+ * Who did what with a step of the history.
+ * @param {Ed} ed
+ * @param {Event[]} events those of one gesture, or one event; at least one
+ */
+export function stepDeedOf(ed, events) {
+  const [first] = events;
+  if (events.length === 1) return deedOf(ed, first);
+  const who = ed.people.name(first.site);
+  /** @param {string} op */
+  const of = (op) => events.filter((event) => event.op === op);
+  const [made, groups, texts, sizes] = ["create", "group", "text", "resize"].map(of);
+  const told = [made, groups, texts, sizes].find((list) => list.length) ?? events;
+  const { op } = told[0];
+  const ids = new Set(told.map((event) => event.id));
+  if (ids.size === 1) return deedOf(ed, told[0]);
+  const isOne = told.every((event) => event.op === op);
+  return { who, what: `${isOne ? DEEDS[op] : "changed"} ${count(ids.size)}` };
+}
+
+const NOUNS = /** @type {Record<string, string>} */ ({
+  move: "move", resize: "new size", stroke: "colour", fill: "fill", width: "width", text: "text", group: "group", ungroup: "end of the group",
+  raise: "new order", lower: "new order", delete: "delete",
+});
+
+const WITH_IT = /** @type {Record<string, string>} */ ({
+  text: "wrote in it", raise: "brought it to the front", lower: "sent it to the back",
+});
+
+/**
+ * Who did what with an object, as the middle of a sentence: `you moved it`.
+ * @param {Ed} ed
+ * @param {Event} event
+ * @param {string} [it]
+ */
+function didIt(ed, { site, op }, it = "it") {
+  const name = ed.people.name(site);
+  return `${name === "You" ? "you" : name} ${WITH_IT[op] ?? `${DEEDS[op]} ${it}`}`;
+}
+
+/** @param {string} text */
+const sentence = (text) => `${text[0].toUpperCase()}${text.slice(1)}`;
+
+/**
+ * What is said where one deleted what another one changed, and neither knew of the other.
+ * @param {Ed} ed
+ * @param {Event} gone the delete
+ * @param {Event} change
+ * @param {string} [it] what was deleted
+ */
+const lostWords = (ed, gone, change, it = "it") =>
+  sentence(`${didIt(ed, gone, it)} while ${didIt(ed, change)}: the ${NOUNS[change.op]} was not applied`);
+
+/**
+ * What a delete that came late has made void, or nothing: the change of it.
+ * @param {Ed} ed
+ * @param {Event} event
+ */
+function voidedBy(ed, event) {
+  if (event.op !== "delete" || event.late?.what !== "reworked") return null;
+  const { byStamp } = ed.node.history;
+  return event.late.redone.map((stamp) => byStamp.get(stamp)).find((each) => each?.id === event.id && each.op !== "delete") ?? null;
+}
+
+/**
  * How a late event was repaired, or nothing where it wasn't late.
  * @param {Ed} ed
  * @param {Event} event
@@ -55,25 +119,43 @@ export function repairOf(ed, event) {
   const { late } = event;
   if (!late) return "";
   const behind = count(late.behind, "later edit");
-  if (late.what === "applied") return `Came late, behind ${behind}, and touches none of them.`;
+  if (late.what === "applied") return `Came late, behind ${behind}, and touches none of them`;
   if (late.what === "dropped") {
     const by = late.by ? ed.node.history.byStamp.get(late.by) : null;
-    const which = by ? `a later edit of ${possessed(ed, by.site)}` : "one of those";
-    return `Came late, behind ${behind}: ${which} overwrites it, so nothing had to be done.`;
+    if (!by) return `Came late, behind ${behind}: one of those overwrites it, so nothing had to be done`;
+    // A third one may have deleted it because of this very edit.
+    if (by.op === "delete" && by.site === ed.node.site) return lostWords(ed, by, event);
+    const [so, counts] = by.op === "delete" ? [`the ${NOUNS[event.op]}`, "shows nowhere"] : [`the later ${NOUNS[by.op]}`, "counts"];
+    return `Came late, behind ${behind}: ${didIt(ed, by)}, so ${so} ${counts}`;
   }
+  const change = voidedBy(ed, event);
+  if (change) return lostWords(ed, event, change);
   const redone = late.redone.length;
   const [depend, were, again] = redone === 1 ? ["depends", "was", "that one was"] : ["depend", "were", "they were"];
   const undone = `${count(redone, "later edit")} that ${depend} on it ${were} undone`;
-  return `Came late: ${undone}, it was put in its place, and ${again} done again.`;
+  return `Came late: ${undone}, it was put in its place, and ${again} done again`;
 }
 
 /**
+ * What a late delete did to what was changed at the same time, or nothing.
  * @param {Ed} ed
- * @param {number} site
+ * @param {Event} event
  */
-function possessed(ed, site) {
-  const name = ed.people.name(site);
-  return name === "You" ? "yours" : name;
+export function lossOf(ed, event) {
+  const change = voidedBy(ed, event);
+  return change ? lostWords(ed, event, change, objectName(ed, event.id)) : "";
+}
+
+/**
+ * Why an event changed nothing, where the object was deleted before, or nothing.
+ * @param {Ed} ed it shows the drawing behind the event
+ * @param {Event} event
+ */
+export function voidOf(ed, event) {
+  if (event.op === "create" || event.op === "group" || isRepaired(event) || ed.model.byId.has(event.id)) return "";
+  const { events } = ed.node;
+  const gone = events.slice(0, events.indexOf(event)).find((each) => each.op === "delete" && each.id === event.id);
+  return gone ? lostWords(ed, gone, event) : "";
 }
 
 /**

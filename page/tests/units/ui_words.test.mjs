@@ -10,8 +10,8 @@ const { keyText } = await import("../../static/ui/h.js");
 const { stateOf, nameOf, strangerWords } = await import("../../static/ui/standing.js");
 const { letterOf, stateOf: personState } = await import("../../static/ui/roster.js");
 const { count, initialOf, plainWords, shortened } = await import("../../static/ui/words.js");
-const { tellLates } = await import("../../static/ui/arrivals.js");
-const { deedOf, repairOf } = await import("../../static/ui/deeds.js");
+const { tellArrived } = await import("../../static/ui/arrivals.js");
+const { deedOf, lossOf, repairOf, stepDeedOf, voidOf } = await import("../../static/ui/deeds.js");
 
 test("a key goes by what it types where that is Latin, else by where it lies", () => {
   const none = { shiftKey: false, altKey: false, ctrlKey: false, metaKey: false };
@@ -102,23 +102,33 @@ const event = (stamp, came, more = {}) => {
 };
 const late = (what, redone = [], by = null) => ({ behind: 2, what, redone, by });
 
-test("late events are told once, with whose edits they came in before", () => {
+test("what came in is told once, with whose edits the late ones came in before", () => {
   const lates = [event("5.2", 7, { late: late("reworked", ["5.3"]) }), event("6.2", 8, { late: late("dropped", [], "7.1") })];
   const events = [event("4.1", 0), lates[0], event("5.3", 1), event("6.1", 2), lates[1], event("7.1", 3)];
   const name = (site) => ["", "You", "Bob", "Chen"][site];
-  assert.equal(tellLates(lates, events, 1, name, true), "Back: 2 late edits of Bob came in before 2 of yours");
-  assert.equal(tellLates(lates, events, 4, name, false), "2 late edits of Bob came in before 3 later ones");
-  const two = [...lates, event("6.3", 9, { late: late("dropped", [], "7.1") })];
-  assert.match(tellLates(two, [...events, two[2]], 1, name, false), /^3 late edits of Bob and Chen came in/);
+  const tell = (came, late, site, isBack, all = events) => tellArrived(came, late, all, site, name, isBack);
+  assert.equal(tell(lates, lates, 1, true), "Together again: 2 edits by Bob are in now, before 2 of yours");
+  assert.equal(tell(lates, lates, 4, false), "2 edits by Bob came late and are in now, before 3 later ones");
+  const chen = event("6.3", 9, { late: late("dropped", [], "7.1") });
+  assert.match(tell([...lates, chen], [...lates, chen], 1, false, [...events, chen]), /^3 edits by Bob and Chen came late/);
+  const after = event("9.2", 9);
+  assert.equal(tell([after], [], 1, true, [...events, after]), "Together again: 1 edit by Bob is in now");
+  const mixed = "Together again: 3 edits by Bob are in now, 2 of them before 2 of yours";
+  assert.equal(tell([...lates, after], lates, 1, true, [...events, after]), mixed);
 });
+
+/** What the words of the history ask of the page. */
+function page(events) {
+  return {
+    node: { site: 1, events, history: { byStamp: new Map(events.map((each) => [each.stamp, each])) } },
+    model: { byId: new Map() },
+    people: { name: (site) => ["", "You", "Bob", "Chen"][site] },
+  };
+}
 
 test("what an event did, and how it was repaired", () => {
   const made = [event("1.1", 0, { op: "create", kind: "rect", label: "A rather long label, and more of it" }), event("7.1", 1)];
-  const ed = {
-    node: { history: { byStamp: new Map(made.map((each) => [each.stamp, each])) } },
-    model: { byId: new Map() },
-    people: { name: (site) => ["", "You", "Bob"][site] },
-  };
+  const ed = page(made);
   assert.deepEqual(deedOf(ed, event("6.2", 3)), { who: "Bob", what: "moved “A rather long label, an…”" });
   assert.deepEqual(deedOf(ed, event("6.2", 3, { op: "delete", id: "9.9" })), { who: "Bob", what: "deleted an object" });
   const grouped = event("6.2", 3, { op: "group", members: [{}, {}, {}] });
@@ -126,9 +136,46 @@ test("what an event did, and how it was repaired", () => {
   assert.equal(repairOf(ed, event("6.2", 3)), "");
   const rows = [
     [late("applied"), /^Came late, behind 2 later edits, and touches none/],
-    [late("dropped", [], "7.1"), /a later edit of yours overwrites it/],
+    [late("dropped", [], "7.1"), /^Came late, behind 2 later edits: you moved it, so the later move counts$/],
     [late("reworked", ["7.1"]), /^Came late: 1 later edit that depends on it was undone/],
     [late("reworked", ["7.1", "8.1"]), /^Came late: 2 later edits that depend on it were undone/],
   ];
   for (const [each, words] of rows) assert.match(repairOf(ed, event("6.2", 3, { late: each })), words);
+});
+
+test("what one deleted while another changed it is said so, by whichever event one looks at", () => {
+  const made = event("1.1", 0, { op: "create", kind: "rect", label: "Start" });
+  const moved = event("7.1", 1);
+  const coloured = event("8.1", 2, { op: "stroke" });
+  const gone = event("6.2", 3, { op: "delete", late: late("reworked", ["7.1", "8.1"]) });
+  const ed = page([made, gone, moved, coloured]);
+  assert.equal(repairOf(ed, gone), "Bob deleted it while you moved it: the move was not applied");
+  assert.equal(lossOf(ed, gone), "Bob deleted “Start” while you moved it: the move was not applied");
+  assert.equal(voidOf(ed, moved), "Bob deleted it while you moved it: the move was not applied");
+  assert.equal(voidOf(ed, coloured), "Bob deleted it while you coloured it: the colour was not applied");
+  assert.equal(voidOf(ed, made), "");
+  ed.model.byId.set("1.1", {});
+  assert.equal(voidOf(ed, moved), "");
+  // The other way round: one's own delete covers what came late. That of a third one may have been made behind it.
+  const own = event("9.1", 4, { op: "delete" });
+  const third = event("9.3", 5, { op: "delete" });
+  const wrote = (by) => event("6.2", 6, { op: "text", late: late("dropped", [], by) });
+  const there = page([made, own, third]);
+  assert.equal(repairOf(there, wrote("9.1")), "You deleted it while Bob wrote in it: the text was not applied");
+  assert.equal(repairOf(there, wrote("9.3")), "Came late, behind 2 later edits: Chen deleted it, so the text shows nowhere");
+  assert.equal(lossOf(there, event("6.2", 3, { late: late("reworked", ["7.1"]) })), "");
+});
+
+test("what a gesture did", () => {
+  const create = (stamp, label = "") => event(stamp, 0, { op: "create", id: stamp, kind: "rect", label });
+  const ed = page([create("1.1", "Start"), create("2.1")]);
+  const rows = [
+    [[create("1.1", "Start"), event("3.1", 0, { op: "fill" })], "made “Start”"],
+    [[create("1.1"), create("2.1"), event("3.1", 0, { op: "group", id: "3.1", members: [{}, {}] })], "made 2 objects"],
+    [[event("5.1", 0), event("6.1", 0, { id: "2.1" })], "moved 2 objects"],
+    [[event("5.1", 0, { op: "resize" }), event("6.1", 0)], "resized “Start”"],
+    [[event("5.1", 0, { op: "text" }), event("6.1", 0, { op: "resize" })], "wrote “Start”"],
+    [[event("5.1", 0, { op: "fill" }), event("6.1", 0, { op: "stroke", id: "2.1" })], "changed 2 objects"],
+  ];
+  for (const [step, what] of rows) assert.deepEqual(stepDeedOf(ed, step), { who: "You", what });
 });
