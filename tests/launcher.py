@@ -16,7 +16,7 @@ def checkout():
         for path in ROOT.iterdir():
             if path.is_file():
                 shutil.copy(path, folder)
-        for name in ("examples", "docs"):
+        for name in ("examples", "docs", "packaging"):
             shutil.copytree(ROOT / name, folder / name)
         out = folder / "crates/groupdesign/out"
         out.mkdir(parents=True)
