@@ -21,7 +21,13 @@ from page.node import Ended
 from page.server import Server
 
 ROOT = Path(__file__).resolve().parent.parent
-PROGRAM = ROOT / "groupdesign"
+# In a checkout the launcher stands beside the folder of this page. Where it is installed, as share/groupdesign/page, the command
+# stands in bin.
+LAUNCHER = ROOT / "groupdesign"
+IS_INSTALLED = not LAUNCHER.exists()
+PROGRAM = ROOT.parent.parent / "bin/groupdesign" if IS_INSTALLED else LAUNCHER
+CALLED = "groupdesign draw" if IS_INSTALLED else "./draw"
+TO_BUILD = "" if IS_INSTALLED else " ./groupdesign builds it;"
 DEMO_SESSION = 7
 MOST_SESSION = 2**32 - 1
 USAGE, FAILED, BROKEN = 2, 1, 130
@@ -39,7 +45,11 @@ def number_in(least, most):
 
 def asked(words):
     """What the command line asks for."""
-    parser = argparse.ArgumentParser(prog="./draw", description="Draws together in a browser, over a node of one's own.")
+    parser = argparse.ArgumentParser(
+        prog=CALLED,
+        description="Draws together in a browser, over a node of one's own.",
+        epilog=f"For example: {CALLED} --demo 2 --open",
+    )
     add = parser.add_argument
     add("--session", metavar="N", type=number_in(0, MOST_SESSION), help="the session's number, the same at all sites")
     add("--site", metavar="S", type=number_in(1, 16), help="which of the addresses is here, from 1")
@@ -128,7 +138,7 @@ async def start(desks):
             say(f"the node of site {desk.number} ended with status {status}: {meaning_of(status)}.{advice(status, desk)}")
             return status if status > 0 else FAILED
         except OSError as fault:
-            say(f"the program {desk.program} wasn't started: {fault.strerror}. ./groupdesign builds it; --program names another")
+            say(f"the program {desk.program} wasn't started: {fault.strerror}.{TO_BUILD} --program names another")
             return FAILED
     return 0
 
