@@ -1,0 +1,149 @@
+"""The files beside a journal that hold secrets. Only their user may read them."""
+
+import base64
+import contextlib
+import fcntl
+import json
+import os
+import stat
+from dataclasses import dataclass, field
+from pathlib import Path
+
+from carrier.roster import SEATS, BadRoster, Roster, roster_of
+from carrier.trust import BadTrust, Trust
+
+
+class BadFile(Exception):
+    """A file of secrets can't be used. The text says why, and what to do."""
+
+
+def text_of(data):
+    return base64.b64encode(data).decode()
+
+
+def data_of(text):
+    return base64.b64decode(text, validate=True)
+
+
+def write_private(path, text):
+    """Writes a file anew, of mode 0600 and whole or not at all, also over a loss of power. Raises `OSError`."""
+    path = Path(path)
+    new = path.with_name(f"{path.name}.new")
+    with contextlib.suppress(FileNotFoundError):
+        new.unlink()
+    with open(os.open(new, os.O_WRONLY | os.O_CREAT | os.O_EXCL, 0o600), "w", encoding="utf-8") as file:
+        file.write(text)
+        file.flush()
+        os.fsync(file.fileno())
+    os.replace(new, path)
+    folder = os.open(path.parent, os.O_RDONLY)
+    try:
+        os.fsync(folder)
+    finally:
+        os.close(folder)
+
+
+def read_private(path):
+    """The text of a file that is this user's and that nobody else may read. Raises `BadFile`, and `OSError`."""
+    with open(path, encoding="utf-8") as file:
+        state = os.fstat(file.fileno())
+        if state.st_uid != os.geteuid():
+            raise BadFile(f"{path} belongs to another user")
+        if stat.S_IMODE(state.st_mode) & 0o077:
+            raise BadFile(f"{path} can be read by others: its keys may be known. chmod 600 {path} if they aren't")
+        try:
+            return file.read()
+        except UnicodeDecodeError:
+            raise BadFile(f"{path} isn't a file of groupdesign") from None
+
+
+@contextlib.contextmanager
+def fields_of(path):
+    """The fields of a file of JSON. A field that is missing or of another kind is a `BadFile`."""
+    try:
+        yield json.loads(read_private(path))
+    except (ValueError, KeyError, TypeError, AttributeError, BadRoster, BadTrust) as why:
+        raise BadFile(f"{path} isn't a file of groupdesign, or was changed ({why})") from None
+
+
+@dataclass
+class Seat:
+    """What a carrier needs of one seat. `certificate` is what connections to the broker are judged by, in DER; `listen` says
+    that the broker runs here, beside the journal; `begun` that there was a journal."""
+
+    seat: int
+    seed: bytes
+    roster: Roster
+    broker: str
+    trust: Trust
+    certificate: bytes
+    listen: bool = False
+    begun: bool = False
+
+    @staticmethod
+    def path(journal):
+        return Path(f"{journal}.seat")
+
+    def write(self, journal):
+        """Keeps it beside a journal. Raises `OSError`."""
+        fields = {
+            "seat": self.seat,
+            "seed": text_of(self.seed),
+            "roster": text_of(self.roster.data),
+            "broker": self.broker,
+            "trust": self.trust.kind,
+            "trusted": text_of(self.trust.data),
+            "certificate": text_of(self.certificate),
+            "listen": self.listen,
+            "begun": self.begun,
+        }
+        write_private(self.path(journal), json.dumps(fields, indent=1) + "\n")
+
+    @classmethod
+    def read(cls, journal):
+        """The one beside a journal. Raises `BadFile`, and `FileNotFoundError` where there is none."""
+        with fields_of(cls.path(journal)) as fields:
+            number = fields["seat"]
+            if type(number) is not int or not 1 <= number <= SEATS:
+                raise ValueError("the seat")
+            trust = Trust(fields["trust"], data_of(fields["trusted"]))
+            roster, seed = roster_of(data_of(fields["roster"])), data_of(fields["seed"])
+            certificate, flags = data_of(fields["certificate"]), [fields[name] is True for name in ("listen", "begun")]
+            return cls(number, seed, roster, str(fields["broker"]), trust, certificate, *flags)
+
+
+@dataclass
+class Founder:
+    """What only the founder has: the secret that retires seats, and the secrets of seats that nobody was handed yet."""
+
+    seed: bytes
+    free: dict = field(default_factory=dict)
+
+    @staticmethod
+    def path(journal):
+        return Path(f"{journal}.founder")
+
+    def write(self, journal):
+        """Keeps it beside the founder's journal. Raises `OSError`."""
+        free = {str(seat): text_of(seed) for seat, seed in self.free.items()}
+        write_private(self.path(journal), json.dumps({"seed": text_of(self.seed), "free": free}, indent=1) + "\n")
+
+    @classmethod
+    def read(cls, journal):
+        """The one beside a journal. Raises `BadFile`, and `FileNotFoundError` where there is none."""
+        with fields_of(cls.path(journal)) as fields:
+            free = {int(seat): data_of(seed) for seat, seed in fields["free"].items()}
+            return cls(data_of(fields["seed"]), free)
+
+    @classmethod
+    def take(cls, journal):
+        """A seat that nobody was handed, and its secret, which the file then has no more. Nothing where none is left."""
+        with open(os.open(f"{cls.path(journal)}.lock", os.O_RDWR | os.O_CREAT, 0o600), "w", encoding="utf-8") as lock:
+            fcntl.flock(lock, fcntl.LOCK_EX)
+            found = cls.read(journal)
+            if not found.free:
+                return None
+            seat = min(found.free)
+            seed = found.free.pop(seat)
+            found.write(journal)
+        return seat, seed

@@ -1,0 +1,50 @@
+"""The sockets towards one node."""
+
+import socket
+import unittest
+
+from carrier.tests.rosters import until
+from carrier.ways import HERE, MOST_DATAGRAM, Ways
+
+
+class WaysOfANode(unittest.IsolatedAsyncioTestCase):
+    async def asyncSetUp(self):
+        self.sent = []
+        self.ways = Ways(2, 16, lambda seat, data: self.sent.append((seat, data)))
+        self.addCleanup(self.ways.close)
+        self.node = socket.socket(socket.AF_INET, socket.SOCK_DGRAM)
+        self.addCleanup(self.node.close)
+        self.node.bind(self.ways.node)
+        self.node.settimeout(20)
+
+    def to(self, seat):
+        return (HERE, self.ways.port(seat))
+
+    async def test_the_node_knows_each_seat_by_an_address_of_its_own(self):
+        addresses = self.ways.addresses
+        self.assertEqual(len(set(addresses)), 16)
+        self.assertEqual(addresses[1], f"{HERE}:{self.ways.node[1]}")
+        for seat in (1, 3, 16):
+            self.ways.deliver(seat, b"from %d" % seat)
+            self.assertEqual(self.node.recvfrom(100), (b"from %d" % seat, self.to(seat)))
+            self.assertEqual(addresses[seat - 1], f"{HERE}:{self.ways.port(seat)}")
+
+    async def test_the_newest_frame_alone_goes_on(self):
+        for text in (b"old", b"older", b"new"):
+            self.node.sendto(text, self.to(5))
+        self.node.sendto(b"other", self.to(6))
+        await until(lambda: len(self.sent) == 2)
+        self.assertEqual(sorted(self.sent), [(5, b"new"), (6, b"other")])
+
+    async def test_what_another_sends_and_what_is_too_long_goes_nowhere(self):
+        with socket.socket(socket.AF_INET, socket.SOCK_DGRAM) as stranger:
+            stranger.sendto(b"forged", self.to(5))
+        self.node.sendto(bytes(MOST_DATAGRAM + 1), self.to(6))
+        self.node.sendto(bytes(MOST_DATAGRAM), self.to(7))
+        await until(lambda: self.sent)
+        self.assertEqual(self.sent, [(7, bytes(MOST_DATAGRAM))])
+
+    async def test_a_node_that_isn_t_there_costs_nothing(self):
+        self.node.close()
+        for _ in range(3):
+            self.ways.deliver(1, b"lost")

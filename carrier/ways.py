@@ -1,0 +1,70 @@
+"""The side towards one node: at each address at which the node knows another seat stands a socket of this carrier."""
+
+import asyncio
+import socket
+
+HERE = "127.0.0.1"
+# A datagram has at most so many bytes, and one more tells that it has too many.
+MOST_DATAGRAM = 3_976
+# So many are taken at a time.
+MOST_READ = 1_000
+
+
+def bound():
+    """A socket for datagrams at a free port of this machine."""
+    made = socket.socket(socket.AF_INET, socket.SOCK_DGRAM)
+    made.bind((HERE, 0))
+    made.setblocking(False)
+    return made
+
+
+def free_port():
+    """A port that is free at this moment, for the node."""
+    with bound() as tried:
+        return tried.getsockname()[1]
+
+
+class Ways:
+    """The sockets of all other seats. `sent` is called with a seat and the newest frame that the node sent to it."""
+
+    def __init__(self, seat, seats, sent):
+        self.sent, self.loop, self.node = sent, asyncio.get_running_loop(), (HERE, free_port())
+        self.sockets = {other: bound() for other in range(1, seats + 1) if other != seat}
+        self.seat, self.seats = seat, seats
+        for other, way in self.sockets.items():
+            self.loop.add_reader(way, self.read, other, way)
+
+    @property
+    def addresses(self):
+        """The addresses of all seats in their order, as the node is given them."""
+        ports = [self.node[1] if each == self.seat else self.port(each) for each in range(1, self.seats + 1)]
+        return [f"{HERE}:{port}" for port in ports]
+
+    def port(self, seat):
+        return self.sockets[seat].getsockname()[1]
+
+    def read(self, seat, way):
+        """Takes all that lies there. A frame has all that the frames before it had and wasn't acknowledged, so the last one
+        alone goes on."""
+        newest = None
+        for _ in range(MOST_READ):
+            try:
+                data, source = way.recvfrom(MOST_DATAGRAM + 1)
+            except OSError:
+                break
+            if source == self.node and len(data) <= MOST_DATAGRAM:
+                newest = data
+        if newest is not None:
+            self.sent(seat, newest)
+
+    def deliver(self, seat, data):
+        """Hands the node a datagram from a seat. It may be lost, as datagrams may be."""
+        try:
+            self.sockets[seat].sendto(data, self.node)
+        except OSError:
+            pass
+
+    def close(self):
+        for way in self.sockets.values():
+            self.loop.remove_reader(way)
+            way.close()
