@@ -19,14 +19,14 @@ REFUSED = (4, 5, 134, 135)
 NOT_TAKEN = "the broker doesn't take this link: it is for another broker, or its seat was taken out there"
 
 
-def topic(roster, *words):
-    """The name of a topic of a session."""
-    return "/".join(["gd", roster.session.hex(), *map(str, words)])
+def topic(session, *words):
+    """The name of a topic of a session, which is its 16 bytes."""
+    return "/".join(["gd", session.hex(), *map(str, words)])
 
 
-def user_of(roster, seat):
+def user_of(session, seat):
     """The name by which a broker knows a seat."""
-    return f"{roster.session.hex()}.{seat}"
+    return f"{session.hex()}.{seat}"
 
 
 def client_of(name):

@@ -12,6 +12,7 @@ import threading
 import webbrowser
 from pathlib import Path
 
+from carrier import words as carried
 from page.addresses import BadAddress, check_own, looked_up
 from page.audience import Audience
 from page.demo import MOST_SITES, Proxy
@@ -59,6 +60,7 @@ def asked(words):
     add("--port", metavar="N", type=number_in(0, 65_535), default=0, help="the page's port; any free one if 0")
     add("--open", action="store_true", help="open the page in a browser")
     add("--program", metavar="PROGRAM", type=Path, default=PROGRAM, help="another built groupdesign")
+    parser.epilog, parser.formatter_class = carried.HELP, argparse.RawDescriptionHelpFormatter
     given = parser.parse_args(words)
     own = [given.session, given.site, given.journal]
     if given.demo is None and (None in own or not given.addresses):
@@ -200,6 +202,9 @@ async def run(given, room):
 
 
 def main(words=None):
+    words = sys.argv[1:] if words is None else words
+    if carried.is_carried(words):
+        return carried.run(words)
     given = asked(words)
     # The journals of a demonstration go with it.
     room = tempfile.mkdtemp(prefix="draw-") if given.demo is not None else None

@@ -1,0 +1,126 @@
+"""A carrier: what the node of one seat sends goes to the others over a broker, sealed, and what they send comes to the node.
+
+Nothing here is needed for all to see the same drawing: a node may be handed any datagrams, and none, in any order.
+"""
+
+import asyncio
+import time
+
+from carrier.broker import Broker, topic, user_of
+from carrier.keys import Keys
+from carrier.pace import Pace
+from carrier.roster import SEATS
+from carrier.sealing import FRAME, Seals
+from carrier.ways import Ways
+from page.addresses import parts_of
+
+# Where the two seats stand in a frame, and how it begins.
+MAGIC, FROM, TO, LEAST = b"GDOF", 9, 10, 32
+STRANGE = "something came that no seat of this session has sealed: it was passed over"
+
+
+class Carrier:
+    """The carrier of one seat. All of it runs in the loop in which it is made."""
+
+    def __init__(self, seat, say=lambda line: None):
+        """`seat` is what the file of a seat has. `say` is called with a line for people, again where something is said again."""
+        self.seat, self.say, self.session = seat, say, seat.roster.session
+        self.keys = Keys(seat.seed)
+        self.seals = Seals(seat.roster, seat.seat, self.keys)
+        self.paces = {other: Pace() for other in range(1, SEATS + 1) if other != seat.seat}
+        self.ways = Ways(seat.seat, SEATS, self.sent)
+        # What is called with the sender and the content of each kind; with the words behind the session's and the content of
+        # what the broker keeps; at each change of the connection; and where a seat comes.
+        self.takers, self.keepers, self.changes, self.comings = {FRAME: self.take_frame}, {}, [], []
+        # What has the node polled, and whether it runs.
+        self.wake, self.runs = lambda: None, lambda: True
+        self.counts = {"out": 0, "in": 0, "kept": 0, "strange": 0}
+        user = user_of(seat.roster.session, seat.seat)
+        self.broker = Broker(
+            parts_of(seat.broker), user, self.keys.password, seat.trust, seat.certificate, self.come, self.changed
+        )
+
+    @property
+    def addresses(self):
+        """The addresses of all seats, for the node."""
+        return self.ways.addresses
+
+    def start(self):
+        """Begins to connect."""
+        topics = [topic(self.session, self.seat.seat, "+"), topic(self.session, "head", "+"), topic(self.session, "roster")]
+        self.broker.start(topics)
+
+    async def stop(self):
+        await self.broker.stop()
+        self.ways.close()
+
+    async def up(self, seconds):
+        """Waits until there is a connection, for so long at most, and says whether there is one. It doesn't wait where the broker
+        refused this seat."""
+        end = time.monotonic() + seconds
+        while not self.broker.up and not self.broker.is_refused and time.monotonic() < end:
+            await asyncio.sleep(0.02)
+        return self.broker.up
+
+    def changed(self):
+        """The connection was made or lost."""
+        if self.broker.up:
+            for pace in self.paces.values():
+                pace.again()
+        for call in self.changes:
+            call(self.broker.up, self.broker.fault)
+        self.wake()
+
+    def here(self):
+        """The seats that were heard lately, in their order."""
+        now = time.monotonic()
+        return [other for other, pace in self.paces.items() if pace.is_here(now)]
+
+    # Out.
+
+    def sent(self, to, frame):
+        """The node sent a frame."""
+        if self.broker.up and self.runs():
+            if self.paces[to].takes(frame, time.monotonic()):
+                self.send(to, FRAME, frame)
+            else:
+                self.counts["kept"] += 1
+
+    def send(self, to, kind, content):
+        """Seals a content for a seat and sends it, where there is a connection; says whether there is one."""
+        self.counts["out"] += 1
+        return self.broker.publish(topic(self.session, to, self.seat.seat), self.seals.seal(to, kind, content))
+
+    # In.
+
+    def come(self, name, data, was_kept):
+        """A message came."""
+        words = name.split("/")[2:]
+        if len(words) == 2 and words[0] == str(self.seat.seat):
+            if not was_kept and words[1].isascii() and words[1].isdigit() and len(words[1]) < 3:
+                self.take(int(words[1]), data)
+        elif words and words[0] in self.keepers:
+            self.keepers[words[0]](words[1:], data)
+
+    def take(self, sender, data):
+        """Something came as from a seat. What that seat hasn't sealed for this one is passed over."""
+        opened = self.seals.opened(sender, data)
+        if opened is None:
+            self.counts["strange"] += 1
+            self.say(STRANGE)
+            return
+        self.counts["in"] += 1
+        if self.paces[sender].hear(time.monotonic()):
+            for call in self.comings:
+                call(sender)
+            # It is answered at once.
+            self.wake()
+        kind, content = opened
+        if kind in self.takers:
+            self.takers[kind](sender, content)
+
+    def take_frame(self, sender, frame):
+        """Hands a frame to the node, if it says the same two seats as its seal, and has the node polled."""
+        if len(frame) >= LEAST and frame[:4] == MAGIC and (frame[FROM], frame[TO]) == (sender, self.seat.seat) and self.runs():
+            self.ways.deliver(sender, frame)
+            self.wake()

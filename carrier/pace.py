@@ -1,0 +1,44 @@
+"""When a frame for a seat goes out: a new one at once, and the same again ever more seldom."""
+
+# Seconds until the same frame goes out again: at first, and at most. A seat that isn't there is only sent one so often.
+FIRST, LONGEST = 1.0, 10.0
+# A seat that said nothing for so many seconds isn't there.
+GONE = 2.5 * LONGEST
+
+
+class Pace:
+    """What was sent to one seat, and when it was heard. All times are seconds of one clock that is handed in."""
+
+    def __init__(self):
+        self.frame, self.due_at, self.pause, self.heard_at = None, float("-inf"), FIRST, None
+
+    def is_here(self, now):
+        """Whether the seat was heard lately."""
+        return self.heard_at is not None and now - self.heard_at < GONE
+
+    def hear(self, now):
+        """Something came from the seat. Says whether it wasn't there before: then it is sent all anew."""
+        is_new = not self.is_here(now)
+        self.heard_at = now
+        if is_new:
+            self.again()
+        return is_new
+
+    def leave(self):
+        """The seat said goodbye."""
+        self.heard_at = None
+
+    def again(self):
+        """What was sent may be lost: the next frame goes out at once."""
+        self.frame, self.due_at, self.pause = None, float("-inf"), FIRST
+
+    def takes(self, frame, now):
+        """Whether a frame goes out now. It has then been sent."""
+        if self.is_here(now) and frame != self.frame:
+            self.pause = FIRST
+        elif now >= self.due_at:
+            self.pause = min(2 * self.pause, LONGEST) if self.is_here(now) else LONGEST
+        else:
+            return False
+        self.frame, self.due_at = frame, now + self.pause
+        return True

@@ -1,0 +1,138 @@
+"""A run of a carried seat: its broker where that is here, its carrier, its node, and the page."""
+
+import asyncio
+import secrets
+
+from carrier import commands
+from carrier.broker import topic
+from carrier.carrier import Carrier
+from carrier.files import BadFile, Seat
+from carrier.mosquitto import NoBroker, OwnBroker
+from carrier.roster import SEATS
+from carrier.words import asked
+from page.audience import Audience
+from page.desk import Desk
+from page.draw import BROKEN, FAILED, PROGRAM, USAGE, check_journal, node_command, say, serve, start
+from page.server import Server
+
+# What comes has the node polled at once. For what doesn't come it is polled so seldom.
+BEAT = 1.0
+# So many seconds the broker has at the start. A seat that doesn't reach it goes on alone, and reaches it later.
+PATIENCE = 8
+
+
+def main(words):
+    """Does what words of a session over a broker ask for, and gives the status."""
+    given = asked(words, PROGRAM)
+    try:
+        if given.invite:
+            commands.invite(given)
+            return 0
+        wrong = check_journal(given.journal)
+        if wrong:
+            raise commands.Wrong(wrong)
+        if given.found is not None:
+            for line in commands.told_when_founded(given, commands.found(given)):
+                say(line)
+        if given.join is not None:
+            commands.join(given)
+        return asyncio.run(run(given, seat_of(given.journal)))
+    except commands.Wrong as why:
+        say(str(why))
+        return USAGE
+    except KeyboardInterrupt:
+        return BROKEN
+
+
+def seat_of(journal):
+    """The seat beside a journal. Raises `Wrong` where there is none to go on with."""
+    try:
+        seat = Seat.read(journal)
+    except FileNotFoundError:
+        raise commands.Wrong(
+            f"there is no seat beside {journal}: sit down at one with --join LINK, found a session with --found NAME, or give "
+            "--session, --site and the addresses of all"
+        ) from None
+    except (BadFile, OSError) as why:
+        raise commands.Wrong(str(why)) from None
+    if seat.begun and not journal.exists():
+        raise commands.Wrong(
+            f"the journal {journal} of this seat is gone, and the others have what stood in it: this seat can't begin anew. "
+            "Put back the newest copy that you have; where there is none, ask for a link to another seat"
+        )
+    return seat
+
+
+async def run(given, seat):
+    """Runs a seat until this program is told to end, and gives the status."""
+    own = OwnBroker(given.journal) if seat.listen else None
+    try:
+        if own:
+            await asyncio.get_running_loop().run_in_executor(None, own.start)
+        return await sit(given, seat)
+    except (NoBroker, OSError) as why:
+        say(f"the broker of this session doesn't run: {why}")
+        return FAILED
+    finally:
+        if own:
+            await asyncio.get_running_loop().run_in_executor(None, own.stop)
+
+
+async def sit(given, seat):
+    """Runs a seat whose broker is where it is."""
+    carrier = Carrier(seat)
+    try:
+        begin(carrier, seat)
+        if not await carrier.up(PATIENCE):
+            say(f"the broker at {seat.broker} isn't reached: {carrier.broker.fault or 'it does not answer'}. Draw on: it is tried again")
+        audience = Audience()
+        desk = desk_of(given, seat, carrier, audience)
+        return await drawn(given, seat, desk, audience)
+    finally:
+        await carrier.stop()
+
+
+def begin(carrier, seat):
+    """Connects; the founder leaves the roster with the broker for those who join."""
+    def keep_roster(up, fault):
+        if up and seat.seat == commands.FIRST:
+            carrier.broker.publish(topic(carrier.session, "roster"), seat.roster.data, keep=True)
+
+    carrier.changes.append(keep_roster)
+    carrier.start()
+
+
+def desk_of(given, seat, carrier, audience):
+    """The desk of the node, which is polled whenever something comes for it."""
+    command = node_command(given.program.resolve(), seat.roster.number, seat.seat, given.journal, carrier.addresses)
+    desk = Desk(seat.seat, command, given.journal, audience, seat.roster.number, BEAT)
+
+    def wake():
+        if desk.rounds:
+            desk.rounds.expect(frozenset())
+
+    def tell(line):
+        desk.tell_news([{"what": "said", "line": line}])
+
+    carrier.wake, carrier.runs, carrier.say = wake, lambda: desk.node is not None and desk.node.status is None, tell
+    return desk
+
+
+async def drawn(given, seat, desk, audience):
+    """Starts the node and serves the page, and gives the status."""
+    try:
+        server = Server(secrets.token_urlsafe(24), [desk], audience)
+        status = await start([desk])
+        if not status:
+            if not seat.begun:
+                seat.begun = True
+                seat.write(given.journal)
+            await server.start(given.port)
+            await serve(server, given)
+        return status
+    except OSError as fault:
+        say(f"port {given.port} can't be served: {fault.strerror}. Take another --port, or 0 for any free one")
+        return FAILED
+    finally:
+        if desk.node:
+            await desk.stop()

@@ -1,0 +1,99 @@
+"""The words of `./draw` for sessions over a broker."""
+
+import argparse
+import importlib.util
+import os
+import subprocess
+import sys
+from pathlib import Path
+
+from page.addresses import BadAddress, parts_of
+
+BEGIN = ("--found", "--join", "--invite")
+# Words of a node with addresses, or of a demonstration.
+OTHERS = ("--session", "--site", "--demo")
+MOST_PORT = 65_535
+# Debian's own Python, which has Debian's packages where another one is called first.
+SYSTEM = "/usr/bin/python3"
+WANTED = ("paho", "cryptography", "aiohttp")
+MISSING = "draw: a session over a broker needs two packages: sudo apt install python3-paho-mqtt python3-cryptography"
+HELP = """over a broker, from anywhere (page/README.md):
+  --found NAME (--listen HOST:PORT | --broker HOST:PORT [--ca FILE]) --journal PATH
+                                 founds a session, and sits down at its first seat
+  --invite [--journal PATH]      prints a link for one person
+  --join LINK --journal PATH     sits down at the seat of a link; LINK may be -, and is then read from standard input
+  --journal PATH                 goes on later"""
+
+
+def is_carried(words):
+    """Whether words are of a session over a broker."""
+    names = {word.partition("=")[0] for word in words}
+    return bool(names & {*BEGIN}) or ("--journal" in names and not names & {*OTHERS} and not {"-h", "--help"} & names)
+
+
+def run(words):
+    """Does what words of a session over a broker ask for, and gives the status. Where this Python hasn't the packages for that
+    and Debian's has, it goes on with that one."""
+    if not all(importlib.util.find_spec(name) for name in WANTED):
+        imports = "; ".join(f"import {name}" for name in WANTED)
+        tried = [SYSTEM, "-c", imports]
+        if sys.executable != SYSTEM and os.path.exists(SYSTEM) and not subprocess.run(tried, stderr=subprocess.DEVNULL).returncode:
+            os.execv(SYSTEM, [SYSTEM, *sys.argv])
+        print(MISSING, file=sys.stderr)
+        return 1
+    from carrier.running import main
+
+    return main(words)
+
+
+def address(text):
+    """HOST:PORT."""
+    try:
+        parts_of(text)
+    except BadAddress as why:
+        raise argparse.ArgumentTypeError(str(why)) from None
+    return text
+
+
+def port(text):
+    value = int(text) if text.isascii() and text.isdigit() else -1
+    if not 0 <= value <= MOST_PORT:
+        raise argparse.ArgumentTypeError(f"{text} is no port from 0 to {MOST_PORT}")
+    return value
+
+
+def asked(words, program):
+    """What the command line asks for. `program` is the built groupdesign where none is named."""
+    shape = argparse.RawDescriptionHelpFormatter
+    parser = argparse.ArgumentParser(prog="./draw", description="Draws together over a broker.", epilog=HELP, formatter_class=shape)
+    add = parser.add_argument
+    add("--found", metavar="NAME", help="found a session with this name")
+    add("--listen", metavar="HOST:PORT", type=address, help="start a broker here, which the others reach at this address")
+    add("--broker", metavar="HOST:PORT", type=address, help="the broker, which speaks MQTT over TLS")
+    add("--ca", metavar="FILE", type=Path, help="the certificate of the authority behind the broker's, in PEM")
+    add("--invite", action="store_true", help="print a link for one person")
+    add("--join", metavar="LINK", help="sit down at the seat of a link")
+    add("--journal", metavar="PATH", type=Path, help="the file of the node's log; the files of the seat lie beside it")
+    add("--port", metavar="N", type=port, default=0, help="the page's port; any free one if 0")
+    add("--open", action="store_true", help="open the page in a browser")
+    add("--program", metavar="PROGRAM", type=Path, default=program, help="another built groupdesign")
+    given = parser.parse_args(words)
+    check(parser, given)
+    given.demo = None
+    return given
+
+
+def check(parser, given):
+    """Refuses words that don't go together."""
+    asks = [given.found is not None, given.invite, given.join is not None]
+    if sum(asks) > 1:
+        parser.error("one of --found, --invite and --join at a time")
+    places = [given.listen, given.broker]
+    if given.found is not None and sum(place is not None for place in places) != 1:
+        parser.error("--found takes either --listen HOST:PORT, for a broker of its own, or --broker HOST:PORT")
+    if given.found is None and (places != [None, None] or given.ca):
+        parser.error("--listen, --broker and --ca go with --found: later on the seat's file has them")
+    if given.ca and not given.broker:
+        parser.error("--ca goes with --broker")
+    if given.journal is None and not given.invite:
+        parser.error("--journal is wanted: the file in which your copy of the drawing is kept")
