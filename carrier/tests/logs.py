@@ -1,0 +1,24 @@
+"""Bytes of logs, as docs/FORMATS.md has them."""
+
+import struct
+
+
+def stamp(clock, site):
+    return clock.to_bytes(6, "big") + bytes([site])
+
+
+def record(clock, site, number, tag, body):
+    return stamp(clock, site) + number.to_bytes(2, "big") + bytes([tag]) + body
+
+
+def create(clock, site, number, label=b"", place=(0, 0)):
+    return record(clock, site, number, 1, struct.pack(">Biiii", 1, *place, 10, 10) + bytes([len(label)]) + label)
+
+
+def move(clock, site, number, target, place=(1, 2)):
+    return record(clock, site, number, 3, stamp(*target) + struct.pack(">ii", *place))
+
+
+def log(records, session=7, site=1, sites=16):
+    gated = b"".join(b"\xc3" + each for each in records)
+    return b"GDOL\x02" + session.to_bytes(4, "big") + bytes([site, sites]) + gated + b"\0"
