@@ -35,6 +35,8 @@ class Carrier:
         # What has the node polled, and whether it runs.
         self.wake, self.runs = lambda: None, lambda: True
         self.counts = {"out": 0, "in": 0, "kept": 0, "strange": 0}
+        # Set once all has come that the broker kept.
+        self.settled = asyncio.Event()
         user = user_of(seat.roster.session, seat.seat)
         self.broker = Broker(
             parts_of(seat.broker), user, self.keys.password, seat.trust, seat.certificate, self.come, self.changed
@@ -54,19 +56,22 @@ class Carrier:
         await self.broker.stop()
         self.ways.close()
 
-    async def up(self, seconds):
-        """Waits until there is a connection, for so long at most, and says whether there is one. It doesn't wait where the broker
-        refused this seat."""
+    async def settle(self, seconds):
+        """Waits until all has come that the broker kept, for so long at most, and says whether it has. It doesn't wait where the
+        broker refused this seat."""
         end = time.monotonic() + seconds
-        while not self.broker.up and not self.broker.is_refused and time.monotonic() < end:
+        while not self.settled.is_set() and not self.broker.is_refused and time.monotonic() < end:
             await asyncio.sleep(0.02)
-        return self.broker.up
+        return self.settled.is_set()
 
     def changed(self):
         """The connection was made or lost."""
-        if self.broker.up:
-            for pace in self.paces.values():
-                pace.again()
+        self.settled.clear()
+        for pace in self.paces.values():
+            pace.leave()
+            pace.again()
+        # What the broker kept comes before this does.
+        self.broker.publish(topic(self.session, self.seat.seat, self.seat.seat), b"")
         for call in self.changes:
             call(self.broker.up, self.broker.fault)
         self.wake()
@@ -96,7 +101,10 @@ class Carrier:
     def come(self, name, data, was_kept):
         """A message came."""
         words = name.split("/")[2:]
-        if len(words) == 2 and words[0] == str(self.seat.seat):
+        own = str(self.seat.seat)
+        if words == [own, own]:
+            self.settled.set()
+        elif len(words) == 2 and words[0] == own:
             if not was_kept and words[1].isascii() and words[1].isdigit() and len(words[1]) < 3:
                 self.take(int(words[1]), data)
         elif words and words[0] in self.keepers:

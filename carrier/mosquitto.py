@@ -1,5 +1,7 @@
 """A broker of one's own: Debian's mosquitto as a child, with a certificate, rules and passwords in a folder beside the journal."""
 
+import asyncio
+import contextlib
 import os
 import pwd
 import shutil
@@ -137,6 +139,14 @@ class OwnBroker:
                 time.sleep(0.05)
         self.stop()
         raise NoBroker(f"mosquitto doesn't listen at port {self.port()[1]}: {self.last_said()}")
+
+    async def watch(self):
+        """Starts it again whenever it has ended, for as long as nobody cancels this."""
+        while True:
+            await asyncio.sleep(1)
+            if self.process and self.process.poll() is not None:
+                with contextlib.suppress(NoBroker, OSError):
+                    await asyncio.get_running_loop().run_in_executor(None, self.start)
 
     def last_said(self):
         """What it said last."""

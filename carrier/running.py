@@ -1,18 +1,20 @@
 """A run of a carried seat: its broker where that is here, its carrier, its node, and the page."""
 
 import asyncio
+import os
 import secrets
+import sys
 
 from carrier import commands
 from carrier.broker import topic
 from carrier.carrier import Carrier
 from carrier.files import BadFile, Seat
 from carrier.mosquitto import NoBroker, OwnBroker
-from carrier.roster import SEATS
-from carrier.words import asked
+from carrier.standing import Standing
+from carrier.words import asked, without_link
 from page.audience import Audience
 from page.desk import Desk
-from page.draw import BROKEN, FAILED, PROGRAM, USAGE, check_journal, node_command, say, serve, start
+from page.draw import BROKEN, FAILED, PROGRAM, ROOT, USAGE, check_journal, node_command, say, serve, start
 from page.server import Server
 
 # What comes has the node polled at once. For what doesn't come it is polled so seldom.
@@ -36,6 +38,8 @@ def main(words):
                 say(line)
         if given.join is not None:
             commands.join(given)
+            # Others on this machine can read the words of a program, so the link may stand among them for no longer.
+            os.execv(sys.executable, [sys.executable, str(ROOT / "draw"), *without_link(words)])
         return asyncio.run(run(given, seat_of(given.journal)))
     except commands.Wrong as why:
         say(str(why))
@@ -65,35 +69,55 @@ def seat_of(journal):
 
 async def run(given, seat):
     """Runs a seat until this program is told to end, and gives the status."""
-    own = OwnBroker(given.journal) if seat.listen else None
-    try:
-        if own:
-            await asyncio.get_running_loop().run_in_executor(None, own.start)
+    if not seat.listen:
         return await sit(given, seat)
+    loop, own = asyncio.get_running_loop(), OwnBroker(given.journal)
+    try:
+        await loop.run_in_executor(None, own.start)
     except (NoBroker, OSError) as why:
         say(f"the broker of this session doesn't run: {why}")
         return FAILED
+    watching = loop.create_task(own.watch())
+    try:
+        return await sit(given, seat)
     finally:
-        if own:
-            await asyncio.get_running_loop().run_in_executor(None, own.stop)
+        watching.cancel()
+        await asyncio.gather(watching, return_exceptions=True)
+        await loop.run_in_executor(None, own.stop)
 
 
 async def sit(given, seat):
     """Runs a seat whose broker is where it is."""
     carrier = Carrier(seat)
+    standing = Standing(carrier, given.journal)
     try:
         begin(carrier, seat)
-        if not await carrier.up(PATIENCE):
-            say(f"the broker at {seat.broker} isn't reached: {carrier.broker.fault or 'it does not answer'}. Draw on: it is tried again")
+        if not await carrier.settle(PATIENCE):
+            why = carrier.broker.fault or "it doesn't answer"
+            say(f"the broker at {seat.broker} isn't reached: {why}. You can draw all the same: it is tried again")
+        older = standing.begin()
+        wrong = used_before(seat, standing) or older
+        if wrong:
+            say(wrong)
+            return FAILED
         audience = Audience()
         desk = desk_of(given, seat, carrier, audience)
-        return await drawn(given, seat, desk, audience)
+        return await drawn(given, seat, standing, desk, audience)
     finally:
+        await standing.stop()
         await carrier.stop()
+
+
+def used_before(seat, standing):
+    """Why a link can't be used, where the seat was used before it came here; or nothing."""
+    if seat.begun or seat.seat not in standing.heads.newest:
+        return None
+    return f"seat {seat.seat} is taken: a link is for one person, once. Ask for a link of your own"
 
 
 def begin(carrier, seat):
     """Connects; the founder leaves the roster with the broker for those who join."""
+
     def keep_roster(up, fault):
         if up and seat.seat == commands.FIRST:
             carrier.broker.publish(topic(carrier.session, "roster"), seat.roster.data, keep=True)
@@ -118,7 +142,7 @@ def desk_of(given, seat, carrier, audience):
     return desk
 
 
-async def drawn(given, seat, desk, audience):
+async def drawn(given, seat, standing, desk, audience):
     """Starts the node and serves the page, and gives the status."""
     try:
         server = Server(secrets.token_urlsafe(24), [desk], audience)
@@ -127,6 +151,7 @@ async def drawn(given, seat, desk, audience):
             if not seat.begun:
                 seat.begun = True
                 seat.write(given.journal)
+            standing.start(lambda: desk.edits)
             await server.start(given.port)
             await serve(server, given)
         return status

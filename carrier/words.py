@@ -46,6 +46,17 @@ def run(words):
     return main(words)
 
 
+def without_link(words):
+    """The words with which a run goes on once its seat has a file: those that it was given, without its link."""
+    left, is_link = [], False
+    for word in words:
+        if word == "--join" or is_link:
+            is_link = not is_link
+        elif not word.startswith("--join="):
+            left.append(word)
+    return left
+
+
 def address(text):
     """HOST:PORT."""
     try:

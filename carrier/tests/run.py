@@ -1,15 +1,20 @@
 """Runs some modules of tests, prints a line for each test, and how many there were."""
 
 import sys
+import time
 import unittest
 
 
 class Counting(unittest.TextTestResult):
-    """Names each test as it ends."""
+    """Names each test as it ends, with the seconds that it took."""
+
+    def startTest(self, test):
+        super().startTest(test)
+        self.began = time.monotonic()
 
     def addSuccess(self, test):
         super().addSuccess(test)
-        print(f"ok      {test.id().removeprefix('carrier.tests.')}", flush=True)
+        print(f"ok      {test.id().removeprefix('carrier.tests.')} ({time.monotonic() - self.began:.1f} s)", flush=True)
 
     def addSkip(self, test, reason):
         super().addSkip(test, reason)
