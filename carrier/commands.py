@@ -12,7 +12,7 @@ from carrier.keys import Keys, new_seed, public_bytes
 from carrier.link import BadLink, Link, link_of
 from carrier.mosquitto import NoBroker, OwnBroker
 from carrier.roster import SEATS, SESSION, BadRoster, Roster, roster_of
-from carrier.showing import show_code
+from carrier.showing import modules_of, show_code
 from page.addresses import BadAddress, parts_of
 
 PATIENCE = 20
@@ -90,6 +90,24 @@ def invited(journal):
         raise Wrong(f"all {SEATS} seats were handed out")
     number, seed = taken
     return Link(number, seat.roster.session, seed, seat.roster.digest, seat.trust, seat.broker)
+
+
+def free_seats(journal):
+    """How many more people can be invited with the files beside a journal."""
+    try:
+        return len(Founder.read(journal).free)
+    except (BadFile, OSError):
+        return 0
+
+
+def invitation(journal):
+    """What a page shows of a new link: its text, and the modules of its code where that can be made. Raises `ValueError`."""
+    try:
+        link = invited(journal)
+    except Wrong as why:
+        raise ValueError(str(why)) from None
+    rows = modules_of(link.text)
+    return {"link": link.text, "code": rows and ["".join("1" if each else "0" for each in row) for row in rows]}
 
 
 def invite(given):

@@ -11,6 +11,7 @@ from carrier.carrier import Carrier
 from carrier.files import BadFile, Seat
 from carrier.mosquitto import NoBroker, OwnBroker
 from carrier.standing import Standing
+from carrier.table import Table
 from carrier.words import asked, without_link
 from page.audience import Audience
 from page.desk import Desk
@@ -100,9 +101,8 @@ async def sit(given, seat):
         if wrong:
             say(wrong)
             return FAILED
-        audience = Audience()
-        desk = desk_of(given, seat, carrier, audience)
-        return await drawn(given, seat, standing, desk, audience)
+        desk = desk_of(given, seat, carrier, Audience())
+        return await drawn(given, seat, carrier, standing, desk)
     finally:
         await standing.stop()
         await carrier.stop()
@@ -138,19 +138,26 @@ def desk_of(given, seat, carrier, audience):
     def tell(line):
         desk.tell_news([{"what": "said", "line": line}])
 
+    async def asked(words):
+        if words.get("what") != "invite":
+            raise ValueError("a page asks for an invitation, and for nothing else")
+        return commands.invitation(given.journal)
+
     carrier.wake, carrier.runs, carrier.say = wake, lambda: desk.node is not None and desk.node.status is None, tell
+    desk.carried = asked
     return desk
 
 
-async def drawn(given, seat, standing, desk, audience):
+async def drawn(given, seat, carrier, standing, desk):
     """Starts the node and serves the page, and gives the status."""
     try:
-        server = Server(secrets.token_urlsafe(24), [desk], audience)
+        server = Server(secrets.token_urlsafe(24), [desk], desk.audience)
         status = await start([desk])
         if not status:
             if not seat.begun:
                 seat.begun = True
                 seat.write(given.journal)
+            Table(carrier, standing, desk, lambda: commands.free_seats(given.journal))
             standing.start(lambda: desk.edits)
             await server.start(given.port)
             await serve(server, given)

@@ -37,7 +37,7 @@ class Standing:
         self.feeding.grown = self.heads.grow
         # How many own edits are surely in the journal, whatever happens now; the head that was told last, and when.
         self.safe, self.told, self.told_at, self.shown, self.task = lambda: 0, None, 0.0, set(), None
-        self.begun_with, self.is_parted = 0, False
+        self.begun_with, self.is_parted, self.looks = 0, False, []
         carrier.takers.update({WANT: self.lending.take_want, GIVE: self.lending.take_give})
         carrier.keepers["head"] = self.take_head
         carrier.comings.append(self.lending.come)
@@ -76,6 +76,8 @@ class Standing:
             self.tell(time.monotonic())
             if not self.feeding.is_busy:
                 self.lending.look(self.carrier.here())
+            for look in self.looks:
+                look()
             await asyncio.sleep(LOOK)
 
     def change(self, up, fault):

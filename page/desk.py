@@ -36,6 +36,8 @@ class Desk:
         # Of each gesture of several edits since this program started the clocks of the first and the last one.
         self.gestures = []
         self.node, self.rounds, self.tasks = None, None, []
+        # What pages ask of a session over a broker is asked of this.
+        self.carried = None
         self.starting, self.typing = asyncio.Lock(), asyncio.Lock()
         audience.openings.append((number, self.opening))
 

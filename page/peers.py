@@ -17,6 +17,8 @@ class Peers:
         # The clocks of this site's own events, which rise.
         self.own = []
         self.datagram_at, self.line, self.line_at, self.is_behind = now, 0, now, False
+        # Where a carrier knows it: the others whose seats somebody has, and whether each of them is there.
+        self.seats = None
 
     def event(self, clock, site, is_new):
         """An event stands in the journal; `is_new` where it came in this run."""
@@ -49,6 +51,8 @@ class Peers:
 
     def late(self, now):
         """The sites that may be those that say nothing, and whether each of them surely is."""
+        if self.seats is not None:
+            return [site for site, is_here in self.seats.items() if not is_here], True
         if now - self.datagram_at >= AWAY:
             return self.others, True
         if self.is_behind and now - self.line_at >= AWAY:
@@ -74,7 +78,7 @@ class Peers:
                 "away": is_sure and site in late,
                 "perhaps": not is_sure and site in late,
             }
-            for site in self.others
+            for site in (self.others if self.seats is None else self.seats)
         ]
         return {"peers": peers, "waiting": self.waiting(), "quiet": self.is_quiet(), "silent": is_silent}
 

@@ -35,6 +35,7 @@ class Talk:
             "name": self.name,
             "save": self.save,
             "link": self.link,
+            "carried": self.carried,
         }
 
     async def run(self, desk, let_go):
@@ -137,6 +138,16 @@ class Talk:
     async def save(self, asked):
         desk = self.desk(asked)
         return message("reply", id=asked.get("id"), result=await saved(desk.program, desk.journal, asked.get("form")))
+
+    async def carried(self, asked):
+        """Something of a session over a broker."""
+        desk = self.desk(asked)
+        if desk.carried is None:
+            raise Wrong("this session isn't over a broker")
+        try:
+            return message("reply", id=asked.get("id"), result=await desk.carried(asked))
+        except ValueError as fault:
+            raise Wrong(str(fault)) from None
 
     async def link(self, asked):
         if self.demo is None:

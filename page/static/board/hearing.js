@@ -4,7 +4,7 @@
 /** @typedef {import("./pending.js").Pending} Pending */
 /** @typedef {import("../core/node.js").NodeEar} NodeEar */
 
-const STANDING = new Set(["hello", "who", "peers", "standing", "end", "begun", "link", "open", "lost"]);
+const STANDING = new Set(["hello", "who", "peers", "standing", "end", "begun", "link", "carried", "open", "lost"]);
 
 /**
  * @param {Ed} ed
@@ -33,6 +33,7 @@ export function hearing(ed, pending) {
       ed.people.update();
       ed.standing.update();
       ed.roster.update();
+      ed.inviting.update();
       ed.touch("overlay");
     },
   };

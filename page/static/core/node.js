@@ -63,6 +63,8 @@ export class Node {
     this.link = null;
     /** @type {[number, number][]} of own gestures of several edits the clocks of the first and the last one, by rising clocks */
     this.gestures = [];
+    /** @type {import("./types.js").Carried | null} what is known of a session over a broker */
+    this.carried = null;
     /** @type {any[]} */
     this.news = [];
     this.edits = 0;
@@ -142,6 +144,14 @@ export class Node {
     return this.ask(/** @type {any} */ ({ do: "name", name }));
   }
 
+  /**
+   * Has a link made for one more person of a session over a broker.
+   * @returns {Promise<{link: string, code: string[] | null}>}
+   */
+  invite() {
+    return this.ask(/** @type {any} */ ({ do: "carried", what: "invite" }));
+  }
+
   /** @param {string | null} id */
   focus(id) {
     return this.type(() => [`focus ${id ?? "-"}`]);
@@ -211,6 +221,7 @@ export class Node {
     else if (is === "gestures") this.gestures.push(...rest.gestures);
     else if (is === "end") this.ended = rest.end;
     else if (is === "begun") this.ended = null;
+    else if (is === "carried") this.carried = rest;
     else if (is === "link") this.link = { loss: rest.loss, twice: rest.twice, delay: rest.delay, cut: rest.cut };
     if (this.news.length > 400) this.news.splice(0, this.news.length - 200);
   }

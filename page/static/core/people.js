@@ -29,8 +29,10 @@ export class People {
     const { node } = this;
     const notes = new Map(node.who.map((note) => [note.site, note]));
     const peers = new Map(node.peers.map((peer) => [peer.site, peer]));
-    this.seats = Array.from({ length: node.sites }, (_, index) => {
-      const site = index + 1;
+    // Of a session over a broker only those sites are seats that somebody has.
+    const all = Array.from({ length: node.sites }, (_, index) => index + 1);
+    const seated = node.carried ? new Set([node.site, ...node.carried.seats.map((each) => each.site)]) : new Set(all);
+    this.seats = all.filter((site) => seated.has(site)).map((site) => {
       const me = site === node.site;
       const peer = peers.get(site);
       const focus = notes.get(site)?.focus;

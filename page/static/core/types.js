@@ -81,6 +81,19 @@
  * @property {string | null} by the stamp of the event that overwrites it, where it was dropped
  */
 
+/**
+ * What is known of a session over a broker: its name, the other seats that somebody has, whether the broker is reached and why
+ * not, and how many more people can be invited here. Of a seat: whether it is there, how many seconds ago it was heard, how many of
+ * its edits are known of and aren't here, and whether it has told two stories.
+ * @typedef {object} Carried
+ * @property {string} name
+ * @property {{site: number, here: boolean, heard: number | null, missing: number, lies: boolean}[]} seats
+ * @property {boolean} up
+ * @property {string} fault
+ * @property {string} broker
+ * @property {number} invites
+ */
+
 /** @typedef {{site: number, name: string, me: boolean, here: boolean, away: string | null, selection: Set<string>}} Seat */
 /** @typedef {{held: number, kept: number, line: number, clock: number}} Standing */
 /** @typedef {{loss: number, twice: number, delay: number, cut: number[]}} LinkSettings */
@@ -148,6 +161,7 @@
  * @property {() => void} pointers
  * @property {any} menu
  * @property {any} roster
+ * @property {any} inviting
  * @property {any} objects
  * @property {any} stylePanel
  * @property {any} history

@@ -11,6 +11,7 @@ import { makeFile } from "./file.js";
 import { Help } from "./help.js";
 import { HistoryBar } from "./history.js";
 import { Importing } from "./importing.js";
+import { Inviting } from "./inviting.js";
 import { listen } from "./keys.js";
 import { makeLink } from "./link.js";
 import { Menu } from "./menu.js";
@@ -31,7 +32,7 @@ import { makeView } from "./view.js";
 const find = (id) => /** @type {HTMLElement} */ (document.getElementById(id));
 
 /**
- * Makes the islands and puts them on `ed`: `menu`, `roster`, `objects`, `stylePanel`, `history`, `editor`, `clipboard`,
+ * Makes the islands and puts them on `ed`: `menu`, `roster`, `inviting`, `objects`, `stylePanel`, `history`, `editor`, `clipboard`,
  * `exporting`, `importing`, `palette`, `help`, `standing`; and what they do: `say`, `banner`, `refuse`, `kindName`,
  * `describe`, `short`, `pad`, `fit`, `walk`, `escape`, `focusBoard`, `closePopups`, `setReadOnly`, `styleFor`, `setTool`,
  * `sheet`, `stacks`, `openMenu`, `openSaves`, `rested`, `busied`, `placed`, `setTheme`.
@@ -47,6 +48,7 @@ export function makeIslands(ed) {
   makeView(ed);
   ed.menu = new Menu(ed);
   ed.roster = new Roster(ed, find("faces"));
+  ed.inviting = new Inviting(ed, find("faces"));
   ed.objects = new Objects(ed, find("objects"));
   ed.stylePanel = new StylePanel(ed, find("style"));
   ed.history = new HistoryBar(ed, find("history"));

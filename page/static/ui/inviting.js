@@ -1,0 +1,146 @@
+// Inviting: a button beside the faces that has a link made for one more person, and shows it as a text and as a code for a camera.
+
+import { button, h } from "./h.js";
+import { count } from "./words.js";
+
+/** @typedef {import("../core/types.js").Ed} Ed */
+/** @typedef {import("../core/types.js").Carried} Carried */
+/** @typedef {import("./h.js").Child} Child */
+
+/** The width of a module of the code, in CSS pixels. */
+const MODULE = 4;
+
+/**
+ * What is said of the broker where it isn't reached.
+ * @param {Carried | null} carried
+ */
+export function faultOf(carried) {
+  if (!carried || carried.up) return null;
+  const why = carried.fault ? `: ${carried.fault}` : "";
+  return `The broker at ${carried.broker} isn’t reached${why}. You can draw all the same.`;
+}
+
+/**
+ * The code as a picture.
+ * @param {string[]} rows a letter for each module, 1 where it is dark
+ */
+function pictureOf(rows) {
+  const size = rows.length * MODULE;
+  const made = h("canvas", { class: "code", role: "img", "aria-label": "The link as a code for a camera", width: size, height: size });
+  const c = /** @type {CanvasRenderingContext2D} */ (made.getContext("2d"));
+  c.fillStyle = "#fff";
+  c.fillRect(0, 0, size, size);
+  c.fillStyle = "#000";
+  rows.forEach((row, y) => {
+    for (let x = 0; x < row.length; x += 1) if (row[x] === "1") c.fillRect(x * MODULE, y * MODULE, MODULE, MODULE);
+  });
+  return made;
+}
+
+export class Inviting {
+  /**
+   * @param {Ed} ed
+   * @param {HTMLElement} host
+   */
+  constructor(ed, host) {
+    this.ed = ed;
+    this.fault = /** @type {string | null} */ (null);
+    /** @type {{link: string, code: string[] | null} | null} what was made last, for who closes it too early */
+    this.made = null;
+    /** @type {HTMLElement | null} */
+    this.banner = null;
+    this.pop = h("div", { class: "pop island invite", hidden: true, role: "dialog", "aria-label": "Invite" });
+    document.body.append(this.pop);
+    this.button = button("plus", "Invite", () => this.toggle(), { props: { hidden: true, "aria-haspopup": "dialog" } });
+    host.prepend(this.button);
+    document.addEventListener("pointerdown", (event) => {
+      const target = /** @type {HTMLElement} */ (event.target);
+      if (!this.pop.hidden && !this.pop.contains(target) && !host.contains(target)) this.close();
+    });
+    this.pop.addEventListener("keydown", (event) => {
+      if (event.key !== "Escape") return;
+      event.stopPropagation();
+      this.close();
+      this.button.focus();
+    });
+  }
+
+  /** Shows the button where somebody can be invited, and says where the broker isn't reached. */
+  update() {
+    const { carried } = this.ed.node;
+    this.button.hidden = !carried?.invites && !this.made;
+    const fault = faultOf(carried);
+    if (fault === this.fault) return;
+    this.fault = fault;
+    this.banner?.remove();
+    this.banner = fault ? this.ed.banner({ text: fault, tone: "calm", stays: true }) : null;
+  }
+
+  /** Opens or closes the dialog. A link that was made is shown again, since it takes a seat. */
+  toggle() {
+    if (!this.pop.hidden) this.close();
+    else if (this.made) this.show(this.made);
+    else this.offer();
+  }
+
+  /** @param {Child[]} parts */
+  fill(...parts) {
+    const left = this.ed.node.carried?.invites ?? 0;
+    const rest = h("p", { class: "fine" }, `${count(left, "seat is", "seats are")} free.`);
+    this.pop.replaceChildren(h("div", {}, h("h2", {}, "Invite one person"), parts, rest));
+    this.pop.hidden = false;
+  }
+
+  offer() {
+    const make = h("button", { type: "button", class: "primary", onclick: () => this.make(make) }, "Make a link");
+    this.fill(h("p", { class: "fine" }, "A link gives one seat of this session to one person, for good."), make);
+    make.focus();
+  }
+
+  /**
+   * Has a link made, and shows it.
+   * @param {HTMLButtonElement} pressed
+   */
+  async make(pressed) {
+    pressed.disabled = true;
+    try {
+      this.made = await this.ed.node.invite();
+      this.show(this.made);
+    } catch (why) {
+      this.close();
+      this.ed.refuse([{ why: /** @type {Error} */ (why).message }]);
+    }
+  }
+
+  /** @param {{link: string, code: string[] | null}} made */
+  show({ link, code }) {
+    const field = h("input", { class: "field", readonly: true, "aria-label": "The link", spellcheck: "false" });
+    field.value = link;
+    const note = h("p", { class: "fine", role: "status" },
+      "For one person, once. Who has it can draw, so hand it over in a way that nobody else reads. It is used by ./draw --join LINK --journal FILE.");
+    const copy = h("button", { type: "button", class: "primary", onclick: () => this.copy(link, field, note) }, "Copy the link");
+    const another = h("button", { type: "button", class: "quiet", onclick: () => this.make(another) }, "Make another link");
+    this.fill(field, copy, code && pictureOf(code), note, this.ed.node.carried?.invites ? another : null);
+    field.focus();
+    field.select();
+  }
+
+  /**
+   * @param {string} link
+   * @param {HTMLInputElement} field
+   * @param {HTMLElement} note
+   */
+  async copy(link, field, note) {
+    try {
+      await navigator.clipboard.writeText(link);
+      note.textContent = "Copied.";
+    } catch {
+      field.select();
+      note.textContent = "The browser doesn’t let the link be copied: it is selected, press Ctrl+C.";
+    }
+  }
+
+  close() {
+    this.pop.hidden = true;
+  }
+}
