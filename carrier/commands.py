@@ -122,11 +122,12 @@ def invite(given):
 def join(given):
     """Makes the file of a seat from its link. Raises `Wrong`."""
     check_new(given.journal)
+    text = given.join or given.keep
     try:
-        link = link_of(sys.stdin.readline() if given.join == "-" else given.join)
+        link = link_of(sys.stdin.readline() if text == "-" else text)
         certificate = trust.fetched(link.trust, *parts_of(link.broker))
         roster = asyncio.run(fetched_roster(link, certificate))
-        seat = Seat(link.seat, link.seed, roster, link.broker, link.trust, certificate)
+        seat = Seat(link.seat, link.seed, roster, link.broker, link.trust, certificate, keep=given.keep is not None)
         seat.write(given.journal)
     except (BadLink, BadAddress, trust.BadTrust) as why:
         raise Wrong(str(why)) from None

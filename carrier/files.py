@@ -69,7 +69,7 @@ def fields_of(path):
 @dataclass
 class Seat:
     """What a carrier needs of one seat. `certificate` is what connections to the broker are judged by, in DER; `listen` says
-    that the broker runs here, beside the journal; `begun` that there was a journal."""
+    that the broker runs here, beside the journal; `begun` that there was a journal; `keep` that it has no page."""
 
     seat: int
     seed: bytes
@@ -79,6 +79,7 @@ class Seat:
     certificate: bytes
     listen: bool = False
     begun: bool = False
+    keep: bool = False
 
     @staticmethod
     def path(journal):
@@ -96,6 +97,7 @@ class Seat:
             "certificate": text_of(self.certificate),
             "listen": self.listen,
             "begun": self.begun,
+            "keep": self.keep,
         }
         write_private(self.path(journal), json.dumps(fields, indent=1) + "\n")
 
@@ -108,7 +110,7 @@ class Seat:
                 raise ValueError("the seat")
             trust = Trust(fields["trust"], data_of(fields["trusted"]))
             roster, seed = roster_of(data_of(fields["roster"])), data_of(fields["seed"])
-            certificate, flags = data_of(fields["certificate"]), [fields[name] is True for name in ("listen", "begun")]
+            certificate, flags = data_of(fields["certificate"]), [fields[name] is True for name in ("listen", "begun", "keep")]
             return cls(number, seed, roster, str(fields["broker"]), trust, certificate, *flags)
 
 

@@ -3,6 +3,7 @@
 import asyncio
 import os
 import secrets
+import signal
 import sys
 
 from carrier import commands
@@ -37,7 +38,7 @@ def main(words):
         if given.found is not None:
             for line in commands.told_when_founded(given, commands.found(given)):
                 say(line)
-        if given.join is not None:
+        if given.join is not None or given.keep is not None:
             commands.join(given)
             # Others on this machine can read the words of a program, so the link may stand among them for no longer.
             os.execv(sys.executable, [sys.executable, str(ROOT / "draw"), *without_link(words)])
@@ -148,6 +149,21 @@ def desk_of(given, seat, carrier, audience):
     return desk
 
 
+async def show(server, given):
+    """Serves the page until this program is told to end."""
+    await server.start(given.port)
+    await serve(server, given)
+
+
+async def keep(given):
+    """Keeps a copy, and hands on what others miss, until this program is told to end."""
+    told = asyncio.Event()
+    for each in (signal.SIGINT, signal.SIGTERM, signal.SIGHUP):
+        asyncio.get_running_loop().add_signal_handler(each, told.set)
+    print(f"keeping a copy in {given.journal}", flush=True)
+    await told.wait()
+
+
 async def drawn(given, seat, carrier, standing, desk):
     """Starts the node and serves the page, and gives the status."""
     try:
@@ -159,8 +175,7 @@ async def drawn(given, seat, carrier, standing, desk):
                 seat.write(given.journal)
             Table(carrier, standing, desk, lambda: commands.free_seats(given.journal))
             standing.start(lambda: desk.edits)
-            await server.start(given.port)
-            await serve(server, given)
+            await (keep(given) if seat.keep else show(server, given))
         return status
     except OSError as fault:
         say(f"port {given.port} can't be served: {fault.strerror}. Take another --port, or 0 for any free one")

@@ -9,7 +9,7 @@ from pathlib import Path
 
 from page.addresses import BadAddress, parts_of
 
-BEGIN = ("--found", "--join", "--invite")
+BEGIN = ("--found", "--join", "--keep", "--invite")
 # Words of a node with addresses, or of a demonstration.
 OTHERS = ("--session", "--site", "--demo")
 MOST_PORT = 65_535
@@ -22,7 +22,9 @@ HELP = """over a broker, from anywhere (page/README.md):
                                  founds a session, and sits down at its first seat
   --invite [--journal PATH]      prints a link for one person
   --join LINK --journal PATH     sits down at the seat of a link; LINK may be -, and is then read from standard input
-  --journal PATH                 goes on later"""
+  --keep LINK --journal PATH     keeps a copy at the seat of a link, without a page, for a machine that is always on
+  --journal PATH                 goes on later
+"""
 
 
 def is_carried(words):
@@ -50,9 +52,9 @@ def without_link(words):
     """The words with which a run goes on once its seat has a file: those that it was given, without its link."""
     left, is_link = [], False
     for word in words:
-        if word == "--join" or is_link:
+        if word in ("--join", "--keep") or is_link:
             is_link = not is_link
-        elif not word.startswith("--join="):
+        elif not word.startswith(("--join=", "--keep=")):
             left.append(word)
     return left
 
@@ -84,6 +86,7 @@ def asked(words, program):
     add("--ca", metavar="FILE", type=Path, help="the certificate of the authority behind the broker's, in PEM")
     add("--invite", action="store_true", help="print a link for one person")
     add("--join", metavar="LINK", help="sit down at the seat of a link")
+    add("--keep", metavar="LINK", help="keep a copy at the seat of a link, without a page")
     add("--journal", metavar="PATH", type=Path, help="the file of the node's log; the files of the seat lie beside it")
     add("--port", metavar="N", type=port, default=0, help="the page's port; any free one if 0")
     add("--open", action="store_true", help="open the page in a browser")
@@ -96,9 +99,9 @@ def asked(words, program):
 
 def check(parser, given):
     """Refuses words that don't go together."""
-    asks = [given.found is not None, given.invite, given.join is not None]
+    asks = [given.found is not None, given.invite, given.join is not None, given.keep is not None]
     if sum(asks) > 1:
-        parser.error("one of --found, --invite and --join at a time")
+        parser.error("one of --found, --invite, --join and --keep at a time")
     places = [given.listen, given.broker]
     if given.found is not None and sum(place is not None for place in places) != 1:
         parser.error("--found takes either --listen HOST:PORT, for a broker of its own, or --broker HOST:PORT")

@@ -29,7 +29,7 @@ class Evil(WithMembers):
             "flip": (name, data[:place] + bytes([data[place] ^ (1 << draw.randrange(8))]) + data[place + 1 :]),
             "forge": (f"{root}/1/2", bomb),
             "noise": (f"{root}/{seats[0]}/{seats[1]}", draw.randbytes(draw.randrange(4200))),
-            "head": (f"{root}/head/{seats[0]}", draw.choice([data, draw.randbytes(119), b""])),
+            "head": (f"{root}/head/{seats[0]}", draw.choice([data, draw.randbytes(114), b""])),
             "roster": (f"{root}/roster", draw.randbytes(40)),
         }
         client.publish(*messages[deed], retain=deed in ("head", "roster") and draw.random() < 0.5)

@@ -58,6 +58,25 @@ class Together(WithPeople):
         await ana.begin()
 
 
+class Keepers(WithPeople):
+    async def test_a_keeper_hands_on_what_somebody_drew_who_is_away(self):
+        ana = await self.found()
+        keeper = Person(self, "keeper.log")
+        self.assertTrue((await keeper.tell("--keep", await self.link(ana))).startswith("keeping a copy"))
+        ben = await self.join(ana, "ben.log")
+        await ben.draw(*[f"create rect {count} 0 10 10 b{count}" for count in range(30)])
+        await self.all_see([ana, ben], 30)
+        # It goes on without a page, also later.
+        self.assertEqual(await keeper.end(), 0)
+        self.assertTrue((await keeper.tell()).startswith("keeping a copy"))
+        await until(lambda: b"b29" in keeper.journal.read_bytes(), what="the copy")
+        await ben.draw("create rect 0 0 10 10 last")
+        await until(lambda: b"last" in keeper.journal.read_bytes(), what="the copy")
+        self.assertEqual(await ben.end(), 0)
+        cem = await self.join(ana, "cem.log")
+        self.assertIn("last", await self.all_see([ana, cem], 31))
+
+
 class Links(WithPeople):
     async def test_links_that_open_nothing(self):
         ana = await self.found()

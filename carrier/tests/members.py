@@ -14,6 +14,7 @@ from carrier.keys import Keys
 from carrier.mosquitto import OwnBroker
 from carrier.running import begin, desk_of
 from carrier.standing import Standing
+from carrier.table import Table
 from carrier.tests.rosters import FOUNDER, PATIENCE, SEEDS, WithFolder, until
 from carrier.tests.runs import PROGRAM, free_port, why_not
 from carrier.roster import Roster
@@ -44,6 +45,7 @@ class Member:
             self.desk = desk_of(given, self.seat, self.carrier, Audience())
             self.carrier.say = self.said.append
             await self.desk.start()
+            Table(self.carrier, self.standing, self.desk, lambda: 0)
             self.standing.start(lambda: self.desk.edits)
         return wrong
 
@@ -89,7 +91,7 @@ class WithMembers(WithFolder):
         self.addCleanup(self.own.stop)
 
     async def asyncSetUp(self):
-        asyncio.get_running_loop().set_debug(False)
+        await super().asyncSetUp()
         self.addAsyncCleanup(self.leave_all)
 
     async def leave_all(self):

@@ -44,3 +44,7 @@ class WithFolder(unittest.IsolatedAsyncioTestCase):
         self.folder = Path(tempfile.mkdtemp(prefix="carrier-test-", dir=memory))
         self.addCleanup(shutil.rmtree, self.folder, ignore_errors=True)
         self.journal = self.folder / "mine.log"
+
+    async def asyncSetUp(self):
+        # The loop's own checks of each call take long.
+        asyncio.get_running_loop().set_debug(False)

@@ -114,7 +114,7 @@ class WithPeople(WithFolder):
         self.people = []
 
     async def asyncSetUp(self):
-        asyncio.get_running_loop().set_debug(False)
+        await super().asyncSetUp()
         self.client = aiohttp.ClientSession()
         self.addAsyncCleanup(self.client.close)
         self.addAsyncCleanup(self.end_all)
