@@ -11,6 +11,8 @@ from carrier.broker import topic
 from carrier.carrier import Carrier
 from carrier.files import BadFile, Seat
 from carrier.mosquitto import NoBroker, OwnBroker
+from carrier.presence import BETWEEN, Presence
+from carrier.sealing import PRESENCE
 from carrier.standing import Standing
 from carrier.table import Table
 from carrier.words import asked, without_link
@@ -139,14 +141,40 @@ def desk_of(given, seat, carrier, audience):
     def tell(line):
         desk.tell_news([{"what": "said", "line": line}])
 
-    async def asked(words):
-        if words.get("what") != "invite":
-            raise ValueError("a page asks for an invitation, and for nothing else")
-        return commands.invitation(given.journal)
-
     carrier.wake, carrier.runs, carrier.say = wake, lambda: desk.node is not None and desk.node.status is None, tell
-    desk.carried = asked
     return desk
+
+
+def presence_of(given, carrier, desk):
+    """What seats say of themselves, between the pages of a desk and the others."""
+    presence = Presence(carrier.send, desk.tell)
+
+    def take(sender, content):
+        if presence.take(sender, content):
+            carrier.paces[sender].leave()
+
+    async def asked(words):
+        if words.get("what") == "invite":
+            return commands.invitation(given.journal)
+        if words.get("what") == "point":
+            return presence.take_page(words)
+        raise ValueError("what a page asks of a session over a broker is to invite or to point")
+
+    carrier.takers[PRESENCE] = take
+    carrier.comings.append(presence.come)
+    desk.carried, desk.whole_names = asked, presence.names
+    desk.audience.openings.append((desk.number, lambda: presence.opening(desk.number)))
+    return presence
+
+
+async def say_presence(presence, carrier, desk):
+    """Says where this seat points, for as long as nobody cancels this; then it says goodbye."""
+    try:
+        while True:
+            presence.look(carrier.here(), desk.name)
+            await asyncio.sleep(BETWEEN)
+    finally:
+        presence.leave(carrier.here())
 
 
 async def show(server, given):
@@ -166,6 +194,7 @@ async def keep(given):
 
 async def drawn(given, seat, carrier, standing, desk):
     """Starts the node and serves the page, and gives the status."""
+    saying = None
     try:
         server = Server(secrets.token_urlsafe(24), [desk], desk.audience)
         status = await start([desk])
@@ -174,12 +203,17 @@ async def drawn(given, seat, carrier, standing, desk):
                 seat.begun = True
                 seat.write(given.journal)
             Table(carrier, standing, desk, lambda: commands.free_seats(given.journal))
+            presence = presence_of(given, carrier, desk)
             standing.start(lambda: desk.edits)
+            saying = asyncio.get_running_loop().create_task(say_presence(presence, carrier, desk))
             await (keep(given) if seat.keep else show(server, given))
         return status
     except OSError as fault:
         say(f"port {given.port} can't be served: {fault.strerror}. Take another --port, or 0 for any free one")
         return FAILED
     finally:
+        if saying:
+            saying.cancel()
+            await asyncio.gather(saying, return_exceptions=True)
         if desk.node:
             await desk.stop()

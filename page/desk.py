@@ -36,8 +36,8 @@ class Desk:
         # Of each gesture of several edits since this program started the clocks of the first and the last one.
         self.gestures = []
         self.node, self.rounds, self.tasks = None, None, []
-        # What pages ask of a session over a broker is asked of this.
-        self.carried = None
+        # What pages ask of a session over a broker is asked of this, and the whole names of others come from there.
+        self.carried, self.whole_names = None, dict
         self.starting, self.typing = asyncio.Lock(), asyncio.Lock()
         audience.openings.append((number, self.opening))
 
@@ -190,7 +190,7 @@ class Desk:
 
     def called(self):
         """The names of sites, as far as they are known."""
-        names = {each["site"]: each["name"] for each in self.who if each["name"]}
+        names = {each["site"]: each["name"] for each in self.who if each["name"]} | self.whole_names()
         return {**names, self.site: self.name} if self.name else names
 
     def tell_news(self, news):

@@ -1,8 +1,11 @@
 """People draw together over a real broker, each over a node of the built program."""
 
+import argparse
+import asyncio
 import os
 import signal
 
+from carrier import commands
 from carrier.files import Seat
 from carrier.link import Link, link_of
 from carrier.tests.rosters import until
@@ -93,8 +96,11 @@ class Links(WithPeople):
             changed(digest=bytes(32)): "another roster",
             changed(broker="127.0.0.1:1"): "isn't reached",
         }
+        loop = asyncio.get_running_loop()
         for count, (text, words) in enumerate(rows.items()):
-            self.assertIn(words, await Person(self, f"other{count}.log").refused("--join", text))
+            given = argparse.Namespace(join=text, keep=None, journal=self.folder / f"other{count}.log")
+            with self.assertRaisesRegex(commands.Wrong, words):
+                await loop.run_in_executor(None, commands.join, given)
         self.assertFalse(list(self.folder.glob("other*.seat")))
         # It is still good, for one person.
         ben = await Person(self, "ben.log").begin("--join", good.text)

@@ -4,7 +4,7 @@
 /** @typedef {import("./pending.js").Pending} Pending */
 /** @typedef {import("../core/node.js").NodeEar} NodeEar */
 
-const STANDING = new Set(["hello", "who", "peers", "standing", "end", "begun", "link", "carried", "open", "lost"]);
+const STANDING = new Set(["hello", "who", "peers", "standing", "end", "begun", "link", "carried", "presence", "open", "lost"]);
 
 /**
  * @param {Ed} ed
@@ -29,6 +29,7 @@ export function hearing(ed, pending) {
       ed.stacks();
     },
     stand(what) {
+      if (what === "pointer") ed.pointing.update();
       if (!STANDING.has(what)) return;
       ed.people.update();
       ed.standing.update();

@@ -65,6 +65,10 @@ export class Node {
     this.gestures = [];
     /** @type {import("./types.js").Carried | null} what is known of a session over a broker */
     this.carried = null;
+    /** @type {Map<number, Set<string>>} what others have selected, by sites, where that is told beside the notes */
+    this.selections = new Map();
+    /** @type {Map<number, [number, number]>} where others point */
+    this.pointers = new Map();
     /** @type {any[]} */
     this.news = [];
     this.edits = 0;
@@ -152,6 +156,16 @@ export class Node {
     return this.ask(/** @type {any} */ ({ do: "carried", what: "invite" }));
   }
 
+  /**
+   * Tells the others of a session over a broker where this page points, and what is selected here. Nobody waits for an answer.
+   * @param {[number, number] | null} point
+   * @param {string[]} selection
+   */
+  point(point, selection) {
+    this.counted += 1;
+    this.wire.send({ do: "carried", what: "point", point, selection, desk: this.desk, id: this.counted });
+  }
+
   /** @param {string | null} id */
   focus(id) {
     return this.type(() => [`focus ${id ?? "-"}`]);
@@ -222,6 +236,10 @@ export class Node {
     else if (is === "end") this.ended = rest.end;
     else if (is === "begun") this.ended = null;
     else if (is === "carried") this.carried = rest;
+    else if (is === "presence" && rest.gone) this.selections.delete(rest.site);
+    else if (is === "presence") this.selections.set(rest.site, new Set(rest.selection));
+    else if (is === "pointer" && rest.point) this.pointers.set(rest.site, rest.point);
+    else if (is === "pointer") this.pointers.delete(rest.site);
     else if (is === "link") this.link = { loss: rest.loss, twice: rest.twice, delay: rest.delay, cut: rest.cut };
     if (this.news.length > 400) this.news.splice(0, this.news.length - 200);
   }

@@ -37,12 +37,13 @@ export class People {
       const peer = peers.get(site);
       const focus = notes.get(site)?.focus;
       const isAway = !me && Boolean(peer?.away);
+      const looksAt = node.selections.get(site) ?? (focus ? [focus] : []);
       return {
         site, me,
         name: peer?.name ?? notes.get(site)?.name ?? node.names[String(site)] ?? `Site ${site}`,
         here: me || (!isAway && (peer === undefined || peer.heard !== null)),
         away: isAway ? "away" : null,
-        selection: new Set(focus && !me && !isAway ? [focus] : []),
+        selection: new Set(me || isAway ? [] : looksAt),
       };
     });
   }

@@ -162,6 +162,7 @@
  * @property {any} menu
  * @property {any} roster
  * @property {any} inviting
+ * @property {any} pointing
  * @property {any} objects
  * @property {any} stylePanel
  * @property {any} history

@@ -18,6 +18,7 @@ import { Menu } from "./menu.js";
 import { makeNames } from "./names.js";
 import { Objects } from "./objects.js";
 import { Palette } from "./palette.js";
+import { Pointing } from "./pointing.js";
 import { makeQuick } from "./quick.js";
 import { Roster } from "./roster.js";
 import { StandingIsland } from "./standing.js";
@@ -32,7 +33,7 @@ import { makeView } from "./view.js";
 const find = (id) => /** @type {HTMLElement} */ (document.getElementById(id));
 
 /**
- * Makes the islands and puts them on `ed`: `menu`, `roster`, `inviting`, `objects`, `stylePanel`, `history`, `editor`, `clipboard`,
+ * Makes the islands and puts them on `ed`: `menu`, `roster`, `inviting`, `pointing`, `objects`, `stylePanel`, `history`, `editor`, `clipboard`,
  * `exporting`, `importing`, `palette`, `help`, `standing`; and what they do: `say`, `banner`, `refuse`, `kindName`,
  * `describe`, `short`, `pad`, `fit`, `walk`, `escape`, `focusBoard`, `closePopups`, `setReadOnly`, `styleFor`, `setTool`,
  * `sheet`, `stacks`, `openMenu`, `openSaves`, `rested`, `busied`, `placed`, `setTheme`.
@@ -49,6 +50,7 @@ export function makeIslands(ed) {
   ed.menu = new Menu(ed);
   ed.roster = new Roster(ed, find("faces"));
   ed.inviting = new Inviting(ed, find("faces"));
+  ed.pointing = new Pointing(ed);
   ed.objects = new Objects(ed, find("objects"));
   ed.stylePanel = new StylePanel(ed, find("style"));
   ed.history = new HistoryBar(ed, find("history"));
@@ -78,6 +80,7 @@ export function makeIslands(ed) {
     quick.update();
     empty.update();
     ed.editor.place();
+    ed.pointing.place();
   };
 }
 
