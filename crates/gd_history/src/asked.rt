@@ -40,7 +40,10 @@ impl Asked {
 
     /// Puts the key among them.
     pub(crate) fn put(&mut self, key: u64) -> Result<(), AllocError>
-        ensures { OnOk result ((k : ℕ)
+        ensures put { OnOk result (IsTrue (is_asked self.new key)) }
+        ensures kept { OnOk result ((k : ℕ)
+            → IsTrue (is_asked self.old k) → IsTrue (is_asked self.new k)) }
+        ensures others { OnOk result ((k : ℕ)
             → k ≢ key → IsTrue (is_asked self.new k) → IsTrue (is_asked self.old k)) }
     {
         self.keys.insert(key)?;
