@@ -1,6 +1,7 @@
 -- What becomes of an edit of a node's user, and of an undo.
 use Rattle.std.specs.Prelude.{◌≡◌, List, [], ◌∷◌, ◌++◌, Option, None, Some, Result, Err, OnOk}
 use Rattle.gd_base.specs.declared.refusal.Refusal.{Refusal}
+use Rattle.gd_dialogue.specs.Keeping.{KeepsLogs}
 use Rattle.gd_dialogue.specs.Owing.{beside}
 use Rattle.gd_effects.specs.Done.{Does}
 use Rattle.gd_effects.specs.Effects.{Effect, Record}
@@ -48,6 +49,8 @@ pub record Announces (e : Event) (result : Result (Unit {0}) End) (old new : Nod
       → Does result (beside input old) (of_made slow e) (beside input new)
   pub log : OnOk result ((slow : SlowSite) → IsAhead slow e old.answerer old.journal
       → HasLog (journal_header slow) (slow.held ++ e ∷ []) new.answerer.log new.journal)
+  pub keeps : (slow : SlowSite) → IsAhead slow e old.answerer old.journal
+      → KeepsLogs old.journal new.journal
   pub site : new.answerer.site ≡ old.answerer.site
   pub backs : new.answerer.backs ≡ old.answerer.backs
   pub takes : TakesNone old.link new.link
