@@ -4,6 +4,7 @@ use Rattle.std.specs.List.{filter}
 use Rattle.std.specs.Prelude.{Result, Ok, Err}
 use Rattle.gd_base.specs.declared.refusal.LineFault.{LineFault}
 use Rattle.gd_dialogue.proofs.Carrying.{carries_prints, on_ok_map}
+use Rattle.gd_dialogue.proofs.Keeping.{keeps_same}
 use Rattle.gd_dialogue.proofs.Links.{open_same}
 use Rattle.gd_dialogue.specs.Answering.{for_line}
 use Rattle.gd_dialogue.specs.Owing.{At, Carries, at}
@@ -111,6 +112,7 @@ module _ (line : ScriptLine) {old new : WorldValue} {output : SeenSink} (journal
         let a = answered w m in
         does_then (works_done w (Ok line) input output journal link {T = Unit {0}} tt a.2) (does_as (ap all_said (sym a.0)) (prints input journal link after));
     goes = on_ok_map r (λ t w m. record { reached = after_script w (Ok line); meets_it = (answered w m).1; is = λ told. (refl, refl) }) (on_ok {P = Unit {0}} r tt);
+    keeps = λ w m. keeps_same journal;
     name = grows_nothing journal.name;
     opened = open_same link;
   }
@@ -121,6 +123,7 @@ module _ (line : ScriptLine) {old new : WorldValue} {output : SeenSink} (journal
   carries_cut fault answered = record {
     does = λ w m input. does_more (all_said (script_replies w (Ok line))) (works_cut w (Ok line) input output journal link (pays fault w line before after new (answered w m)));
     goes = tt;
+    keeps = λ w m. keeps_same journal;
     name = grows_nothing journal.name;
     opened = open_same link;
   }
