@@ -149,7 +149,7 @@ class Broken(WithBoard):
     def test_a_lost_connection_is_opened_again_and_nothing_is_lost_or_doubled(self):
         (rect,) = self.make(self.one, "create rect 300 200 100 60", "fill @1 DAE6FF")
         # No connection is opened for as long as this page has none.
-        self.one.do("window.Was = WebSocket; window.WebSocket = class { constructor() { throw new Error('no connection'); } }; ed.node.wire.socket.close()")
+        self.one.do("window.Was = WebSocket; window.WebSocket = class extends EventTarget {}; ed.node.wire.socket.close()")
         wait_for(lambda: not self.one.ask("ed.node.connected"))
         self.one.do("ed.setReadOnly(null); ed.edits.do('m', [`move ${arguments[0]} 5 5`])", rect)
         wait_for(lambda: "no connection" in self.one.bubble())

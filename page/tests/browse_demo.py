@@ -34,7 +34,7 @@ class Pane(Page):
     def __init__(self, driver, number):
         self.number = number
         self.driver = driver
-        wait_for(lambda: self.ask("document.body.dataset.ready"))
+        wait_for(lambda: self.ask("document.body?.dataset.ready"))
 
     def ask(self, expression, *given):
         self.enter()

@@ -39,16 +39,6 @@ class Small(WithOnePage):
         self.page.do("ed.sheet(false); ed.roster.close(); ed.history.toNow(); ed.menu.close()")
         self.size("desktop", is_touch=False)
 
-    def touch(self, kind, *places):
-        points = [{"x": x, "y": y, "id": number} for number, (x, y) in enumerate(places)]
-        self.driver.execute_cdp_cmd("Input.dispatchTouchEvent", {"type": kind, "touchPoints": points})
-
-    def swipe(self, *way):
-        self.touch("touchStart", way[0])
-        for place in way[1:]:
-            self.touch("touchMove", place)
-        self.touch("touchEnd")
-
     def test_all_targets_are_large_enough_and_nothing_leaves_the_window(self):
         page = self.page
         names = self.made(*DRAWING)
@@ -107,25 +97,25 @@ class Small(WithOnePage):
         for name in ("phone", "tablet"):
             self.size(name)
             page.do("ed.camera.set(0, 0, 1); ed.setTool('rect')")
-            self.swipe((100, 300), (110, 320), (150, 350), (180, 380))
+            self.page.swipe((100, 300), (110, 320), (150, 350), (180, 380))
             (one,) = wait_for(page.ids)
             self.assertEqual(page.ask("ed.tool"), "select")
             wait_for(page.is_settled)
             events = page.ask("ed.node.events.length")
             page.do("ed.selection.clear()")
-            self.touch("touchStart", (100, 450))
-            self.touch("touchStart", (100, 450), (200, 450))
+            self.page.touch("touchStart", (100, 450))
+            self.page.touch("touchStart", (100, 450), (200, 450))
             for step in range(1, 6):
-                self.touch("touchMove", (100 - 6 * step, 450 + 10 * step), (200 + 6 * step, 450 + 10 * step))
-            self.touch("touchEnd")
+                self.page.touch("touchMove", (100 - 6 * step, 450 + 10 * step), (200 + 6 * step, 450 + 10 * step))
+            self.page.touch("touchEnd")
             zoom, top = page.ask("[ed.camera.zoom, ed.camera.y]")
             self.assertTrue(1.4 < zoom < 1.8, zoom)
             page.do("ed.camera.set(0, 0, 1); ed.setTool('rect')")
-            self.touch("touchStart", (60, 500))
-            self.touch("touchMove", (90, 530))
-            self.touch("touchStart", (90, 530), (200, 600))
-            self.touch("touchMove", (60, 500), (230, 630))
-            self.touch("touchEnd")
+            self.page.touch("touchStart", (60, 500))
+            self.page.touch("touchMove", (90, 530))
+            self.page.touch("touchStart", (90, 530), (200, 600))
+            self.page.touch("touchMove", (60, 500), (230, 630))
+            self.page.touch("touchEnd")
             page.do("ed.setTool('select')")
             self.assertEqual(page.ask("ed.node.events.length"), events)
             page.do("ed.edits.do('x', ['delete ' + arguments[0]])", one)
@@ -136,11 +126,8 @@ class Small(WithOnePage):
         self.size("phone")
         (one,) = self.made("create rect 100 300 120 80", "fill @1 FFF2AE")
         page.do("ed.camera.set(0, 0, 1); ed.selection.clear()")
-        self.touch("touchStart", (150, 340))
-        wait_for(lambda: not page.ask("document.querySelector('.menu').hidden"))
         # However long the finger stays.
-        time.sleep(0.6)
-        self.touch("touchEnd")
+        page.long_press((150, 340), lambda: not page.ask("document.querySelector('.menu').hidden"), stays=0.6)
         time.sleep(0.3)
         self.assertFalse(page.ask("document.querySelector('.menu').hidden"))
         self.assertEqual(page.ids(), [one])
@@ -150,11 +137,10 @@ class Small(WithOnePage):
         page = self.page
         self.size("phone")
         page.do("ed.camera.set(0, 0, 1)")
-        for _ in range(2):
-            self.swipe((150, 400))
+        page.tap_twice((150, 400))
         wait_for(lambda: page.ask("ed.editing"))
         page.write("Tapped")
-        self.swipe((300, 600))
+        self.page.swipe((300, 600))
         (name,) = wait_for(lambda: page.ids("text"))
         self.assertEqual(self.item(name)["label"], "Tapped")
 

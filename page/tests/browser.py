@@ -33,6 +33,8 @@ FLAGS = """--headless=new --no-sandbox --disable-dev-shm-usage --window-size=144
 --disable-hang-monitor --disable-extensions --disable-sync --disable-background-networking --disable-component-update
 --disable-default-apps --no-first-run --disable-breakpad --disable-background-timer-throttling
 --disable-backgrounding-occluded-windows --disable-renderer-backgrounding""".split()
+# On a slow machine a finger may seem to rest where it only comes to its next place late, so that is no long press.
+UNHURRIED = "window.holdAfter ??= ed.gestures.holdAfter; ed.gestures.holdAfter = 3_600_000"
 # What the board shows of each object, from bottom to top, as `show` prints it.
 SHOWN = """
 return ed.model.items.map((i) => i.kind === 'group' ? `group ${i.id} in ${i.parent ?? '-'} at ${i.x} ${i.y}` :
@@ -80,8 +82,21 @@ class Page:
 
     def __init__(self, driver):
         self.driver = driver
-        wait_for(lambda: self.ask("document.body.dataset.ready"))
+        self.come()
         self.home()
+
+    def come(self):
+        """Waits until the drawing is there. The bridge lets go who sends no head within 5 s, which a browser on a slow machine
+        may not: the page then misses a file, and is loaded again as anybody would do."""
+        for left in reversed(range(ATTEMPTS)):
+            try:
+                wait_for(lambda: self.ask("document.body?.dataset.ready"), PATIENCE / 2)
+                self.do(UNHURRIED)
+                return
+            except AssertionError:
+                if not left:
+                    raise
+                self.driver.refresh()
 
     def ask(self, expression, *given):
         return self.driver.execute_script(f"return {expression}", *given)
@@ -228,12 +243,46 @@ class Page:
             finger.create_pointer_up(0)
         actions.perform()
 
-    def long_press(self, place, until):
-        """A finger that stays until something has come."""
-        point = {"x": place[0], "y": place[1]}
-        self.driver.execute_cdp_cmd("Input.dispatchTouchEvent", {"type": "touchStart", "touchPoints": [point]})
+    def touch(self, kind, *places, **more):
+        """One event of fingers, which are at places of the window."""
+        points = [{"x": x, "y": y, "id": number} for number, (x, y) in enumerate(places)]
+        self.driver.execute_cdp_cmd("Input.dispatchTouchEvent", {"type": kind, "touchPoints": points, **more})
+
+    def swipe(self, *way):
+        """A finger that goes over places of the window; a tap where there is one alone."""
+        self.touch("touchStart", way[0])
+        for place in way[1:]:
+            self.touch("touchMove", place)
+        self.touch("touchEnd")
+
+    def tap_twice(self, place):
+        """Two taps 100 ms apart by their own times, however long the browser takes for them."""
+        began = time.time()
+        for count in (1, 2):
+            self.touch("touchStart", place, timestamp=began + 0.1 * count)
+            self.touch("touchEnd", timestamp=began + 0.1 * count + 0.01)
+
+    def tap_on(self, selector):
+        """A tap on an element, which is brought into view. The browser makes a click of it some time behind."""
+        place = self.do("""
+            const element = document.querySelector(arguments[0]);
+            element.scrollIntoView({ block: 'nearest' });
+            window.wasTapped = false;
+            addEventListener('click', () => setTimeout(() => { window.wasTapped = true; }), { capture: true, once: true });
+            const { left, top, width, height } = element.getBoundingClientRect();
+            return [Math.round(left + width / 2), Math.round(top + height / 2)];
+        """, selector)
+        self.swipe(tuple(place))
+        wait_for(lambda: self.ask("window.wasTapped"))
+
+    def long_press(self, place, until, stays=0):
+        """A finger that stays until something has come, and then for so many seconds."""
+        self.do("ed.gestures.holdAfter = window.holdAfter")
+        self.touch("touchStart", place)
         wait_for(until)
-        self.driver.execute_cdp_cmd("Input.dispatchTouchEvent", {"type": "touchEnd", "touchPoints": []})
+        time.sleep(stays)
+        self.touch("touchEnd")
+        self.do(UNHURRIED)
 
     def keys_at_once(self, *keys):
         """Keys that are pressed in a row without any time between them. A word `Shift+` in front holds that down."""

@@ -35,6 +35,8 @@ export class Gestures {
     /** @type {(Place & {time: number}) | null} */
     this.clicked = null;
     this.hold = 0;
+    /** For so many milliseconds a finger rests until that opens the menu. */
+    this.holdAfter = HOLD;
     this.edge = 0;
     this.listen();
   }
@@ -128,7 +130,7 @@ export class Gestures {
       return;
     }
     if (ed.readOnly && ed.tool !== "select") ed.setTool("select");
-    if (event.pointerType === "touch") this.hold = setTimeout(() => this.held(event), HOLD);
+    if (event.pointerType === "touch") this.hold = setTimeout(() => this.held(event), this.holdAfter);
     this.act = this.actOf(at, event);
   }
 
