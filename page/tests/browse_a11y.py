@@ -176,7 +176,7 @@ class Accessibility(WithOnePage):
         page.draw("r", (300, 300), (400, 380))
         wait_for(lambda: "rectangle" in page.said().lower())
         page.press(Keys.DELETE)
-        wait_for(lambda: page.said() == "Deleted 1 object")
+        wait_for(lambda: page.said() == "Deleted a rectangle")
         (name,) = self.made("create rect 300 300 80 60")
         self.choose(name)
         page.press(Keys.ARROW_LEFT)

@@ -195,15 +195,17 @@ class Style(WithOnePage):
         one, two, three = self.made("create rect 100 100 80 60", "stroke @1 D92D20", "fill @1 12AB34", "create rect 300 100 80 60", "create line 300 300 9 9")
         begin = "['stroke', 'fill'].map((part) => document.querySelector(`.row-${part} input[type=color]`).value)"
         shown = "['stroke', 'fill'].map((part) => ed.model.byId.get(arguments[0])[part])"
-        for theme, ink, paper in (("light", "#1c2026", "#fafaf8"), ("dark", "#ebeef2", "#15181d")):
+        seen = "getComputedStyle(document.querySelector(`.row-stroke [data-value='${arguments[0]}']`)).backgroundColor"
+        rgb = lambda colour: f"rgb({', '.join(str(int(colour[at : at + 2], 16)) for at in (1, 3, 5))})"
+        # Where there is no fill, the paper is seen: the board of the tokens.
+        for theme, paper in (("light", "#fafaf8"), ("dark", "#15181d")):
             page.do("ed.setTheme(arguments[0])", theme)
             self.choose(one)
-            swatch = page.ask("getComputedStyle(document.querySelector('.row-stroke [data-value=D92D20]')).backgroundColor")
             stroke, fill = page.ask(begin)
-            self.assertEqual(f"rgb({', '.join(str(int(stroke[at : at + 2], 16)) for at in (1, 3, 5))})", swatch)
-            self.assertEqual(fill, "#12ab34")
+            self.assertEqual((rgb(stroke), fill), (page.ask(seen, "D92D20"), "#12ab34"))
             self.choose(two)
-            self.assertEqual(page.ask(begin), [ink, paper])
+            stroke, fill = page.ask(begin)
+            self.assertEqual((rgb(stroke), fill), (page.ask(seen, "000000"), paper))
             self.choose(three, one, two)
             self.assertEqual(page.ask(begin)[1], "#12ab34")
         page.do("ed.setTheme('light')")

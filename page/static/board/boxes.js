@@ -112,6 +112,25 @@ export function lineMeets([x0, y0, x1, y1], box) {
 }
 
 /**
+ * Whether the edge of an ellipse has a place in a box.
+ * @param {Box} oval the box around the ellipse
+ * @param {Box} box
+ */
+export function ovalMeets(oval, box) {
+  const [x, y] = [(oval.x0 + oval.x1) / 2, (oval.y0 + oval.y1) / 2];
+  const [across, down] = [(oval.x1 - oval.x0) / 2 || 1, (oval.y1 - oval.y0) / 2 || 1];
+  /**
+   * How far a place is from the middle; the edge is 1 from it.
+   * @param {number} toX
+   * @param {number} toY
+   */
+  const far = (toX, toY) => Math.hypot((toX - x) / across, (toY - y) / down);
+  const nearest = far(Math.max(box.x0, Math.min(box.x1, x)), Math.max(box.y0, Math.min(box.y1, y)));
+  const farthest = Math.max(far(box.x0, box.y0), far(box.x1, box.y0), far(box.x0, box.y1), far(box.x1, box.y1));
+  return nearest <= 1 && farthest >= 1;
+}
+
+/**
  * The place at which a line from a fixed place ends, turned to the next of 24 directions.
  * @param {[number, number]} from
  * @param {[number, number]} to

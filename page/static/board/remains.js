@@ -2,7 +2,6 @@
 // a line back makes it anew, as the board showed it: other objects that look the same, at the same place, on top of all.
 
 import { copyLines } from "./making.js";
-import { meet } from "./boxes.js";
 
 /** @typedef {import("../core/types.js").Box} Box */
 /** @typedef {import("../core/types.js").Plain} Plain */
@@ -75,8 +74,8 @@ export function anew(edits, steps) {
 }
 
 /**
- * In which way what these steps deleted is another thing once it is made anew, in words, where that matters; else null. It is
- * asked for before that is shown.
+ * What is different of what these steps deleted once it is made anew, in words, where that matters; else null. It is asked for
+ * before that is shown.
  * @param {Edits} edits
  * @param {Step[]} steps
  */
@@ -88,8 +87,7 @@ export function differenceOf(edits, steps) {
     isCovering(edits, gone) && "on top",
     others && `without what ${others} changed since`,
   ].filter(Boolean);
-  const last = parts.pop();
-  return last ? `${parts.length ? `${parts.join(", ")} and ` : ""}${last}` : null;
+  return parts.join(", ") || null;
 }
 
 /**
@@ -111,6 +109,13 @@ function strangersOf({ claims, ids, names, ed }, gone) {
 }
 
 /**
+ * Whether two boxes have more in common than their edges.
+ * @param {Box} a
+ * @param {Box} b
+ */
+const overlap = (a, b) => a.x0 < b.x1 && b.x0 < a.x1 && a.y0 < b.y1 && b.y0 < a.y1;
+
+/**
  * Whether any of it would lie over what lies now at least as high as it lay.
  * @param {Edits} edits
  * @param {Step[]} gone
@@ -120,6 +125,6 @@ function isCovering({ ed }, gone) {
   return gone.some(({ remains: { box, made, z } }) => {
     const least = z - below;
     below += made.size;
-    return box !== null && [...ed.model.grid.query(box)].some((item) => item.z >= least && meet(item.box, box));
+    return box !== null && [...ed.model.grid.query(box)].some((item) => item.z >= least && overlap(item.box, box));
   });
 }

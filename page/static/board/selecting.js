@@ -1,7 +1,7 @@
 // The tool that selects: a click, a band, a drag of what is selected, a handle, an end of a line.
 
 import { isInFrame, nearOf, objectAt } from "./aim.js";
-import { boxOf, lineMeets, meet, within } from "./boxes.js";
+import { boxOf, lineMeets, meet, ovalMeets, within } from "./boxes.js";
 import { counted } from "./acts.js";
 import { moveEnd } from "./ends.js";
 import { handleAt } from "./handles.js";
@@ -82,12 +82,14 @@ function openAt(gestures, target, at, event) {
 }
 
 /**
- * Whether a band means an item. A shape that has the whole band inside isn't meant, nor a line that only its box meets.
+ * Whether a band means an item: what it touches, be it with a corner. A shape that has the whole band inside isn't meant, nor
+ * a line or an ellipse that only its box meets.
  * @param {Item} item
  * @param {Box} band
  */
 export function isMeant(item, band) {
   if (item.kind === "line") return lineMeets(item.ends, band);
+  if (item.kind === "ellipse") return ovalMeets(item.box, band);
   return meet(item.box, band) && (!within(band, item.box) || within(item.box, band));
 }
 

@@ -137,7 +137,7 @@ class Turning {
     const final = this.isUndo ? gesture.steps.find((step) => step.why)?.why : null;
     const back = difference ? backOf(gesture.steps) : 0;
     let text = null;
-    if (back) text = `Put back ${counted(back)} ${difference}`;
+    if (back) text = `Put back ${counted(back)}. ${back === 1 ? "It is a new one" : "They are new ones"}: ${difference}`;
     if (final) text = `${final[0].toUpperCase()}${final.slice(1)}`;
     if (kept) text = `${kept} of ${steps.length} changes stayed: changed or deleted since`;
     if (text) edits.ed.banner({ text, lasts: 6000 });

@@ -1,6 +1,7 @@
 // What is done with several objects at once, each as one batch of lines: align, spread, group, ungroup, duplicate.
 
 import { copyLines } from "../board/edits.js";
+import { objectName } from "./deeds.js";
 import { count } from "./words.js";
 
 /** @typedef {import("../core/types.js").Ed} Ed */
@@ -136,8 +137,9 @@ export function duplicate(ed) {
 export async function remove(ed) {
   const { edits } = ed;
   const ids = ed.selection.list().map((item) => item.id);
+  const what = ids.length === 1 ? objectName(ed, ids[0]) : count(ids.length);
   const before = edits.done.at(-1);
-  const sent = edits.do(`Deleted ${count(ids.length)}`, ids.map((id) => `delete ${id}`));
+  const sent = edits.do(`Deleted ${what}`, ids.map((id) => `delete ${id}`));
   const gesture = edits.done.at(-1);
   if (!gesture || gesture === before) return;
   const text = ed.node.sites > 1 ? `${gesture.name} for everybody` : gesture.name;

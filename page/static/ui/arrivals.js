@@ -1,6 +1,6 @@
 // What others' events did as they arrive: flashes where they are, and a banner where late ones had to be repaired.
 
-import { isRepaired, lossOf } from "./deeds.js";
+import { isRepaired, lossAmong } from "./deeds.js";
 import { count } from "./words.js";
 
 /** @typedef {import("../core/types.js").Ed} Ed */
@@ -110,13 +110,14 @@ export class Arrivals {
     const lates = came.filter((event) => event.late && (isBack || isRepaired(event)));
     this.came = [];
     this.isBack = false;
-    if (!lates.length && !(isBack && came.length)) return;
-    const words = tellArrived(came, lates, ed.node.events, ed.node.site, (site) => ed.people.name(site), isBack);
-    const loss = lates.map((event) => lossOf(ed, event)).find(Boolean);
-    const first = lates.find((event) => lossOf(ed, event)) ?? lates.find(isRepaired) ?? lates[0];
-    const show = () => ed.history.goTo(ed.node.events.indexOf(first) + 1);
-    const act = first ? { action: "Show", run: show } : {};
+    const loss = lossAmong(ed, came);
+    if (!lates.length && !loss && !(isBack && came.length)) return;
+    const { events, site } = ed.node;
+    const words = isBack || lates.length ? tellArrived(came, lates, events, site, (each) => ed.people.name(each), isBack) : null;
+    const first = loss?.event ?? lates.find(isRepaired) ?? lates[0];
+    const act = first ? { action: "Show", run: () => ed.history.goTo(ed.node.events.indexOf(first) + 1) } : {};
     const look = first ? { tone: "late", icon: "late" } : { tone: "calm", icon: "people" };
-    ed.banner({ ...look, ...act, text: loss ? `${words}. ${loss}` : words, lasts: first ? BANNER_LASTS : CALM_LASTS });
+    const text = [words, loss?.words].filter(Boolean).join(". ");
+    ed.banner({ ...look, ...act, text, lasts: first ? BANNER_LASTS : CALM_LASTS });
   }
 }

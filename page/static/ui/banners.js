@@ -35,10 +35,13 @@ export function makeBanners(ed, said, banners, bubbles) {
     });
   };
   ed.banner = (banner) => {
-    for (const old of /** @type {HTMLElement[]} */ ([...banners.children])) if (!old.dataset.stays) old.remove();
+    // One that stays leaves the others beside it.
+    const old = /** @type {HTMLElement[]} */ ([...banners.children]).filter((each) => !each.dataset.stays);
+    if (!banner?.stays) for (const each of old) each.remove();
     if (!banner) return null;
     const made = bannerOf(banner);
-    banners.append(made);
+    if (banner.stays) banners.prepend(made);
+    else banners.append(made);
     if (banner.lasts) setTimeout(() => made.remove(), banner.lasts);
     return made;
   };

@@ -22,6 +22,18 @@ const LONGEST = 24;
 export const isRepaired = (event) => event.late !== null && event.late.what !== "applied";
 
 /**
+ * The text that an object was given last, or undefined where it is the first one still.
+ * @param {Ed} ed
+ * @param {string} id
+ */
+function lastLabel({ node: { events } }, id) {
+  for (let at = events.length - 1; at >= 0; at -= 1) {
+    if (events[at].op === "text" && events[at].id === id) return /** @type {string} */ (events[at].value);
+  }
+  return undefined;
+}
+
+/**
  * An object in words: by its text where it has one, else by its kind.
  * @param {Ed} ed
  * @param {string} id
@@ -29,7 +41,7 @@ export const isRepaired = (event) => event.late !== null && event.late.what !== 
 export function objectName(ed, id) {
   const made = ed.node.history.byStamp.get(id);
   const item = ed.model.byId.get(id);
-  const label = item ? item.label : made?.label;
+  const label = item ? item.label : lastLabel(ed, id) ?? made?.label;
   if (label) return `“${shortened(oneLine(label), LONGEST)}”`;
   const kind = item ? item.kind : made?.op === "group" ? "group" : made?.kind;
   return KINDS[kind ?? ""] ?? "an object";
@@ -137,13 +149,21 @@ export function repairOf(ed, event) {
 }
 
 /**
- * What a late delete did to what was changed at the same time, or nothing.
+ * The first of others' events that met with a delete: it deleted what was changed here, or changed what was deleted here.
  * @param {Ed} ed
- * @param {Event} event
+ * @param {Event[]} came
+ * @returns {{event: Event, words: string} | null}
  */
-export function lossOf(ed, event) {
-  const change = voidedBy(ed, event);
-  return change ? lostWords(ed, event, change, objectName(ed, event.id)) : "";
+export function lossAmong(ed, came) {
+  const { events, site } = ed.node;
+  const own = new Map(events.filter((event) => event.op === "delete" && event.site === site).map((event) => [event.id, event]));
+  for (const event of came) {
+    const gone = own.get(event.id);
+    const change = voidedBy(ed, event);
+    if (change) return { event, words: lostWords(ed, event, change, objectName(ed, event.id)) };
+    if (gone && event.came > gone.came && event.op !== "delete") return { event, words: lostWords(ed, gone, event, objectName(ed, event.id)) };
+  }
+  return null;
 }
 
 /**

@@ -66,6 +66,7 @@ export class Exporting {
     const link = h("a", { href: URL.createObjectURL(blob), download: name });
     link.click();
     setTimeout(() => URL.revokeObjectURL(link.href), 10_000);
+    this.ed.banner({ icon: "check", text: `${name} is with your downloads`, lasts: 3000 });
     this.ed.say(`Saved ${name}`);
   }
 

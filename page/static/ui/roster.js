@@ -46,6 +46,8 @@ export class Roster {
     /** @type {HTMLElement | null} */
     this.opener = null;
     this.shown = "";
+    /** What the open list says. */
+    this.listed = "";
     this.pop = h("div", { class: "pop island", hidden: true, role: "dialog", "aria-label": "People" });
     document.body.append(this.pop);
     this.stack = h("button", {
@@ -101,6 +103,7 @@ export class Roster {
   /** Opens the list of people. */
   open() {
     this.show("people");
+    this.listed = "";
     this.fill();
     /** @type {HTMLElement | null} */ (this.pop.querySelector("button, input"))?.focus({ preventScroll: true });
   }
@@ -116,19 +119,39 @@ export class Roster {
     this.pop.hidden = true;
   }
 
+  /** Fills the list, where it isn't filled with just that: who presses one of its buttons has to meet it again. */
   fill() {
+    const { seats } = this.ed.people;
+    const words = this.ed.standing.inWords();
+    const looks = seats.map((seat) => [this.shown, this.looksAt(seat) ?? "", this.stateWords(seat)]);
+    const key = JSON.stringify([words, looks]);
+    if (key === this.listed) return;
+    this.listed = key;
     const focused = /** @type {HTMLElement | null} */ (document.activeElement)?.dataset?.site;
-    const rows = this.ed.people.seats.map((seat) => this.row(seat));
-    const fine = h("p", { class: "fine" }, this.ed.standing.inWords());
+    const rows = seats.map((seat) => this.row(seat));
+    const fine = h("p", { class: "fine" }, words);
     this.pop.replaceChildren(h("h2", {}, "People"), h("ul", { class: "seats" }, rows), fine);
     if (focused) /** @type {HTMLElement | null} */ (this.pop.querySelector(`[data-site="${focused}"]`))?.focus();
   }
 
+  /**
+   * The object that another one looks at, where it is shown.
+   * @param {Seat} seat
+   */
+  looksAt(seat) {
+    return seat.me ? undefined : [...seat.selection].find((id) => this.ed.model.byId.has(id));
+  }
+
+  /** @param {Seat} seat */
+  stateWords(seat) {
+    const looks = this.looksAt(seat);
+    return `site ${seat.site} · ${this.state(seat)}${looks ? `, looks at ${this.ed.short(looks)}` : ""}`;
+  }
+
   /** @param {Seat} seat */
   row(seat) {
-    const looks = !seat.me && [...seat.selection].find((id) => this.ed.model.byId.has(id));
-    const state = this.state(seat) + (looks ? `, looks at ${this.ed.short(looks)}` : "");
-    const who = h("span", { class: "who" }, h("b", { dir: "auto" }, seat.name), h("small", {}, `site ${seat.site} · ${state}`));
+    const looks = this.looksAt(seat);
+    const who = h("span", { class: "who" }, h("b", { dir: "auto" }, seat.name), h("small", {}, this.stateWords(seat)));
     const props = { type: "button", class: "quiet", "data-site": seat.site };
     const act = seat.me
       ? h("button", { ...props, onclick: () => this.rename() }, "Rename")

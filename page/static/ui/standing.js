@@ -97,10 +97,14 @@ export class StandingIsland {
   update() {
     const { ed, file } = this;
     const next = stateOf(factsOf(ed));
-    const isOther = next.banner !== this.state.banner || next.kind !== this.state.kind;
+    const isKind = next.kind === this.state.kind;
+    const isOther = next.banner !== this.state.banner || !isKind;
     this.state = next;
     if (isOther) {
-      this.show();
+      // A number that goes up is no new banner.
+      const words = isKind && next.banner ? this.banner?.querySelector("span") : null;
+      if (words?.isConnected) words.textContent = next.banner;
+      else this.show();
       if (ed.history.at === null) ed.setReadOnly(this.readOnly());
     }
     if (ed.node.journal !== this.name) {

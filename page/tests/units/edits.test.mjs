@@ -275,7 +275,7 @@ test("where it matters that what was put back is another object, that is said", 
   const inGroup = [{ kind: "group", id: "9.2", in: null, at: [0, 0] }, looked("1.2", 1, { in: "9.2" }), looked("2.2", 50, { in: "9.2" })];
   const covered = [rect("1.2"), rect("2.2", 5)];
   const beside = [rect("1.2"), rect("2.2", 50), rect("3.2", 55)];
-  const rows = [[inGroup, "Put back 1 object outside its group"], [covered, "Put back 1 object on top"], [beside, undefined]];
+  const rows = [[inGroup, "Put back 1 object. It is a new one: outside its group"], [covered, "Put back 1 object. It is a new one: on top"], [beside, undefined]];
   for (const [items, words] of rows) {
     const { ed, answer, told } = page(...items);
     ed.edits.do("Deleted", ["delete 1.2"]);
@@ -301,7 +301,7 @@ test("where it matters that what was put back is another object, that is said", 
   other({ op: "move", target: first.id, x: 1, y: 1, clock: tick() });
   ed.edits.undo();
   await answer();
-  assert.deepEqual(told.banners, ["Put back 1 object on top and without what Bob changed since"]);
+  assert.deepEqual(told.banners, ["Put back 1 object. It is a new one: on top, without what Bob changed since"]);
 });
 
 test("what was put back and changed by another isn't deleted by a redo", async () => {

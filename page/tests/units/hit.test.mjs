@@ -45,9 +45,15 @@ test("the topmost one counts, and an unfilled large one lets through", () => {
   assert.equal(itemAt(model, 200, 100, 6).id, "2.1");
 });
 
-test("a band doesn't mean a shape that it lies in, nor a line that its box alone meets", () => {
+test("a band means what it touches, but not a shape that it lies in, nor a line or an ellipse that its box alone meets", () => {
   const frame = item("rect", 0, 0, 200, 200);
+  const oval = item("ellipse", 0, 0, 200, 100);
   const rows = [
+    [frame, { x0: 190, y0: 190, x1: 300, y1: 300 }, true], [frame, { x0: 200, y0: -50, x1: 300, y1: 0 }, true],
+    [frame, { x0: 201, y0: -50, x1: 300, y1: 300 }, false], [item("text", 0, 0, 100, 26), { x0: 90, y0: 20, x1: 120, y1: 90 }, true],
+    [oval, { x0: -50, y0: -50, x1: 10, y1: 10 }, false], [oval, { x0: -50, y0: -50, x1: 30, y1: 30 }, true],
+    [oval, { x0: -5, y0: 45, x1: 1, y1: 55 }, true], [oval, { x0: 90, y0: 40, x1: 110, y1: 60 }, false],
+    [oval, { x0: 1, y0: 1, x1: 100, y1: 50 }, true], [oval, { x0: -1, y0: -1, x1: 201, y1: 101 }, true],
     [frame, { x0: 50, y0: 50, x1: 100, y1: 100 }, false], [frame, { x0: 50, y0: 50, x1: 300, y1: 100 }, true],
     [frame, { x0: -1, y0: -1, x1: 201, y1: 201 }, true], [frame, { x0: 0, y0: 0, x1: 200, y1: 200 }, true],
     [item("line", 0, 0, 100, 100), { x0: 60, y0: 10, x1: 90, y1: 40 }, false],

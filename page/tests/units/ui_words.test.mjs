@@ -11,7 +11,7 @@ const { stateOf, nameOf, strangerWords } = await import("../../static/ui/standin
 const { letterOf, stateOf: personState } = await import("../../static/ui/roster.js");
 const { count, initialOf, plainWords, shortened } = await import("../../static/ui/words.js");
 const { tellArrived } = await import("../../static/ui/arrivals.js");
-const { deedOf, lossOf, repairOf, stepDeedOf, voidOf } = await import("../../static/ui/deeds.js");
+const { deedOf, lossAmong, repairOf, stepDeedOf, voidOf } = await import("../../static/ui/deeds.js");
 
 test("a key goes by what it types where that is Latin, else by where it lies", () => {
   const none = { shiftKey: false, altKey: false, ctrlKey: false, metaKey: false };
@@ -150,7 +150,9 @@ test("what one deleted while another changed it is said so, by whichever event o
   const gone = event("6.2", 3, { op: "delete", late: late("reworked", ["7.1", "8.1"]) });
   const ed = page([made, gone, moved, coloured]);
   assert.equal(repairOf(ed, gone), "Bob deleted it while you moved it: the move was not applied");
-  assert.equal(lossOf(ed, gone), "Bob deleted “Start” while you moved it: the move was not applied");
+  assert.deepEqual(lossAmong(ed, [event("5.2", 9, { id: "2.2" }), gone]), {
+    event: gone, words: "Bob deleted “Start” while you moved it: the move was not applied",
+  });
   assert.equal(voidOf(ed, moved), "Bob deleted it while you moved it: the move was not applied");
   assert.equal(voidOf(ed, coloured), "Bob deleted it while you coloured it: the colour was not applied");
   assert.equal(voidOf(ed, made), "");
@@ -163,7 +165,11 @@ test("what one deleted while another changed it is said so, by whichever event o
   const there = page([made, own, third]);
   assert.equal(repairOf(there, wrote("9.1")), "You deleted it while Bob wrote in it: the text was not applied");
   assert.equal(repairOf(there, wrote("9.3")), "Came late, behind 2 later edits: Chen deleted it, so the text shows nowhere");
-  assert.equal(lossOf(there, event("6.2", 3, { late: late("reworked", ["7.1"]) })), "");
+  assert.equal(lossAmong(there, [event("6.2", 3, { id: "2.2", late: late("reworked", ["7.1"]) })]), null);
+  // What came behind one's own delete is void too, and what another one deleted here isn't one's own.
+  const moved2 = event("9.2", 7);
+  assert.deepEqual(lossAmong(there, [moved2]), { event: moved2, words: "You deleted “Start” while Bob moved it: the move was not applied" });
+  assert.equal(lossAmong(page([made, third]), [moved2]), null);
 });
 
 test("what a gesture did", () => {
