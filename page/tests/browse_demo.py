@@ -100,7 +100,7 @@ class Demonstration(unittest.TestCase):
         one.picture("demo-cut-off")
         self.outside(".pane .switch")[1].click()
         self.wait_until_same()
-        wait_for(lambda: two.banners().startswith("Back: "))
+        wait_for(lambda: two.banners().startswith("Together again: "))
         wait_for(lambda: not self.outside(".pane.is-cut"))
         repaired = {each.ask("ed.history.lates().length") for each in self.panes}
         self.assertNotEqual(repaired, {0})
@@ -128,7 +128,7 @@ class Demonstration(unittest.TestCase):
         pane = two if two.ask("ed.history.lates().length") else one
         pane.do(best)
         wait_for(lambda: pane.find(".hist-card").is_displayed())
-        self.assertIn("Came late", pane.text(".hist-card"))
+        self.assertRegex(pane.text(".hist-card"), "Came late|was not applied")
         pane.do("document.activeElement.blur(); ed.focusBoard()")
 
     def make_picture(self):
@@ -165,6 +165,8 @@ class Demonstration(unittest.TestCase):
         self.assertTrue(page.find("#link").is_displayed())
         page.find("#link .switch").click()
         wait_for(lambda: page.ask("ed.node.link.cut") == [2])
+        # Nothing else is said for a moment longer.
+        self.assertRegex(page.text(".state-words"), "^Offline")
         wait_for(lambda: page.find("#link .switch").get_attribute("aria-checked") == "true")
         page.find("#link .switch").click()
         wait_for(lambda: page.ask("ed.node.link.cut") == [])

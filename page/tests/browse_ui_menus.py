@@ -59,6 +59,19 @@ class Menus(WithOnePage):
         page.press(Keys.ESCAPE)
         self.assertFalse(page.ask("document.querySelector('.help').open"))
 
+    def test_saving_offers_pictures_first(self):
+        page = self.page
+        self.made("create rect 100 100 80 60")
+        page.press("s", hold=["ctrl"])
+        titles = page.ask("[...document.querySelectorAll('.menu [role=menuitem] span')].map((each) => each.textContent)")
+        pictures = ["Export as SVG", "Export as PNG", "Export as PDF"]
+        self.assertEqual(titles, [*pictures, "Save the journal", "Save as JSON", "Save as lines", "Save the list of events"])
+        self.assertEqual(page.text(".menu .fine"), "All is kept already, in site-1.log")
+        self.assertEqual(page.ask("document.activeElement.textContent"), "Export as SVG")
+        page.picture("save")
+        page.press(Keys.ESCAPE)
+        self.assertTrue(page.ask("document.querySelector('.menu').hidden"))
+
     def test_what_the_program_lacks_is_no_button(self):
         page = self.page
         titles = page.ask("[...document.querySelectorAll('button')].map((each) => each.ariaLabel ?? each.textContent)")
@@ -91,6 +104,8 @@ class Menus(WithOnePage):
         page.do("ed.rested()")
         self.assertTrue(page.find("#empty").is_displayed())
         self.assertIn("pick a tool", page.text("#empty"))
+        # It speaks of nothing that isn't there yet.
+        self.assertNotIn("below", page.text("#empty"))
         page.picture("empty")
         self.made("create rect 100 100 80 60")
         self.assertFalse(page.find("#empty").is_displayed())

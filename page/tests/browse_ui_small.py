@@ -77,6 +77,40 @@ class Small(WithOnePage):
         page.find("#quick [data-run=delete]").click()
         wait_for(lambda: page.ids() == [one])
 
+    def test_a_group_is_dissolved_from_the_quick_bar(self):
+        page = self.page
+        self.size("phone")
+        one, two = self.made("create rect 40 300 90 80", "create rect 180 300 90 80")
+        page.do("ed.camera.set(0, 0, 1)")
+        self.choose(one, two)
+        acts = "[...document.querySelectorAll('#quick [data-run]')].filter((each) => !each.hidden).map((each) => each.dataset.run)"
+        self.assertEqual(page.ask(acts), ["duplicate", "front", "group", "delete"])
+        page.find("#quick [data-run=group]").click()
+        wait_for(lambda: page.is_settled() and len(page.ids("group")) == 1)
+        self.assertEqual(page.ask(acts), ["edit", "duplicate", "front", "ungroup", "delete"])
+        page.picture("phone-group")
+        page.find("#quick [data-run=ungroup]").click()
+        wait_for(lambda: page.is_settled() and not page.ids("group"))
+
+    def test_a_phone_has_buttons_to_zoom_and_fit(self):
+        page = self.page
+        self.size("phone")
+        self.made("create rect 3000 2000 500 400")
+        page.do("ed.camera.set(0, 0, 1)")
+        page.find("#zoom [data-run=zoomIn]").click()
+        self.assertEqual(page.ask("ed.camera.zoom"), 1.25)
+        page.find("#zoom [data-run=zoomOut]").click()
+        self.assertEqual(page.ask("ed.camera.zoom"), 1)
+        page.find("#zoom [data-run=fit]").click()
+        inside = "(() => { const b = ed.model.all(), c = ed.camera.box(); return b.x0 > c.x0 && b.x1 < c.x1 && b.y0 > c.y0 && b.y1 < c.y1; })()"
+        wait_for(lambda: page.ask(inside))
+        # The bar above a selection, however low that lies, leaves them free.
+        self.choose(*page.ids())
+        page.do("ed.camera.set(2900, 1500, 1)")
+        touching = "(([a, b]) => a.bottom > b.top && a.right > b.left)(['#quick', '.lens'].map((each) => document.querySelector(each).getBoundingClientRect()))"
+        wait_for(lambda: page.find("#quick").is_displayed())
+        self.assertFalse(page.ask(touching))
+
     def test_the_style_is_a_sheet_that_opens_and_closes(self):
         page = self.page
         self.size("phone")

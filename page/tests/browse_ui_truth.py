@@ -57,6 +57,19 @@ class Truth(WithTwoPages):
         wait_for(lambda: "Ada, here now" in self.faces(two))
         wait_for(lambda: "Bob, here now" in self.faces(one))
 
+    def test_11_the_list_of_people_stays_what_it_is_under_the_pointer(self):
+        page = self.one
+        page.find(".faces").click()
+        button = page.find(".pop button")
+        heard = page.ask("ed.node.counted + ed.node.edits")
+        self.make(self.two, "create rect 300 300 100 80")
+        wait_for(lambda: page.ids() and page.ask("ed.node.counted + ed.node.edits") >= heard)
+        page.do("ed.roster.update()")
+        self.assertEqual(button.text, "Rename")
+        button.click()
+        self.assertIn("Your name", page.text(".pop"))
+        page.press(Keys.ESCAPE)
+
     def test_2_who_selects_is_seen_there(self):
         self.make(self.one, "create rect 300 300 100 80")
         (name,) = self.one.ids()
@@ -83,6 +96,12 @@ class Truth(WithTwoPages):
         self.assertEqual(self.state(two), "Offline, 4 edits wait")
         self.assertIn("away", two.ask("document.querySelectorAll('.face')[0].className"))
         two.picture("offline")
+        # What is said for a while stands beside what stays, and a number that goes up is no new banner.
+        two.do("ed.banner({ text: 'For a while' }); window.kept = document.querySelector('#banners > *')")
+        self.make(two, "create ellipse 500 500 90 90")
+        wait_for(lambda: two.banners() == "Offline: 5 edits wait here, safe on this machineFor a while")
+        self.assertTrue(two.ask("window.kept.isConnected"))
+        two.do("ed.banner(null)")
         self.cut()
         self.wait_until_same()
         for page in self.pages:
