@@ -125,17 +125,24 @@ class Installed:
             driver.get(drawing.addresses[0])
             wait_for(lambda: len(driver.find_elements("css selector", "iframe")) == 2, PATIENCE)
             panes = [Pane(driver, number) for number in (1, 2)]
-            for pane, key, kind, place in ((0, "r", "rect", 120), (1, "o", "ellipse", 260)):
-                # A click on the paper, so that the keys go to this pane.
-                panes[pane].click((300, place + 20))
-                panes[pane].draw(key, (60, place), (220, place + 80))
-                wait_for(lambda: panes[1 - pane].ids(kind), PATIENCE)
+            for pane, other, kind, height in (*panes, "rect", -150), (*reversed(panes), "ellipse", 50):
+                self.draw(pane, kind, height)
+                wait_for(lambda: other.ids(kind), PATIENCE)
             wait_for(lambda: panes[0].shown() == panes[1].shown(), PATIENCE)
-            self.assertEqual([len(pane.shown()) for pane in panes], [2, 2])
+            self.assertEqual([line.split()[1].partition(".")[2] for line in panes[0].shown()], ["1", "2"])
             driver.switch_to.default_content()
             SCREENSHOTS.mkdir(parents=True, exist_ok=True)
             driver.save_screenshot(str(SCREENSHOTS / f"{type(self).__name__.lower()}.png"))
             self.assertEqual(drawing.end(), (0, "", ""))
+
+    def draw(self, pane, kind, height):
+        """Draws a shape as a person does: a click on its tool, and a drag over the paper."""
+        from selenium.webdriver.common.action_chains import ActionChains
+
+        pane.enter()
+        pane.find(f"#tools [data-tool={kind}]").click()
+        drag = ActionChains(pane.driver, duration=10).move_to_element_with_offset(pane.find("#board"), -80, height)
+        drag.click_and_hold().move_by_offset(80, 40).move_by_offset(80, 40).release().perform()
 
     def test_two_users_draw_together(self):
         addresses = free_addresses(2)
