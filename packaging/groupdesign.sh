@@ -11,6 +11,7 @@ self=$(readlink -f -- "$0") && prefix=$(dirname -- "$(dirname -- "$self")") || e
 program=$prefix/lib/groupdesign/groupdesign
 settings=$prefix/lib/groupdesign/settings.sh
 [ -r "$settings" ] || give_up "$settings is missing: install groupdesign anew"
+# shellcheck source=packaging/settings.sh
 . "$settings"
 
 # Debian's own Python has Debian's packages.

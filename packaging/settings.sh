@@ -1,3 +1,4 @@
+# shellcheck shell=dash
 # What the shell that runs the program sees to. ./groupdesign and the installed command both read this.
 
 # A write past a limit of the size of files is an error of that write, and no signal.

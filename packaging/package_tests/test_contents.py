@@ -99,6 +99,11 @@ class Contents(WithTree):
         self.assertIn("python3 (>= 3.10)", fields["Depends"])
         self.assertIn("www-browser", fields["Recommends"])
 
+    def test_the_changelog_has_this_version(self):
+        text = (ROOT / "CHANGELOG.md").read_text()
+        self.assertEqual(re.findall(r"^## (\S+)", text, re.MULTILINE)[0], VERSION)
+        self.assertIn(f"\n| {VERSION} |", text)
+
     def test_the_sums_of_the_installed_files(self):
         run("dpkg-deb", "--control", DEB, self.room / "control")
         rows = [line.split("  ") for line in (self.room / "control/md5sums").read_text().splitlines()]
