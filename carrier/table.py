@@ -9,7 +9,7 @@ import time
 
 from carrier.frames import closing
 from page.audience import message
-from page.node import Ended
+from page.node import Busy, Ended
 
 # A datagram may be lost, also on this machine: what a node is told of free seats it is told at these seconds behind its start.
 TIMES = (0.0, 1.0, 4.0)
@@ -19,10 +19,12 @@ TELL_EVERY = 5.0
 
 async def renew(desk):
     """Ends the node of a desk and starts it anew from its journal, behind all that was typed and before all that will be. Pages
-    see nothing of it. Raises `Ended` where it ends at once."""
+    see nothing of it. Raises `Ended` where it ends, and `Busy` where too much was typed at it already."""
     async with desk.starting, desk.typing:
         if desk.node is None or desk.node.status is not None:
             return
+        # A node that is told to quit is killed where it takes long over what was typed before.
+        await desk.node.ask(b"status")
         told, desk.node.ended = desk.node.ended, lambda status, said: None
         await desk.stop()
         try:
@@ -63,14 +65,16 @@ class Table:
 
     def open_again(self):
         """Somebody sits down at a seat of which the node was told that nobody does."""
-        self.closed.clear()
+        closed, self.closed = self.closed, set()
 
         async def anew():
             try:
                 await renew(self.desk)
             except Ended:
-                # The page says that it has ended, and has a button that starts it again.
+                # The page says so, and has a button that starts it again.
                 pass
+            except Busy:
+                self.closed = closed
             self.renewing = None
 
         self.renewing = asyncio.get_running_loop().create_task(anew())

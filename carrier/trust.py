@@ -4,6 +4,9 @@ import hashlib
 import ssl
 from dataclasses import dataclass
 
+from cryptography import x509
+from cryptography.hazmat.primitives.serialization import Encoding
+
 # Any authority that this machine trusts; the one certificate with a digest; an authority whose certificate the link holds.
 SYSTEM, EXACT, AUTHORITY = 0, 1, 2
 PATIENCE = 15
@@ -34,7 +37,9 @@ def exact(certificate):
 def authority(pem):
     """Trust in the authority of a file in PEM. Raises `BadTrust`."""
     try:
-        return Trust(AUTHORITY, ssl.PEM_cert_to_DER_cert(pem.strip()))
+        if pem.count("BEGIN CERTIFICATE") != 1:
+            raise ValueError
+        return Trust(AUTHORITY, x509.load_pem_x509_certificate(pem.encode()).public_bytes(Encoding.DER))
     except ValueError:
         raise BadTrust("the file behind --ca has no certificate in PEM, or more than one") from None
 

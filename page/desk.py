@@ -28,7 +28,7 @@ class Desk:
         self.number, self.command, self.journal, self.session = number, command, Path(journal), session
         self.audience, self.poll_every = audience, poll_every
         self.picture, self.news, self.names = Picture(), News(), NameFile(journal)
-        self.history, self.peers = History(self.journal, self.note_event), Peers(number, number)
+        self.history, self.peers = History(self.journal, self.note_event), Peers(number, 0)
         self.name, self.who, self.standing, self.end, self.told_peers = "", [], {}, None, None
         self.site, self.sites, self.is_demo, self.desks = number, number, False, [number]
         # Edits that earlier runs of the node took, and the number of the last one that was shown.

@@ -11,20 +11,20 @@ from carrier.tests.rosters import until
 class Away(WithMembers):
     async def test_two_who_never_meet_get_each_other_s_edits_through_a_third(self):
         ana, cem = await self.sit(1, 3)
-        await ana.draw(*[f"create rect {count} 0 5 5 a{count}" for count in range(700)])
+        await ana.draw(*[f"create rect {count} 0 5 5 a{count}" for count in range(120)])
         await cem.draw("create rect 0 0 5 5 by Cem")
-        await self.same([ana, cem], 701)
+        await self.same([ana, cem], 121)
         await ana.leave()
-        await until(lambda: cem.standing.heads.proved[1].count == 700, what="the last head of Ana")
+        await until(lambda: cem.standing.heads.proved[1].count == 120, what="the last head of Ana")
         (ben,) = await self.sit(2)
-        shown = await self.same([ben, cem], 701)
-        self.assertIn("a699", shown)
+        shown = await self.same([ben, cem], 121)
+        self.assertIn("a119", shown)
         await ben.draw("move 1.1 7 7", "create rect 0 0 5 5 by Ben")
-        await self.same([ben, cem], 703)
+        await self.same([ben, cem], 123)
         await ben.leave()
         await until(lambda: cem.standing.heads.proved[2].count == 2, what="the last head of Ben")
         (again,) = await self.sit(1)
-        self.assertIn("by Ben", await self.same([again, cem], 703))
+        self.assertIn("by Ben", await self.same([again, cem], 123))
         self.assertFalse(cem.standing.heads.liars | again.standing.heads.liars)
 
 

@@ -41,7 +41,7 @@ class Evil(WithMembers):
         self.assertEqual(answer, 0)
         members = await self.sit(1, 2, 3)
         await members[0].draw("create rect 0 0 5 5 first label")
-        await until(lambda: seen, what="a message")
+        await self.same(members, 1)
         for count in range(90):
             await members[count % 3].draw(f"create rect {count} 0 5 5 label {count}" if count % 4 else f"move 1.1 {count} {count}")
             done += [self.deed(client, draw, seen[:4000]) for _ in range(20)]

@@ -21,6 +21,7 @@ from carrier.roster import Roster
 from carrier.keys import public_bytes
 from carrier.trust import context, exact
 from page.audience import Audience
+from page.node import Ended
 
 
 class Member:
@@ -65,9 +66,12 @@ class Member:
         return [answer[3:] for answer in answers]
 
     async def drawing(self):
-        """What `show` prints, and how many events were held before."""
-        (standing,) = await self.desk.node.ask(b"status")
-        shown = await self.desk.node.ask(b"show")
+        """What `show` prints, and how many events were held before; nothing, where the node is just being started anew."""
+        try:
+            (standing,) = await self.desk.node.ask(b"status")
+            shown = await self.desk.node.ask(b"show")
+        except Ended:
+            return "", -1
         return b"\n".join(shown).decode(), int(standing.split(b" ")[1])
 
 

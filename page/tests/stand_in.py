@@ -42,7 +42,7 @@ def serve(journal, script, words):
     if "first" in script:
         put(script["first"])
         sys.exit(script["status"])
-    put("ready 1 of 2\n")
+    put(f"ready {words[words.index('--site') + 1]} of 2\n")
     before, front, status = script.get("end", [None, "", 0])
     with open(f"{journal}.typed", "a", encoding="utf-8", newline="\n") as typed:
         for count, given in enumerate(sys.stdin.buffer, 1):

@@ -6,6 +6,8 @@ import os
 import signal
 from unittest import mock
 
+from page.audience import Audience
+from page.desk import Desk
 from page.tests.desks import ROW, WithDesk
 from page.tests.logs import create, header, log
 from page.tests.places import until
@@ -162,6 +164,18 @@ class Telling(WithDesk):
         self.assertEqual((len(told), clocks[1] - clocks[0]), (1, 2))
         self.assertGreater(clocks[0], first)
         self.assertEqual(self.opened(desk)["gestures"]["gestures"], [clocks])
+
+    async def test_a_desk_of_another_site_begins_with_its_name_and_its_journal_too(self):
+        self.script()
+        self.beside("name").write_text("Ben")
+        self.journal.write_bytes(log(header(), create("1.2", 1, "rect", 0, 0, 1, 1)))
+        desk = Desk(2, self.command("--session", "7", "--site", "2"), self.journal, Audience(), 7, 1000)
+        await desk.start()
+        self.addAsyncCleanup(desk.stop)
+        told = self.opened(desk)
+        self.assertEqual((told["hello"]["site"], told["hello"]["sites"], told["hello"]["names"]), (2, 2, {"2": "Ben"}))
+        self.assertEqual([each["site"] for each in told["peers"]["peers"]], [1])
+        self.assertEqual([each["id"] for each in told["history"]["events"]], ["1.2"])
 
     async def test_events_are_told_once_with_what_came_of_them(self):
         first, second = (create(f"{clock}.2", clock, "rect", 0, 0, 1, 1) for clock in (1, 2))
