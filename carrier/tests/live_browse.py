@@ -1,0 +1,93 @@
+"""Two people in real browsers over a broker: one invites on the page, and the other draws with her."""
+
+import importlib.util
+import json
+import shutil
+import subprocess
+import sys
+
+from carrier.tests.rosters import WithFolder
+from carrier.tests.runs import PROGRAM, free_port, why_not
+from page.draw import ROOT
+from page.tests.places import wait_for
+
+LONG = 90
+
+
+def why_no_browser():
+    missing = [name for name in ("chromium", "chromedriver") if not shutil.which(name)]
+    if not importlib.util.find_spec("selenium"):
+        missing.append("selenium")
+    return f"there is no {' and no '.join(missing)}" if missing else None
+
+
+class Pages(WithFolder):
+    def setUp(self):
+        super().setUp()
+        why = why_not() or why_no_browser()
+        if why:
+            self.skipTest(why)
+
+    def begin(self, name, *words):
+        """A run of ./draw and a page of it."""
+        from page.tests.browser import Page, browser
+
+        command = [sys.executable, str(ROOT / "draw"), *words, "--journal", str(self.folder / name), "--program", PROGRAM]
+        run = subprocess.Popen(command, stdout=subprocess.PIPE, text=True)
+        for end in (run.stdout.close, run.wait, run.terminate):
+            self.addCleanup(end)
+        address = run.stdout.readline().strip()
+        driver = browser()
+        self.addCleanup(driver.quit)
+        driver.get(address)
+        return Page(driver)
+
+    def click(self, page, selector):
+        page.find(selector).click()
+
+    def seen(self, page, expression, wanted):
+        """Waits until a page gives something."""
+        wait_for(lambda: page.ask(expression) == wanted, LONG)
+
+    def test_inviting_on_the_page_and_drawing_together(self):
+        ana = self.begin("ana.log", "--found", "Oak", "--listen", f"127.0.0.1:{free_port()}")
+        self.assertEqual(ana.ask("ed.people.seats.length"), 1)
+        self.click(ana, "button[aria-label='Invite']")
+        self.assertEqual(ana.ask("ed.node.carried.invites"), 15)
+        self.click(ana, ".invite .primary")
+        wait_for(lambda: ana.all(".invite .field"), LONG)
+        link = ana.ask("document.querySelector('.invite .field').value")
+        self.assertTrue(link.startswith("groupdesign:#"))
+        # The link that was made is shown again, and takes no other seat.
+        self.click(ana, "button[aria-label='Invite']")
+        self.click(ana, "button[aria-label='Invite']")
+        self.assertEqual(ana.ask("document.querySelector('.invite .field').value"), link)
+        ana.do("ed.inviting.close()")
+        ben = self.begin("ben.log", "--join", link)
+        name = "Ben with a name of more than sixteen bytes"
+        ben.do("ed.node.setName(arguments[0])", name)
+        ana.do("ed.node.type(() => ['create rect 100 100 80 60 by Ana'])")
+        self.seen(ben, "ed.model.items.map((each) => each.label).join()", "by Ana")
+        ben.do("ed.node.type(() => ['create ellipse 300 100 80 60 by Ben'])")
+        self.seen(ana, "ed.model.items.map((each) => each.label).join()", "by Ana,by Ben")
+        self.seen(ana, "ed.people.seats.map((seat) => seat.name).join()", f"Site 1,{name}")
+        self.seen(ana, "ed.people.seats.map((seat) => seat.here).join()", "true,true")
+        self.seen(ana, "ed.node.carried.invites", 14)
+        self.points_and_selections(ana, ben)
+        self.assertEqual([entry for page in (ana, ben) for entry in page.driver.get_log("browser") if entry["level"] == "SEVERE"], [])
+        pictures = ROOT / "carrier/out/screenshots"
+        pictures.mkdir(parents=True, exist_ok=True)
+        ana.driver.save_screenshot(str(pictures / "together.png"))
+
+    def points_and_selections(self, ana, ben):
+        """Ben's pointer and what he selects are seen at Ana's, and go with him."""
+        ben.do("ed.selection.set([ed.model.items[0].id])")
+        where = json.loads(ben.ask("JSON.stringify(ed.model.items.map((each) => each.id))"))
+        self.seen(ana, "[...ed.people.seats[1].selection].join()", where[0])
+        ben.do("ed.board.dispatchEvent(new PointerEvent('pointermove', { clientX: 420, clientY: 350, bubbles: true }))")
+        self.seen(ana, "JSON.stringify(ed.node.pointers.get(2))", "[420,350]")
+        self.seen(ana, "document.querySelectorAll('.pointer').length", 1)
+        ben.driver.get("about:blank")
+        self.seen(ana, "document.querySelectorAll('.pointer').length", 0)
+
+
