@@ -62,12 +62,12 @@ class Commands(Case):
 
     # What ./draw hands on to a node, of each member of README's session, at addresses of this machine.
     def test_words_of_draw(self):
-        found = re.findall(r"^    \w+: +\./draw (.*)$", (ROOT / "README.md").read_text(), re.MULTILINE)
-        self.assertEqual(len(found), 3)
-        for site, words in enumerate(found, 1):
-            address = re.compile(r"\d+\.\d+\.\d+\.\d+:\d+")
-            free = iter(free_addresses(len(address.findall(words))))
-            words = address.sub(lambda _: next(free), words)
+        (given,) = re.findall(r"^    \./draw (--session .*)$", (ROOT / "README.md").read_text(), re.MULTILINE)
+        address = re.compile(r"\d+\.\d+\.\d+\.\d+:\d+")
+        self.assertEqual((given.count("--site 1 "), len(address.findall(given))), (1, 3))
+        for site in (1, 2, 3):
+            free = iter(free_addresses(3))
+            words = address.sub(lambda _: next(free), given.replace("--site 1 ", f"--site {site} "))
             ended = run_program(["node", *words.split()], b"", cwd=self.folder)
             self.assertEqual((ended.text, ended.status), (f"ready {site} of 3\n", DONE), words)
             (self.folder / "mine.log").unlink()
