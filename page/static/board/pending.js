@@ -158,9 +158,11 @@ export class Pending {
     let isReordered = difference.isReordered;
     const done = this.layers.filter((layer) => layer.edits !== null && (whole || layer.edits <= edits));
     this.layers = this.layers.filter((layer) => !done.includes(layer));
+    // What the board doesn't have yet goes on top of it. In the picture it may lie below what a batch made.
+    const isNews = [...difference.changed].some((id) => !this.model.byId.has(id));
     for (const layer of done) {
       for (const id of layer.byId.keys()) ids.add(id);
-      isReordered ||= layer.isReordering || !this.isOnTop(layer);
+      isReordered ||= layer.isReordering || (isNews && layer.turns.length > 0) || !this.isOnTop(layer);
     }
     this.show(ids, isReordered);
   }

@@ -105,6 +105,14 @@ test("what is made has its name until the answer, its id then, and its height by
   assert.deepEqual(see(), ["1.1 0 0", "5.2 1 1", "6.1 7 8"]);
 });
 
+test("what another one made lies below what was made here, also where one picture is the first to have both", () => {
+  const { pending, type, take, see } = board([shown("1.1", "rect", 0, 0)]);
+  const layer = type("create rect 7 8 10 10");
+  pending.answered(layer, new Set(), new Map([["~1.1", "6.1"]]), 1);
+  take({ items: [shown("5.2", "rect", 1, 1), shown("6.1", "rect", 7, 8)], order: [["5.2", "1.1"], ["6.1", "5.2"]] }, 1);
+  assert.deepEqual(see(), ["1.1 0 0", "5.2 1 1", "6.1 7 8"]);
+});
+
 test("an object that another one deletes is gone, whatever was to become of it", () => {
   const { type, take, see } = board();
   type("move 1.1 50 60");
