@@ -14,6 +14,8 @@ from package_tests.packages import DEB, need, run
 
 # A root that isn't there after so many seconds is left out.
 LONGEST = 600
+# Where there is no network, that is found within a minute or two.
+SOON_OVER = ['Acquire::http::Timeout "20"', 'Acquire::https::Timeout "20"', 'Acquire::Retries "1"']
 SOURCES = [Path("/etc/apt/sources.list.d/debian.sources"), Path("/etc/apt/sources.list")]
 # What the system itself writes of what was installed when.
 OWN = ("proc/", "sys/", "dev/", "run/", "var/lib/dpkg/", "var/lib/apt/", "var/cache/", "var/log/")
@@ -29,7 +31,7 @@ def make_root(root):
     system = platform.freedesktop_os_release()
     sources = [str(path) for path in SOURCES if path.exists() and "deb" in path.read_text()][:1]
     is_debian = system["ID"] == "debian"
-    words = ["mmdebstrap", "--quiet", "--variant=apt", f"--include={names}"]
+    words = ["mmdebstrap", "--quiet", "--variant=apt", f"--include={names}", *(f"--aptopt={option}" for option in SOON_OVER)]
     words += [system["VERSION_CODENAME"], root, *sources] if is_debian else ["stable", root]
     try:
         done = subprocess.run(words, stdin=subprocess.DEVNULL, capture_output=True, text=True, timeout=LONGEST)
