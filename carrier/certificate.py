@@ -14,7 +14,7 @@ EARLIER = datetime.timedelta(days=2)
 
 
 def made(host, days=DAYS):
-    """A new certificate for a host: the certificate in DER, it in PEM, and its key in PEM. It is good for so many days from now."""
+    """A new certificate for a host, good for so many days from now: in DER, in PEM, and its key in PEM."""
     key = ec.generate_private_key(ec.SECP256R1())
     name = x509.Name([x509.NameAttribute(NameOID.COMMON_NAME, "groupdesign broker")])
     now = datetime.datetime.now(datetime.timezone.utc).replace(tzinfo=None)

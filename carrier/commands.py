@@ -45,12 +45,12 @@ def found(given):
     address = given.listen or given.broker
     try:
         if given.listen:
-            certificate = OwnBroker(journal).make(address, roster, passwords)
+            certificate = OwnBroker(journal, address).make(roster, passwords)
             trusted = trust.exact(certificate)
         else:
             trusted = trust.authority(given.ca.read_text()) if given.ca else trust.Trust(trust.SYSTEM)
             certificate = trusted.data
-            OwnBroker(journal).make_rules(roster, passwords)
+            OwnBroker(journal, address).make_rules(roster, passwords)
         Founder(own, {seat: seed for seat, seed in seeds.items() if seat != FIRST}).write(journal)
         Seat(FIRST, seeds[FIRST], roster, address, trusted, certificate, listen=bool(given.listen)).write(journal)
     except (NoBroker, trust.BadTrust) as why:
@@ -132,7 +132,8 @@ def join(given):
     except (BadLink, BadAddress, trust.BadTrust) as why:
         raise Wrong(str(why)) from None
     except OSError as fault:
-        raise Wrong(f"the broker at {link.broker} isn't reached: {trust.meaning_of(fault)}. Does it run, and is its port open?") from None
+        why = trust.meaning_of(fault)
+        raise Wrong(f"the broker at {link.broker} isn't reached: {why}. Does it run, and is its port open?") from None
     return roster
 
 

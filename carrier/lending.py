@@ -66,10 +66,10 @@ class Loan:
 
 
 class Lending:
-    """Wants and gives of one seat. `send` sends a content of a kind to a seat; `hand` is called with a loan that leads to its head."""
+    """Wants and gives of one seat."""
 
     def __init__(self, roster, seat, feeds, heads, send, hand, clock=time.monotonic):
-        """All times are those of `clock`, in seconds."""
+        """`send` sends a content of a kind to a seat; `hand` is called with a loan that leads to its head; `clock` gives seconds."""
         self.roster, self.seat, self.feeds, self.heads = roster, seat, feeds, heads
         self.send, self.hand, self.clock = send, hand, clock
         self.loans, self.giving = {}, set()

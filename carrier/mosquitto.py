@@ -1,4 +1,4 @@
-"""A broker of one's own: Debian's mosquitto as a child, with a certificate, rules and passwords in a folder beside the journal."""
+"""A broker of one's own: Debian's mosquitto as a child, with a certificate, rules and passwords beside the journal."""
 
 import asyncio
 import contextlib
@@ -12,6 +12,7 @@ from pathlib import Path
 
 from carrier import certificate
 from carrier.broker import topic, user_of
+from carrier.files import write_private
 from carrier.roster import SEATS
 from carrier.ways import HERE
 from page.addresses import parts_of
@@ -80,10 +81,11 @@ def write_new(path, data):
 
 
 class OwnBroker:
-    """The broker of a folder."""
+    """The broker of a journal's founder. It listens at HOST:PORT."""
 
-    def __init__(self, journal):
+    def __init__(self, journal, broker):
         self.folder, self.process = Path(f"{journal}.broker").absolute(), None
+        self.host, self.number = parts_of(broker)
 
     def make_rules(self, roster, passwords):
         """Makes the folder with rules and passwords. Raises `NoBroker`, and `OSError`."""
@@ -100,32 +102,30 @@ class OwnBroker:
             raise NoBroker(f"mosquitto_passwd failed: {done.stderr.strip() or done.stdout.strip()}")
         os.chmod(self.folder / "passwords", 0o600)
 
-    def make(self, broker, roster, passwords, days=certificate.DAYS):
-        """Makes the folder of a broker that listens at HOST:PORT, and gives its certificate in DER. Raises as `make_rules`."""
+    def make(self, roster, passwords, days=certificate.DAYS):
+        """Makes the folder of the broker, and gives its certificate in DER. Raises as `make_rules`."""
         if shutil.which("mosquitto", path=PATH) is None:
             raise NoBroker(MISSING)
-        host, port = parts_of(broker)
         self.make_rules(roster, passwords)
-        shown, pem, key = certificate.made(host, days)
+        shown, pem, key = certificate.made(self.host, days)
         write_new(self.folder / "certificate.pem", pem)
         write_new(self.folder / "key.pem", key)
-        user = pwd.getpwuid(os.geteuid()).pw_name
-        words = CONFIGURATION.format(port=port, address=own_address(host, port), folder=self.folder, user=user)
-        write_new(self.folder / "mosquitto.conf", words.encode())
         return shown
 
-    def port(self):
-        """The address at which it listens here."""
-        line = next(line for line in (self.folder / "mosquitto.conf").read_text().split("\n") if line.startswith("listener "))
-        _, port, address = line.split(" ")
-        return {"0.0.0.0": HERE, "::": "::1"}.get(address, address), int(port)
+    def configure(self):
+        """Writes its configuration, which names the folder where it lies now. Gives the address at which to reach it here."""
+        user, address = pwd.getpwuid(os.geteuid()).pw_name, own_address(self.host, self.number)
+        words = CONFIGURATION.format(port=self.number, address=address, folder=self.folder, user=user)
+        write_private(self.folder / "mosquitto.conf", words)
+        return {"0.0.0.0": HERE, "::": "::1"}.get(address, address), self.number
 
     def start(self):
-        """Starts it, and waits until it listens. It ends with this program, also where that is killed. Raises `NoBroker`."""
+        """Starts it, and waits until it listens. It ends with the thread that calls this, so also where this program is killed.
+        Raises `NoBroker`, and `OSError`."""
         program = shutil.which("mosquitto", path=PATH)
         if program is None:
             raise NoBroker(MISSING)
-        words = [program, "-c", str(self.folder / "mosquitto.conf")]
+        here, words = self.configure(), [program, "-c", str(self.folder / "mosquitto.conf")]
         if shutil.which("setpriv"):
             words = ["setpriv", "--pdeathsig", "TERM", *words]
         with open(self.folder / "said", "wb") as said:
@@ -133,12 +133,12 @@ class OwnBroker:
         end = time.monotonic() + PATIENCE
         while time.monotonic() < end and self.process.poll() is None:
             try:
-                with socket.create_connection(self.port(), timeout=1):
+                with socket.create_connection(here, timeout=1):
                     return
             except OSError:
                 time.sleep(0.05)
         self.stop()
-        raise NoBroker(f"mosquitto doesn't listen at port {self.port()[1]}: {self.last_said()}")
+        raise NoBroker(f"mosquitto doesn't listen at port {self.number}: {self.last_said()}")
 
     async def watch(self):
         """Starts it again whenever it has ended, for as long as nobody cancels this."""

@@ -75,7 +75,7 @@ async def run(given, seat):
     """Runs a seat until this program is told to end, and gives the status."""
     if not seat.listen:
         return await sit(given, seat)
-    loop, own = asyncio.get_running_loop(), OwnBroker(given.journal)
+    loop, own = asyncio.get_running_loop(), OwnBroker(given.journal, seat.broker)
     try:
         await loop.run_in_executor(None, own.start)
     except (NoBroker, OSError) as why:
@@ -178,18 +178,24 @@ async def say_presence(presence, carrier, desk):
 
 
 async def show(server, given):
-    """Serves the page until this program is told to end."""
-    await server.start(given.port)
+    """Serves the page until this program is told to end, and gives the status."""
+    try:
+        await server.start(given.port)
+    except OSError as fault:
+        say(f"port {given.port} can't be served: {fault.strerror}. Take another --port, or 0 for any free one")
+        return FAILED
     await serve(server, given)
+    return 0
 
 
 async def keep(given):
-    """Keeps a copy, and hands on what others miss, until this program is told to end."""
+    """Keeps a copy, and hands on what others miss, until this program is told to end. Gives the status."""
     told = asyncio.Event()
     for each in (signal.SIGINT, signal.SIGTERM, signal.SIGHUP):
         asyncio.get_running_loop().add_signal_handler(each, told.set)
     print(f"keeping a copy in {given.journal}", flush=True)
     await told.wait()
+    return 0
 
 
 async def drawn(given, seat, carrier, standing, desk):
@@ -206,10 +212,10 @@ async def drawn(given, seat, carrier, standing, desk):
             presence = presence_of(given, carrier, desk)
             standing.start(lambda: desk.edits)
             saying = asyncio.get_running_loop().create_task(say_presence(presence, carrier, desk))
-            await (keep(given) if seat.keep else show(server, given))
+            status = await (keep(given) if seat.keep else show(server, given))
         return status
     except OSError as fault:
-        say(f"port {given.port} can't be served: {fault.strerror}. Take another --port, or 0 for any free one")
+        say(f"the file of the seat can't be written: {fault.strerror}")
         return FAILED
     finally:
         if saying:

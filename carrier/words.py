@@ -38,8 +38,8 @@ def run(words):
     and Debian's has, it goes on with that one."""
     if not all(importlib.util.find_spec(name) for name in WANTED):
         imports = "; ".join(f"import {name}" for name in WANTED)
-        tried = [SYSTEM, "-c", imports]
-        if sys.executable != SYSTEM and os.path.exists(SYSTEM) and not subprocess.run(tried, stderr=subprocess.DEVNULL).returncode:
+        tried, can_be = [SYSTEM, "-c", imports], sys.executable != SYSTEM and os.path.exists(SYSTEM)
+        if can_be and subprocess.run(tried, stderr=subprocess.DEVNULL).returncode == 0:
             os.execv(SYSTEM, [SYSTEM, *sys.argv])
         print(MISSING, file=sys.stderr)
         return 1
@@ -77,8 +77,8 @@ def port(text):
 
 def asked(words, program):
     """What the command line asks for. `program` is the built groupdesign where none is named."""
-    shape = argparse.RawDescriptionHelpFormatter
-    parser = argparse.ArgumentParser(prog="./draw", description="Draws together over a broker.", epilog=HELP, formatter_class=shape)
+    about, shape = "Draws together over a broker.", argparse.RawDescriptionHelpFormatter
+    parser = argparse.ArgumentParser(prog="./draw", description=about, epilog=HELP, formatter_class=shape)
     add = parser.add_argument
     add("--found", metavar="NAME", help="found a session with this name")
     add("--listen", metavar="HOST:PORT", type=address, help="start a broker here, which the others reach at this address")

@@ -22,8 +22,9 @@ class Certificates(WithFolder):
 
     def broker(self, host="127.0.0.1", days=30):
         """A broker with a certificate for so many days from now, its address and the certificate."""
-        own, address = OwnBroker(self.folder / f"{days}.log"), f"{host}:{free_port()}"
-        shown = own.make(address, roster_with(), {1: Keys(SEEDS[1]).password}, days)
+        address = f"{host}:{free_port()}"
+        own = OwnBroker(self.folder / f"{days}.log", address)
+        shown = own.make(roster_with(), {1: Keys(SEEDS[1]).password}, days)
         own.start()
         self.addCleanup(own.stop)
         return parts_of(address), shown

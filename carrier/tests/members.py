@@ -1,4 +1,4 @@
-"""What tests of carriers over a real broker share: members in this process, each with a node of the built program and no page."""
+"""What tests of carriers over a real broker share: members in this process, each with a node of the program and no page."""
 
 import argparse
 import asyncio
@@ -86,9 +86,9 @@ class WithMembers(WithFolder):
         publics = tuple(Keys(SEEDS[seat]).public for seat in SEEDS)
         self.roster = Roster(os.urandom(16), "Oak", public_bytes(Keys(FOUNDER).signing), publics)
         self.address, self.members = f"127.0.0.1:{free_port()}", []
-        self.own = OwnBroker(self.folder / "broker.log")
+        self.own = OwnBroker(self.folder / "broker.log", self.address)
         passwords = {seat: Keys(seed).password for seat, seed in SEEDS.items()}
-        self.certificate = self.own.make(self.address, self.roster, passwords)
+        self.certificate = self.own.make(self.roster, passwords)
         self.trust = exact(self.certificate)
         self.let_in("evil", "topic readwrite gd/#")
         self.own.start()
