@@ -34,6 +34,8 @@ class Carrier:
         self.takers, self.keepers, self.changes, self.comings = {FRAME: self.take_frame}, {}, [], []
         # What has the node polled, and whether it runs.
         self.wake, self.runs = lambda: None, lambda: True
+        # Seats that were retired.
+        self.barred = set()
         self.counts = {"out": 0, "in": 0, "kept": 0, "strange": 0}
         # Set once all has come that the broker kept.
         self.settled = asyncio.Event()
@@ -49,8 +51,8 @@ class Carrier:
 
     def start(self):
         """Begins to connect."""
-        topics = [topic(self.session, self.seat.seat, "+"), topic(self.session, "head", "+"), topic(self.session, "roster")]
-        self.broker.start(topics)
+        topics = [topic(self.session, self.seat.seat, "+"), topic(self.session, "head", "+")]
+        self.broker.start([*topics, topic(self.session, "roster"), topic(self.session, "retired")])
 
     async def stop(self):
         await self.broker.stop()
@@ -76,6 +78,12 @@ class Carrier:
             call(self.broker.up, self.broker.fault)
         self.wake()
 
+    def bar(self, seat):
+        """A seat was retired: it isn't heard any more."""
+        self.barred.add(seat)
+        if seat in self.paces:
+            self.paces[seat].leave()
+
     def here(self):
         """The seats that were heard lately, in their order."""
         now = time.monotonic()
@@ -85,7 +93,7 @@ class Carrier:
 
     def sent(self, to, frame):
         """The node sent a frame."""
-        if self.broker.up and self.runs():
+        if self.broker.up and self.runs() and to not in self.barred:
             if self.paces[to].takes(frame, time.monotonic()):
                 self.send(to, FRAME, frame)
             else:
@@ -112,6 +120,8 @@ class Carrier:
 
     def take(self, sender, data):
         """Something came as from a seat. What that seat hasn't sealed for this one is passed over."""
+        if sender in self.barred:
+            return
         opened = self.seals.opened(sender, data)
         if opened is None:
             self.counts["strange"] += 1

@@ -119,6 +119,20 @@ def invite(given):
     return link
 
 
+def retire(given):
+    """Puts down that a seat was left for good; the founder's running `./draw`, or the next one, tells all. Raises `Wrong`."""
+    journal = founders_journal(given.journal)
+    if given.retire == FIRST:
+        raise Wrong("the founder's own seat isn't retired")
+    try:
+        Founder.note_retired(journal, given.retire)
+    except FileNotFoundError:
+        raise Wrong(f"who founded the session retires seats: there is no {Founder.path(journal)}") from None
+    except (BadFile, OSError) as why:
+        raise Wrong(str(why)) from None
+    print(f"seat {given.retire} is retired as soon as ./draw --journal {journal} runs and has all that it signed", flush=True)
+
+
 def join(given):
     """Makes the file of a seat from its link. Raises `Wrong`."""
     check_new(given.journal)

@@ -116,10 +116,12 @@ class Seat:
 
 @dataclass
 class Founder:
-    """What only the founder has: the secret that retires seats, and the secrets of seats that nobody was handed yet."""
+    """What only the founder has: the secret that retires seats, the secrets of seats that nobody was handed yet, and by their
+    numbers the seats that are retired, with what was signed of them, or with an empty text where that isn't done yet."""
 
     seed: bytes
     free: dict = field(default_factory=dict)
+    retired: dict = field(default_factory=dict)
 
     @staticmethod
     def path(journal):
@@ -128,24 +130,40 @@ class Founder:
     def write(self, journal):
         """Keeps it beside the founder's journal. Raises `OSError`."""
         free = {str(seat): text_of(seed) for seat, seed in self.free.items()}
-        write_private(self.path(journal), json.dumps({"seed": text_of(self.seed), "free": free}, indent=1) + "\n")
+        retired = {str(seat): text for seat, text in self.retired.items()}
+        fields = {"seed": text_of(self.seed), "free": free, "retired": retired}
+        write_private(self.path(journal), json.dumps(fields, indent=1) + "\n")
 
     @classmethod
     def read(cls, journal):
         """The one beside a journal. Raises `BadFile`, and `FileNotFoundError` where there is none."""
         with fields_of(cls.path(journal)) as fields:
             free = {int(seat): data_of(seed) for seat, seed in fields["free"].items()}
-            return cls(data_of(fields["seed"]), free)
+            retired = {int(seat): str(text) for seat, text in fields["retired"].items()}
+            return cls(data_of(fields["seed"]), free, retired)
 
     @classmethod
     def take(cls, journal):
         """A seat that nobody was handed, and its secret, which the file then has no more. Nothing where none is left."""
-        with open(os.open(f"{cls.path(journal)}.lock", os.O_RDWR | os.O_CREAT, 0o600), "w", encoding="utf-8") as lock:
-            fcntl.flock(lock, fcntl.LOCK_EX)
-            found = cls.read(journal)
+        with cls.changing(journal) as found:
             if not found.free:
                 return None
             seat = min(found.free)
-            seed = found.free.pop(seat)
+            return seat, found.free.pop(seat)
+
+    @classmethod
+    def note_retired(cls, journal, seat, text=""):
+        """Puts down that a seat is to be retired, or what was signed of it."""
+        with cls.changing(journal) as found:
+            found.free.pop(seat, None)
+            found.retired[seat] = text or found.retired.get(seat, "")
+
+    @classmethod
+    @contextlib.contextmanager
+    def changing(cls, journal):
+        """The one beside a journal, which is written again behind what is done with it. One program does that at a time."""
+        with open(os.open(f"{cls.path(journal)}.lock", os.O_RDWR | os.O_CREAT, 0o600), "w", encoding="utf-8") as lock:
+            fcntl.flock(lock, fcntl.LOCK_EX)
+            found = cls.read(journal)
+            yield found
             found.write(journal)
-        return seat, seed

@@ -51,9 +51,9 @@ def rules(roster):
     for seat in range(1, SEATS + 1):
         lines.append(f"user {user_of(roster.session, seat)}")
         lines += [f"topic write {topic(roster.session, '+', seat)}", f"topic read {topic(roster.session, seat, '+')}"]
-        lines += [f"topic read {topic(roster.session, 'head', '+')}", f"topic read {topic(roster.session, 'roster')}"]
-        if seat == 1:
-            lines.append(f"topic write {topic(roster.session, 'roster')}")
+        lines.append(f"topic read {topic(roster.session, 'head', '+')}")
+        for name in ("roster", "retired"):
+            lines.append(f"topic {'readwrite' if seat == 1 else 'read'} {topic(roster.session, name)}")
         lines.append("")
     return "\n".join(lines)
 

@@ -12,6 +12,7 @@ from carrier.carrier import Carrier
 from carrier.files import BadFile, Seat
 from carrier.mosquitto import NoBroker, OwnBroker
 from carrier.presence import BETWEEN, Presence
+from carrier.retiring import OWN, Retiring
 from carrier.sealing import PRESENCE
 from carrier.standing import Standing
 from carrier.table import Table
@@ -31,8 +32,8 @@ def main(words):
     """Does what words of a session over a broker ask for, and gives the status."""
     given = asked(words, PROGRAM)
     try:
-        if given.invite:
-            commands.invite(given)
+        if given.invite or given.retire:
+            commands.invite(given) if given.invite else commands.retire(given)
             return 0
         wrong = check_journal(given.journal)
         if wrong:
@@ -94,18 +95,19 @@ async def sit(given, seat):
     """Runs a seat whose broker is where it is."""
     carrier = Carrier(seat)
     standing = Standing(carrier, given.journal)
+    retiring = Retiring(carrier, standing, given.journal)
     try:
         begin(carrier, seat)
         if not await carrier.settle(PATIENCE):
             why = carrier.broker.fault or "it doesn't answer"
             say(f"the broker at {seat.broker} isn't reached: {why}. You can draw all the same: it is tried again")
         older = standing.begin()
-        wrong = used_before(seat, standing) or older
+        wrong = used_before(seat, standing) or older or (OWN if retiring.is_own else None)
         if wrong:
             say(wrong)
             return FAILED
         desk = desk_of(given, seat, carrier, Audience())
-        return await drawn(given, seat, carrier, standing, desk)
+        return await drawn(given, seat, carrier, standing, retiring, desk)
     finally:
         await standing.stop()
         await carrier.stop()
@@ -198,7 +200,7 @@ async def keep(given):
     return 0
 
 
-async def drawn(given, seat, carrier, standing, desk):
+async def drawn(given, seat, carrier, standing, retiring, desk):
     """Starts the node and serves the page, and gives the status."""
     saying = None
     try:
@@ -208,7 +210,7 @@ async def drawn(given, seat, carrier, standing, desk):
             if not seat.begun:
                 seat.begun = True
                 seat.write(given.journal)
-            Table(carrier, standing, desk, lambda: commands.free_seats(given.journal))
+            Table(carrier, standing, retiring, desk, lambda: commands.free_seats(given.journal))
             presence = presence_of(given, carrier, desk)
             standing.start(lambda: desk.edits)
             saying = asyncio.get_running_loop().create_task(say_presence(presence, carrier, desk))

@@ -1,7 +1,7 @@
 """Who sits where: which seats somebody has, who is there, and what the own node and the page are told of that.
 
-A seat that nobody has would keep the node from ever being sure of all. So the node is told that such a seat has nothing and says
-nothing more. When somebody sits down there the node is started anew from its journal, which forgets that.
+A seat that nobody has would keep the node from ever being sure of all. So the node is told that such a seat has nothing and
+says nothing more. When somebody sits down there the node is started anew from its journal, which forgets that.
 """
 
 import asyncio
@@ -38,8 +38,9 @@ async def renew(desk):
 class Table:
     """The seats of one carrier's session."""
 
-    def __init__(self, carrier, standing, desk, invites):
+    def __init__(self, carrier, standing, retiring, desk, invites):
         """`invites` gives how many more people can be invited here."""
+        self.retiring, self.retired = retiring, {}
         self.carrier, self.standing, self.desk, self.invites = carrier, standing, desk, invites
         self.own, self.name = carrier.seat.seat, carrier.seat.roster.name
         self.heard, self.closed, self.node, self.due, self.renewing = set(), set(), None, [], None
@@ -49,9 +50,9 @@ class Table:
         desk.audience.openings.append((desk.number, self.opening))
 
     def taken(self):
-        """The seats that somebody has: of which there are records, or a head, or that were heard."""
+        """The seats that somebody has: of which there are records, or a head, or that were heard, and that aren't retired."""
         with_records = {seat for seat, feed in self.standing.feeds.feeds.items() if feed.count}
-        return {self.own} | with_records | set(self.standing.heads.newest) | self.heard
+        return ({self.own} | with_records | set(self.standing.heads.newest) | self.heard) - set(self.retiring.gone)
 
     def look(self):
         """Takes what may have changed."""
@@ -80,18 +81,22 @@ class Table:
         self.renewing = asyncio.get_running_loop().create_task(anew())
 
     def close_free(self, taken, now):
-        """Tells the node of the seats that nobody has."""
+        """Tells the node of the seats that nobody has, or has any more."""
         node = self.desk.node
         if node is None or node.status is not None:
             return
-        if node is not self.node:
+        ready = self.retiring.ready()
+        if node is not self.node or ready != self.retired:
+            self.retired = ready
             self.node, self.due, self.closed = node, [now + each for each in TIMES], set()
         if not self.due or now < self.due[0]:
             return
         self.due.pop(0)
-        for seat in set(self.standing.feeds.feeds) - taken:
-            self.closed.add(seat)
-            self.carrier.ways.deliver(seat, closing(self.carrier.seat.roster.number, seat, self.own, 0))
+        free = set(self.standing.feeds.feeds) - taken - set(self.retiring.gone)
+        self.closed |= free
+        for seat, count in [*dict.fromkeys(free, 0).items(), *ready.items()]:
+            if seat != self.own:
+                self.carrier.ways.deliver(seat, closing(self.carrier.seat.roster.number, seat, self.own, count))
         self.carrier.wake()
 
     # What the page is told.

@@ -9,7 +9,7 @@ from pathlib import Path
 
 from page.addresses import BadAddress, parts_of
 
-BEGIN = ("--found", "--join", "--keep", "--invite")
+BEGIN = ("--found", "--join", "--keep", "--invite", "--retire")
 # Words of a node with addresses, or of a demonstration.
 OTHERS = ("--session", "--site", "--demo")
 MOST_PORT = 65_535
@@ -23,8 +23,8 @@ HELP = """over a broker, from anywhere (page/README.md):
   --invite [--journal PATH]      prints a link for one person
   --join LINK --journal PATH     sits down at the seat of a link; LINK may be -, and is then read from standard input
   --keep LINK --journal PATH     keeps a copy at the seat of a link, without a page, for a machine that is always on
-  --journal PATH                 goes on later
-"""
+  --retire SEAT [--journal PATH] ends a seat that was left for good, or that was taken by a wrong one
+  --journal PATH                 goes on later"""
 
 
 def is_carried(words):
@@ -75,6 +75,13 @@ def port(text):
     return value
 
 
+def seat(text):
+    value = int(text) if text.isascii() and text.isdigit() else 0
+    if not 1 <= value <= 16:
+        raise argparse.ArgumentTypeError(f"{text} is no seat from 1 to 16")
+    return value
+
+
 def asked(words, program):
     """What the command line asks for. `program` is the built groupdesign where none is named."""
     about, shape = "Draws together over a broker.", argparse.RawDescriptionHelpFormatter
@@ -87,6 +94,7 @@ def asked(words, program):
     add("--invite", action="store_true", help="print a link for one person")
     add("--join", metavar="LINK", help="sit down at the seat of a link")
     add("--keep", metavar="LINK", help="keep a copy at the seat of a link, without a page")
+    add("--retire", metavar="SEAT", type=seat, help="end a seat that was left for good")
     add("--journal", metavar="PATH", type=Path, help="the file of the node's log; the files of the seat lie beside it")
     add("--port", metavar="N", type=port, default=0, help="the page's port; any free one if 0")
     add("--open", action="store_true", help="open the page in a browser")
@@ -99,9 +107,9 @@ def asked(words, program):
 
 def check(parser, given):
     """Refuses words that don't go together."""
-    asks = [given.found is not None, given.invite, given.join is not None, given.keep is not None]
+    asks = [given.found is not None, given.invite, given.join is not None, given.keep is not None, given.retire is not None]
     if sum(asks) > 1:
-        parser.error("one of --found, --invite, --join and --keep at a time")
+        parser.error("one of --found, --invite, --join, --keep and --retire at a time")
     places = [given.listen, given.broker]
     if given.found is not None and sum(place is not None for place in places) != 1:
         parser.error("--found takes either --listen HOST:PORT, for a broker of its own, or --broker HOST:PORT")
@@ -109,5 +117,5 @@ def check(parser, given):
         parser.error("--listen, --broker and --ca go with --found: later on the seat's file has them")
     if given.ca and not given.broker:
         parser.error("--ca goes with --broker")
-    if given.journal is None and not given.invite:
+    if given.journal is None and not given.invite and not given.retire:
         parser.error("--journal is wanted: the file in which your copy of the drawing is kept")

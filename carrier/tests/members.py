@@ -13,6 +13,7 @@ from carrier.files import Seat
 from carrier.keys import Keys
 from carrier.mosquitto import OwnBroker
 from carrier.running import begin, desk_of
+from carrier.retiring import Retiring
 from carrier.standing import Standing
 from carrier.table import Table
 from carrier.tests.rosters import FOUNDER, PATIENCE, SEEDS, WithFolder, until
@@ -37,6 +38,7 @@ class Member:
         """Begins to carry, and gives what is wrong with the journal, or nothing; then the node runs."""
         self.carrier = Carrier(self.seat)
         self.standing = Standing(self.carrier, self.journal)
+        self.retiring = Retiring(self.carrier, self.standing, self.journal)
         self.test.members.append(self)
         begin(self.carrier, self.seat)
         self.test.assertTrue(await self.carrier.settle(PATIENCE), self.carrier.broker.fault)
@@ -46,7 +48,7 @@ class Member:
             self.desk = desk_of(given, self.seat, self.carrier, Audience())
             self.carrier.say = self.said.append
             await self.desk.start()
-            Table(self.carrier, self.standing, self.desk, lambda: 0)
+            Table(self.carrier, self.standing, self.retiring, self.desk, lambda: 0)
             self.standing.start(lambda: self.desk.edits)
         return wrong
 

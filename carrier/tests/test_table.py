@@ -45,8 +45,8 @@ class Seats(unittest.IsolatedAsyncioTestCase):
         self.feeds = {seat: feed(0) for seat in range(1, SEATS + 1)}
         heads = types.SimpleNamespace(newest=self.heads, liars=set(), missing=lambda: [])
         standing = types.SimpleNamespace(looks=[], feeds=types.SimpleNamespace(feeds=self.feeds), heads=heads)
-        self.desk = Desk()
-        self.table = Table(self.carrier, standing, self.desk, lambda: 3)
+        self.retiring, self.desk = types.SimpleNamespace(gone={}, ready=lambda: dict(self.retiring.gone)), Desk()
+        self.table = Table(self.carrier, standing, self.retiring, self.desk, lambda: 3)
 
     def datagrams(self):
         found = []
@@ -68,10 +68,16 @@ class Seats(unittest.IsolatedAsyncioTestCase):
         self.table.look()
         self.assertEqual(self.datagrams(), [])
         self.assertEqual(len(self.table.due), len(TIMES) - 1)
+        # A retired seat is told with how many edits it has.
+        self.feeds[9], self.retiring.gone[9] = feed(4), 4
+        self.table.look()
+        self.assertIn(closing(roster_with().number, 9, 1, 4), self.datagrams())
+        self.assertNotIn(9, self.table.closed)
+        free.remove(9)
         # A node that was started anew is told anew.
         self.desk.node = types.SimpleNamespace(status=None)
         self.table.look()
-        self.assertEqual(len(self.datagrams()), len(free))
+        self.assertEqual(len(self.datagrams()), len(free) + 1)
 
     async def test_a_node_is_started_anew_where_somebody_sits_down(self):
         self.is_settled = True

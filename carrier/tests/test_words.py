@@ -18,7 +18,8 @@ class Words(unittest.TestCase):
         self.assertEqual(found.exception.code, 2)
 
     def test_which_words_are_over_a_broker(self):
-        for words in (["--found", "Oak"], ["--invite"], ["--join", LINK], ["--join=" + LINK], ["--journal", "a"], ["--journal=a", "--open"]):
+        carried = [["--found", "Oak"], ["--invite"], ["--join", LINK], ["--join=" + LINK], ["--keep", LINK], ["--retire=2"]]
+        for words in [*carried, ["--journal", "a"], ["--journal=a", "--open"]]:
             self.assertTrue(is_carried(words), words)
         node = ["--session", "7", "--site", "1", "--journal", "a", "A", "B"]
         for words in ([], ["--demo", "2"], node, ["--site=1", "--journal", "a"], ["--help"], ["--journal", "a", "--help"]):
@@ -31,6 +32,8 @@ class Words(unittest.TestCase):
         given = asked(["--found", "Oak", "--broker", "[::1]:8883", "--ca", "ca.pem", "--journal", "a"], PROGRAM)
         self.assertEqual((given.broker, given.ca), ("[::1]:8883", Path("ca.pem")))
         self.assertIsNone(asked(["--invite"], PROGRAM).journal)
+        self.assertEqual(asked(["--retire", "16"], PROGRAM).retire, 16)
+        self.assertEqual(asked(["--keep", LINK, "--journal", "a"], PROGRAM).keep, LINK)
         self.assertEqual(asked(["--join", LINK, "--journal", "a"], PROGRAM).join, LINK)
         self.assertEqual(asked(["--journal", "a", "--program", "p"], PROGRAM).program, Path("p"))
 
@@ -49,10 +52,16 @@ class Words(unittest.TestCase):
             [*journal, *place],
             [*journal, "--port", "65536"],
             [*journal, "A"],
+            ["--retire", "0"],
+            ["--retire", "17"],
+            ["--retire", "2", "--invite"],
+            ["--keep", LINK],
+            ["--keep", LINK, "--join", LINK, *journal],
         ):
             self.refused(*words)
 
     def test_a_run_goes_on_without_its_link(self):
-        for words in (["--join", LINK, "--journal", "a"], ["--journal", "a", "--join", LINK], ["--join=" + LINK, "--journal", "a"]):
+        journal = ["--journal", "a"]
+        for words in (["--join", LINK, *journal], [*journal, "--keep", LINK], ["--join=" + LINK, *journal], ["--keep=-", *journal]):
             self.assertEqual(without_link(words), ["--journal", "a"])
         self.assertEqual(without_link(["--join", "-", "--open", "--journal=a"]), ["--open", "--journal=a"])
