@@ -14,8 +14,8 @@ use Rattle.gd_effects.specs.Outside.{IsTold, Outside, outside}
 use Rattle.gd_effects.specs.Prints.{Prints}
 use Rattle.gd_lines.specs.Replies.{usage_line}
 use Rattle.gd_node.specs.Configs.{ConfigValue}
-use Rattle.gd_node.specs.Rejoining.{IsRejoinEnd, IsRenamed, IsToldAll, KeepsFound, OnceFound, OnlySynced, found_in, rejoins, rejoins_for_part}
-use Rattle.gd_node.specs.Serving.{IsNamed, IsNodeEnd, KeepsBegun, OnceLogged, OnlyOpened, served, served_of_part}
+use Rattle.gd_node.specs.Rejoining.{HoldsFound, IsRejoinEnd, IsRenamed, IsToldAll, KeepsFound, OnceFound, OnlySynced, found_in, left_found, rejoins, rejoins_for_part}
+use Rattle.gd_node.specs.Serving.{Holds, IsNamed, IsNodeEnd, KeepsBegun, OnceLogged, OnlyOpened, begun_site, header_of, left_by, served, served_of_part}
 use Rattle.gd_asked.specs.declared.command.Command.{Command}
 use Rattle.gd_asked.specs.declared.command.Command.TheVariants.{Replay, Upgrade, Snapshot, View, Board, Node, Rejoin, Rehearse, Churn}
 use Rattle.gd_options.specs.declared.format.Format.{Format}
@@ -41,7 +41,7 @@ use Rattle.gd_worlds.specs.Rehearsal.{rehearsal_effects, rehearsal_end, rehearsa
 use Rattle.groupdesign.proofs.Rejoined.{closes_found, is_unread}
 use Rattle.groupdesign.proofs.Sentences.{completes, did_whole, left_at, unopened_at}
 use Rattle.groupdesign.specs.Carrying.{Carried}
-use Rattle.groupdesign.specs.Commands.{HasLogOf, IfBegun, IsEnd, IsSilentEnd, IsUnread, Keeps, Named, OpensFirst, Silent, Untouched, config}
+use Rattle.groupdesign.specs.Commands.{HasLogOf, HoldsLogOf, IfBegun, IsEnd, IsSilentEnd, IsUnread, Keeps, Named, OpensFirst, Silent, Untouched, config}
 use Rattle.groupdesign.specs.Headline.{Headline}
 use Rattle.groupdesign.specs.Runs.{IsToldFor, Run, Told, Whole, asked, contents, entries, input, owed, owed_for_part, owed_status}
 
@@ -81,6 +81,7 @@ module _ (run : Run) (h : Carried (asked run) run.status run.before run.after) w
     journal = λ w. (did_whole run.status ends w.0 w.1).0.journal;
     log = λ w. log_of run w h (did_whole run.status ends w.0 w.1).0.journal;
     frames = λ w. (did_whole run.status ends w.0 w.1).0.tried;
+    left = λ w. h.left w.0 w.1;
     steps = λ w. (did_whole run.status ends w.0 w.1).0.steps;
     memory = λ t is. left_at ends NoMemory is t;
     read = λ t is. left_at ends ReadFault is t;
@@ -89,6 +90,7 @@ module _ (run : Run) (h : Carried (asked run) run.status run.before run.after) w
     unopened = unopened_at ends;
     opens_first = h.opens_first;
     keeps = h.keeps;
+    holds = h.holds;
     most_steps = λ t. ends_most run.status _ ends t;
     cause = ends.cause;
     counts = ends.counts;
@@ -111,6 +113,7 @@ module _ (run : Run) (h : Carried (asked run) run.status run.before run.after) w
         journal = λ w. absurd (cut w.1);
         log = λ w. absurd (cut w.1);
         frames = λ w. absurd (cut w.1);
+        left = λ w. absurd (cut w.1);
         steps = λ w. absurd (cut w.1);
         memory = λ t e. absurd (let no : JournalFault ≡ NoMemory = sym u.failed ∙ e in cc);
         read = λ t e. absurd (let no : JournalFault ≡ ReadFault = sym u.failed ∙ e in cc);
@@ -119,6 +122,7 @@ module _ (run : Run) (h : Carried (asked run) run.status run.before run.after) w
         unopened = λ e. absurd (let no : JournalFault ≡ LinkFault = sym u.failed ∙ e in cc);
         opens_first = h.opens_first;
         keeps = h.keeps;
+        holds = h.holds;
         most_steps = λ t. omega (arith, u.did.steps);
         cause = subst (λ s. Causes s run.before run.after) (sym u.failed) u.cause;
         counts = u.counts;
@@ -147,16 +151,16 @@ synced_none : (j : SeenJournal) → OnlySynced j j
 synced_none j = record { contents = grows_nothing j.contents; images = λ t. inl refl }
 
 unmoved : (asked : Option Command) (o : Outside)
-    → IsEnd asked NoMemory × Untouched asked o o × Silent asked NoMemory o o × Named asked NoMemory o o × Keeps asked NoMemory o o
-unmoved None o = (tt, (refl, refl, refl, refl), (λ s. refl, λ s. refl), tt, tt)
-unmoved (Some View) o = (tt, (refl, refl), tt, tt, tt)
+    → IsEnd asked NoMemory × Untouched asked o o × Silent asked NoMemory o o × Named asked NoMemory o o × Keeps asked NoMemory o o × HoldsLogOf asked NoMemory o o
+unmoved None o = (tt, (refl, refl, refl, refl), (λ s. refl, λ s. refl), tt, tt, tt)
+unmoved (Some View) o = (tt, (refl, refl), tt, tt, tt, tt)
 unmoved (Some (Node session site journal addresses)) o =
-    (tt, tt, tt, inl refl, inl (opened_none o, refl, refl))
+    (tt, tt, tt, inl refl, inl (opened_none o, refl, refl), inl (opened_none o, refl, refl))
 unmoved (Some (Rejoin session site journal addresses)) o =
-    (tt, tt, tt, inl refl, inl (opened_none o, synced_none o.journal))
-unmoved (Some (Rehearse sites)) o = (tt, (refl, refl), tt, tt, tt)
-unmoved (Some (Churn seed steps)) o = (tt, (refl, refl, refl), (λ s. refl, λ s. refl), tt, tt)
-unmoved (Some other) o = (tt, (refl, refl), (λ s. refl, λ s. refl), tt, tt)
+    (tt, tt, tt, inl refl, inl (opened_none o, synced_none o.journal), inl (opened_none o, synced_none o.journal))
+unmoved (Some (Rehearse sites)) o = (tt, (refl, refl), tt, tt, tt, tt)
+unmoved (Some (Churn seed steps)) o = (tt, (refl, refl, refl), (λ s. refl, λ s. refl), tt, tt, tt)
+unmoved (Some other) o = (tt, (refl, refl), (λ s. refl, λ s. refl), tt, tt, tt)
 
 pub carried_not : (asked : Option Command) (o : Outside) → Carried asked NoMemory o o
 carried_not asked o =
@@ -168,6 +172,8 @@ carried_not asked o =
       silent = same.2;
       named = same.3;
       keeps = same.4;
+      holds = same.5;
+      left = λ t u. absurd u;
       opens_first = tt;
     }
 
@@ -193,6 +199,8 @@ carried_refused {old} {new} line r is only p input journal link steps =
       silent = (λ s. absurd (kind.1 s), λ s. refl);
       named = tt;
       keeps = tt;
+      holds = tt;
+      left = λ t u. refl;
       opens_first = kind.2;
     }
 
@@ -219,6 +227,8 @@ module _ {input input' : SeenSource} {output output' : SeenSink} (journal : Seen
     silent = (λ q. silent (silent_by s q), unread);
     named = tt;
     keeps = tt;
+    holds = tt;
+    left = λ t u. refl;
     opens_first = opens_none _ _ s (λ e. subst IsReaderEnd e kind);
   }
 
@@ -231,6 +241,8 @@ module _ {input input' : SeenSource} {output output' : SeenSink} (journal : Seen
     silent = (λ q. silent (silent_by s q), λ q. refl);
     named = tt;
     keeps = tt;
+    holds = tt;
+    left = λ t u. refl;
     opens_first = opens_none _ _ s (λ e. subst IsReaderEnd e kind);
   }
 
@@ -244,6 +256,8 @@ module _ {input input' : SeenSource} {output output' : SeenSink} (journal : Seen
     silent = (λ q. silent (silent_by s q), unread);
     named = tt;
     keeps = tt;
+    holds = tt;
+    left = λ t u. refl;
     opens_first = opens_none _ _ s (λ e. subst IsReaderEnd e kind);
   }
 
@@ -257,6 +271,8 @@ module _ {input input' : SeenSource} {output output' : SeenSink} (journal : Seen
     silent = (λ q. silent (silent_by s q), unread);
     named = tt;
     keeps = tt;
+    holds = tt;
+    left = λ t u. refl;
     opens_first = opens_none _ _ s (λ e. subst IsReaderEnd e kind);
   }
 
@@ -273,6 +289,8 @@ module _ {input input' : SeenSource} {output output' : SeenSink} (journal : Seen
     silent = tt;
     named = tt;
     keeps = tt;
+    holds = tt;
+    left = λ t u. refl;
     opens_first = opens_none _ _ s (λ e. subst IsViewEnd e kind);
   }
 
@@ -296,16 +314,20 @@ module _ (a b : Outside) where
 
   pub carried_node : (c : ConfigValue) (s : Status) → IsNodeEnd s → IsNamed c s a b
       → OnceLogged s a b (KeepsBegun c (told a.link.entries) (told a.input.left) s a b)
+      → OnceLogged s a b (Holds (header_of c) [] b.journal)
+      → (IsUncut s → IsTold b → told b.link.entries ≡ left_by (begun_site c) (told a.link.entries) (told a.input.left))
       → (s ≡ LinkFault → (b.input ≡ a.input) × (b.output ≡ a.output) × (b.journal ≡ a.journal))
       → EndsAs (IsTold b) (served c (told a.link.entries) (told a.input.left)) (served_of_part c (told a.link.entries)) (end_after (node_lines (told a.input.left))) s a b
       → Carried (Some (node_of c)) s a b
-  carried_node c s kind named keeps untouched ends = record {
+  carried_node c s kind named keeps holds left untouched ends = record {
     ends = inl ends;
     kind = kind;
     untouched = tt;
     silent = tt;
     named = begun s named;
     keeps = keeps;
+    holds = holds;
+    left = λ t u. left u t;
     opens_first = opens_first s untouched ends.unopened;
   }
 
@@ -313,16 +335,20 @@ module _ (a b : Outside) where
       → let there = found_in c (told a.journal.contents) in let entries = told a.link.entries in let bytes = told a.input.left in
       IsRenamed c there s a b
       → OnceFound s a b (IsToldAll b → KeepsFound c there entries bytes s a b)
+      → OnceFound s a b (IsSome b.journal.contents → HoldsFound c there b.journal)
+      → (IsUncut s → IsToldAll b → told b.link.entries ≡ left_found c there entries bytes)
       → (s ≡ LinkFault → (b.input ≡ a.input) × (b.output ≡ a.output) × (b.journal ≡ a.journal))
       → EndsAs (IsToldAll b) (rejoins c there entries bytes) (rejoins_for_part c there entries) (rejoined_end there (node_lines bytes)) s a b ⊎ Unread s a b
       → Carried (Some (rejoin_of c)) s a b
-  carried_rejoin c s kind named keeps untouched ends = record {
+  carried_rejoin c s kind named keeps holds left untouched ends = record {
     ends = ends;
     kind = kind;
     untouched = tt;
     silent = tt;
     named = begun s named;
     keeps = keeps;
+    holds = holds;
+    left = λ t u. left u t;
     opens_first = ⊎_elim (λ done. opens_first s untouched done.unopened)
         (λ unread. subst (λ z. OpensFirst z a b) (sym unread.failed) tt) ends;
   }
@@ -350,6 +376,8 @@ module _ {input input' : SeenSource} {output output' : SeenSink} (journal : Seen
     silent = tt;
     named = tt;
     keeps = tt;
+    holds = tt;
+    left = λ t u. refl;
     opens_first = opens_none _ _ s (λ e. subst IsRehearsalEnd e kind);
   }
 
@@ -364,6 +392,8 @@ module _ (input : SeenSource) {output output' : SeenSink} (journal : SeenJournal
     silent = (λ q. silent (churn_silent s kind q), λ q. absurd (unread s kind q));
     named = tt;
     keeps = tt;
+    holds = tt;
+    left = λ t u. refl;
     opens_first = opens_none _ _ s (λ e. subst IsChurnEnd e kind);
   }
 

@@ -1,13 +1,13 @@
 -- What is left where a command was carried out, or where it was said how the program is called: from this the headline
 -- follows.
-use Rattle.std.specs.Prelude.{◌⊎◌, Option}
-use Rattle.gd_effects.specs.Endings.{EndsAs}
+use Rattle.std.specs.Prelude.{◌≡◌, ◌⊎◌, Option}
+use Rattle.gd_effects.specs.Endings.{EndsAs, IsUncut}
 use Rattle.gd_effects.specs.Outside.{Outside}
 use Rattle.gd_asked.specs.declared.command.Command.{Command}
 use Rattle.gd_outside.specs.Told.{told}
 use Rattle.gd_outside.specs.declared.status.Status.{Status}
 use Rattle.gd_run.specs.Runs.{cut_of, effects_of, end_of}
-use Rattle.groupdesign.specs.Commands.{IsEnd, IsUnread, Keeps, Named, OpensFirst, Silent, Untouched}
+use Rattle.groupdesign.specs.Commands.{HoldsLogOf, IsEnd, IsUnread, Keeps, Named, OpensFirst, Silent, Untouched, left_of}
 use Rattle.groupdesign.specs.Runs.{IsToldFor}
 
 pub record Carried (asked : Option Command) (status : Status) (before after : Outside) : Type 0 where
@@ -25,4 +25,12 @@ pub record Carried (asked : Option Command) (status : Status) (before after : Ou
   pub silent : Silent asked status before after
   pub named : Named asked status before after
   pub keeps : Keeps asked status before after
+  pub holds : HoldsLogOf asked status before after
+  -- so are the entries that are left
+  pub left :
+      let contents = told before.journal.contents in
+      let bytes = told before.input.left in
+      let entries = told before.link.entries in
+      IsToldFor asked after → IsUncut status
+      → told after.link.entries ≡ left_of asked contents bytes entries
   pub opens_first : OpensFirst status before after

@@ -1,5 +1,5 @@
 -- What holds of the runs of one command alone.
-use Rattle.std.specs.Prelude.{◌≡◌, ◌⊎◌, ℕ, List, Option, Some, None, IsSome, length}
+use Rattle.std.specs.Prelude.{◌≡◌, ◌⊎◌, ℕ, List, [], Option, Some, None, IsSome, length}
 use Rattle.gd_effects.specs.Endings.{Unread}
 use Rattle.gd_effects.specs.Outside.{Outside}
 use Rattle.gd_events.specs.Events.{Event}
@@ -7,8 +7,8 @@ use Rattle.gd_grammar.specs.Closing.{Closes}
 use Rattle.gd_grammar.specs.Drawings.{drawings, logged}
 use Rattle.gd_grammar.specs.HeaderBytes.{Header}
 use Rattle.gd_node.specs.Configs.{ConfigValue}
-use Rattle.gd_node.specs.Rejoining.{IsRejoinEnd, IsRenamed, IsToldAll, KeepsFound, OnceFound}
-use Rattle.gd_node.specs.Serving.{IsNamed, IsNodeEnd, KeepsBegun, OnceLogged}
+use Rattle.gd_node.specs.Rejoining.{HoldsFound, IsRejoinEnd, IsRenamed, IsToldAll, KeepsFound, OnceFound, left_found}
+use Rattle.gd_node.specs.Serving.{Holds, IsNamed, IsNodeEnd, KeepsBegun, OnceLogged, begun_site, header_of, left_by}
 use Rattle.gd_asked.specs.declared.command.Command.{Command}
 use Rattle.gd_asked.specs.declared.command.Command.TheVariants.{View, Node, Rejoin, Rehearse, Churn}
 use Rattle.gd_outside.specs.Seen.{Entry, SeenJournal}
@@ -109,6 +109,27 @@ Keeps (Some (Rejoin session site journal addresses)) status before after =
     (found_by session site addresses (told before.journal.contents))
     (told before.link.entries) (told before.input.left) status before after)
 Keeps other status before after = Unit {0}
+
+-- Once a node has begun its log, or found it, the journal, where it is told, holds a log of that header with the found events
+-- first, and so does whatever a crash leaves: whatever comes, and whatever the input and the link tell.
+abbrev pub HoldsLogOf : Option Command → Status → Outside → Outside → Type 0
+HoldsLogOf (Some (Node session site journal addresses)) status before after =
+    OnceLogged status before after
+    (Holds (header_of (config session site journal addresses)) [] after.journal)
+HoldsLogOf (Some (Rejoin session site journal addresses)) status before after =
+    OnceFound status before after
+    (IsSome after.journal.contents → HoldsFound (config session site journal addresses)
+    (found_by session site addresses (told before.journal.contents)) after.journal)
+HoldsLogOf other status before after = Unit {0}
+
+-- The entries of the link that are left: a node takes some at `poll` alone, and another command takes none.
+abbrev pub left_of : Option Command → List ℕ → List ℕ → List Entry → List Entry
+left_of (Some (Node session site journal addresses)) contents input entries =
+    left_by (begun_site (config session site journal addresses)) entries input
+left_of (Some (Rejoin session site journal addresses)) contents input entries =
+    left_found (config session site journal addresses)
+    (found_by session site addresses contents) entries input
+left_of other contents input entries = entries
 
 -- a node that goes on from its journal, where that failed before anything was found in it
 abbrev pub IsUnread : Option Command → Status → Outside → Outside → Type 0

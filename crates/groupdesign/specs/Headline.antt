@@ -5,9 +5,9 @@ use Rattle.gd_effects.specs.Done.{DidFront, DidHalfPrint, DidTornRecord, Journal
 use Rattle.gd_effects.specs.Effects.{cost, printed, tried}
 use Rattle.gd_effects.specs.Endings.{Causes, DidRead, Unopened}
 use Rattle.gd_outside.specs.Causes.{Rose}
-use Rattle.gd_outside.specs.Told.{Grows}
+use Rattle.gd_outside.specs.Told.{told, Grows}
 use Rattle.gd_outside.specs.declared.status.Status.TheVariants.{Usage, ReadFault, WriteFault, JournalFault, LinkFault, NoMemory}
-use Rattle.groupdesign.specs.Commands.{HasLogOf, IsEnd, IsUnread, Keeps, Named, OpensFirst, Silent, Untouched}
+use Rattle.groupdesign.specs.Commands.{HasLogOf, HoldsLogOf, IsEnd, IsUnread, Keeps, Named, OpensFirst, Silent, Untouched, left_of}
 use Rattle.groupdesign.specs.Runs.{Run, Told, Whole, asked, contents, entries, input}
 use Rattle.groupdesign.specs.Runs.{owed, owed_for_part, owed_status}
 
@@ -25,6 +25,9 @@ pub record Headline (run : Run) : Type 0 where
       → HasLogOf (asked run) (contents run) (input run) (entries run) run.after.journal
   -- so are the frames that it sends, or tries to
   pub frames : Whole run → Grows run.before.link.tried (tried (owed run)) run.after.link.tried
+  -- the entries of the link that are left are the slow run's: a node receives at `poll` alone
+  pub left : Whole run
+      → told run.after.link.entries ≡ left_of (asked run) (contents run) (input run) (entries run)
   -- it takes as many steps as the slow run's events cost
   pub steps : Whole run → run.after.steps ≡ run.before.steps + cost (owed run)
   -- ---- where it was cut short
@@ -46,6 +49,9 @@ pub record Headline (run : Run) : Type 0 where
   pub opens_first : OpensFirst run.status run.before run.after
   -- once a node has begun its log, or found it, whatever crash comes leaves that log with a front of what was recorded
   pub keeps : Keeps (asked run) run.status run.before run.after
+  -- then, whatever comes, and whatever the input and the link tell, the journal holds a log of that header, with the found
+  -- events first, and so does whatever a crash leaves
+  pub holds : HoldsLogOf (asked run) run.status run.before run.after
   -- it takes no more steps than the slow run
   pub most_steps : Told run → run.after.steps ≤ run.before.steps + cost (owed run)
   -- ---- when it is cut short

@@ -24,12 +24,12 @@ returns-in-Board g c =
 pub returns-in-Node : goal.returns-in-Node
 returns-in-Node g c =
     carried_as (named_node _ _ _ _ c.in-Node.is c.new-config.ensures)
-    (carried_node _ _ _ c.serve.result c.serve.ensures.kinds c.serve.ensures.named c.serve.ensures.keeps c.serve.ensures.untouched c.serve.ensures.ends)
+    (carried_node _ _ _ c.serve.result c.serve.ensures.kinds c.serve.ensures.named c.serve.ensures.keeps c.serve.ensures.holds c.serve.ensures.left c.serve.ensures.untouched c.serve.ensures.ends)
 
 pub returns-in-Rejoin : goal.returns-in-Rejoin
 returns-in-Rejoin g c =
     carried_as (named_rejoin _ _ _ _ c.in-Rejoin.is c.new-config-in-Rejoin.ensures)
-    (carried_rejoin _ _ _ c.rejoin.result c.rejoin.ensures.kinds c.rejoin.ensures.named c.rejoin.ensures.keeps c.rejoin.ensures.untouched c.rejoin.ensures.ends)
+    (carried_rejoin _ _ _ c.rejoin.result c.rejoin.ensures.kinds c.rejoin.ensures.named c.rejoin.ensures.keeps c.rejoin.ensures.holds c.rejoin.ensures.left c.rejoin.ensures.untouched c.rejoin.ensures.ends)
 
 pub returns-in-Rehearse : goal.returns-in-Rehearse
 returns-in-Rehearse g c =
