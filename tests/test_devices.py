@@ -81,3 +81,15 @@ class Devices(Case):
         node = answered((1, 1), f"{RECT}\n{RECT}\n", contents=journal)
         self.assertEqual((node.text, node.status), ("ready 1 of 1\nok 40001.1\nok 40002.1\n", DONE))
         self.assertTrue(node.journal == log(events + [square((clock, 1), clock) for clock in (40_001, 40_002)], sites=1))
+
+    # What stands behind the closing gate isn't read to its end, however far that is.
+    def test_what_stands_behind_the_gate_takes_no_time(self):
+        def limit():
+            resource.setrlimit(resource.RLIMIT_CPU, (5, 5))
+
+        with room() as folder:
+            (folder / "j").write_bytes(log([square((1, 1), 1)], sites=1))
+            os.truncate(folder / "j", 1 << 40)
+            words = node_words(1, free_addresses(1), folder / "j", "--resume")
+            ended = run_program(words, b"status\n", preexec_fn=limit)
+            self.assertEqual((ended.text, ended.status), ("ready 1 of 1\nheld 1 kept 0 line 1 clock 1\n", DONE))

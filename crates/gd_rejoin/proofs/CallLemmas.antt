@@ -2,7 +2,7 @@
 use Rattle.std.proofs.Common.{◌∙◌, arith}
 use Rattle.gd_outside.specs.Called.{ContentsStay, JournalCalled}
 use Rattle.gd_outside.specs.Seen.{SeenJournal}
-use Rattle.gd_outside.proofs.ToldLemmas.{grows_nothing, grows_then}
+use Rattle.gd_outside.proofs.ToldLemmas.{grows_then}
 
 pub called_then : {a b c : SeenJournal} {F G : Type 0} → JournalCalled a b F → JournalCalled b c G → JournalCalled a c G
 called_then h k = record {

@@ -1,7 +1,8 @@
 -- What is found in the contents of a journal.
-use Rattle.std.proofs.Common.{◌≡◌, ℕ, ◌+◌, ◌≤◌, Bool, true, false, not, ◌&&◌, nat_le, nat_lt, eqb, eq-eqb, eqb-true, List, ◌∷◌, ◌++◌, length, refl, sym, ap, ◌∙◌, arith, length-append}
+use Rattle.std.proofs.Common.{◌≡◌, ℕ, ◌+◌, Bool, true, false, not, ◌&&◌, nat_le, nat_lt, eqb, eq-eqb, eqb-true, List, [], ◌∷◌, ◌++◌, length, take, drop, refl, sym, ap, subst, ◌∙◌, arith, length-append}
 use denote.Enum.Bare.{sameb}
-use Rattle.std.specs.Prelude.{Result, Ok, Err}
+use Rattle.std.specs.Prelude.{Option, IsSome, Ok, Err}
+use Rattle.std.proofs.lemmas.List.{drop_all}
 use Rattle.std.proofs.lemmas.Bool.{and_parts}
 use Rattle.std.proofs.lemmas.Bool.Decides.{nat_tests}
 use Rattle.gd_base.specs.declared.fault.LogWhy.{LogWhy}
@@ -19,8 +20,13 @@ use Rattle.gd_logs.specs.Steps.{IsFault}
 use Rattle.gd_logs.specs.declared.log.ReadError.{ReadError}
 use Rattle.gd_logs.specs.declared.log.ReadError.TheVariants.{Memory, Log}
 use Rattle.gd_logs.specs.declared.stopped.LogFault.TheVariants.{Read, Bad}
-use Rattle.gd_reference.specs.Rejoin.{Events, Faulty, Other, same_version, same_header, found, found_as, found_log}
-use Rattle.gd_rejoin.specs.Faults.{fault_of, IsFound}
+use Rattle.gd_reference.specs.Rejoin.{Found, Events, Faulty, Other, same_version, same_header, found, found_as, found_log}
+use Rattle.gd_outside.specs.Told.{told}
+use Rattle.gd_rejoin.specs.Faults.{fault_of, is_short, IsFound, IsFoundOrFailed}
+use Rattle.gd_rejoin.specs.LogFor.{IsLogFor}
+use Rattle.gd_rejoin.specs.declared.fault.ResumeFault.{ResumeFault}
+use Rattle.gd_rejoin.specs.declared.fault.ResumeFault.TheVariants as fault
+use Rattle.gd_rejoin.proofs.ReadLemmas.{front-then}
 
 -- ---- headers
 
@@ -111,3 +117,34 @@ module _ (header : Header) (contents : List ℕ) where
   found-error Memory sure is = tt
   found-error (Log Read) sure is = sure refl
   found-error (Log (Bad at why)) sure is = found-fault at why is
+
+-- ---- what a front of the contents gives
+
+-- a fault that is found is one that is found or failed
+found-or-failed : (fault : ResumeFault) (f : Found) → IsFound fault f → IsFoundOrFailed fault f
+found-or-failed fault.Journal f is = absurd is
+found-or-failed (fault.Bad at why) f is = is
+found-or-failed (fault.Other h) f is = is
+found-or-failed fault.NoMemory f is = tt
+
+module _ (header : Header) (front : List ℕ) (contents : Option (List ℕ)) (is_front : IsSome contents → front ≡ take (length front) (told contents)) where
+  -- the log of a front is that of the contents
+  pub log-by_front : (events : List Event) (place : ℕ) → ((more : List ℕ) → IsLogFor header events place (Unit {0}) (front ++ more)) → IsLogFor header events place (IsSome contents) (told contents)
+  log-by_front events place log = record {
+    ruled = (log []).ruled;
+    closes = λ is_told. subst (Closes drawings header events) (front-then front (told contents) (is_front is_told)) ((log (drop (length front) (told contents))).closes tt);
+    gate = (log []).gate;
+    near = (log []).near;
+  }
+
+  -- and so is its fault, where no bytes are missing or nothing stands behind the front
+  pub fault-by_front : (fault : ResumeFault) → ((more : List ℕ) → (is_short fault ≡ true → more ≡ []) → IsFound fault (found header (front ++ more)))
+      → (IsSome contents → is_short fault ≡ true → drop (length front) (told contents) ≡ [])
+      → IsSome contents → IsFoundOrFailed fault (found header (told contents))
+  fault-by_front fault fails short is_told =
+      found-or-failed fault (found header (told contents))
+      (subst (λ (bytes : List ℕ). IsFound fault (found header bytes)) (front-then front (told contents) (is_front is_told)) (fails (drop (length front) (told contents)) (short is_told)))
+
+  -- all of the contents are a front of them
+  pub nothing-behind : (IsSome contents → front ≡ told contents) → IsSome contents → drop (length front) (told contents) ≡ []
+  nothing-behind whole is_told = drop_all (length front) (told contents) (let same = ap length (whole is_told) in omega (arith, same))

@@ -1,4 +1,5 @@
 pub mod CallLemmas
+pub mod FrontLemmas
 pub mod FoundLemmas
 pub mod ReadLemmas
 pub mod ResumeLemmas

@@ -18,3 +18,7 @@ read-more old new buffer contents k place is so_far piece at fits =
 -- as many bytes as the contents have
 pub all-read : (bytes contents : List ℕ) → bytes ≡ take (length bytes) contents → length contents ≤ length bytes → bytes ≡ contents
 all-read bytes contents is le = is ∙ take_all (length bytes) contents le
+
+-- a front, and what stands behind it
+pub front-then : (front contents : List ℕ) → front ≡ take (length front) contents → front ++ drop (length front) contents ≡ contents
+front-then front contents is = ap (λ (l : List ℕ). l ++ drop (length front) contents) is ∙ take-append-drop (length front) contents

@@ -7,9 +7,10 @@ use Rattle.gd_grammar.specs.Drawings.{drawings}
 use Rattle.gd_grammar.specs.HeaderBytes.{Header}
 use Rattle.gd_logs.specs.Written.{IsRuled}
 
--- the contents are a log of that header and these events, and its closing gate stands at that place
-pub record IsLogFor (header : Header) (events : List Event) (place : ℕ) (contents : List ℕ) : Type 0 where
+-- A log of that header and these events was read, and its closing gate stands at that place. Where `told` holds, the contents
+-- are that log.
+pub record IsLogFor (header : Header) (events : List Event) (place : ℕ) (told : Type 0) (contents : List ℕ) : Type 0 where
   pub ruled : IsRuled IsOp drawings header events
-  pub closes : Closes drawings header events contents
+  pub closes : told → Closes drawings header events contents
   pub gate : place ≡ gate_place drawings events
   pub near : place ≤ 2 ^ 30

@@ -1,9 +1,7 @@
 //! The contents of a journal, as bytes in memory.
 
-ghost use Rattle.std.specs.Prelude.{◌≡◌, Err, IfErr, IfOk, IsSome, OnOk};
-ghost use Rattle.gd_effects.specs.Crashes.{MaySync};
+ghost use Rattle.std.specs.Prelude.{◌≡◌, ◌≤◌, Err, length, take, IfErr, IfOk, IsSome};
 ghost use Rattle.gd_outside.specs.Called.{ContentsStay, JournalCalled};
-ghost use Rattle.gd_outside.specs.Disk.{Kept, goes_on};
 ghost use Rattle.gd_outside.specs.Told.{told, Stays};
 ghost use Rattle.gd_rejoin.specs.Faults.{IsReadFault};
 
@@ -12,53 +10,36 @@ use gd_outside::Journal;
 use std::alloc::Global;
 
 /// How many bytes are asked of a journal at most in one read.
-const SIZE: usize = 65_536;
+const SIZE: usize = 16_384;
 
-/// Opens the journal of that name, syncs it, and reads its contents, which stay.
+/// The front of the contents: all of them where they have at most `most` bytes, and else that many of them or more. The
+/// contents stay.
 ///
 /// `Journal` where a call on the journal failed, and `NoMemory` where memory ran out.
-pub fn synced_contents<J: Journal>(
+pub fn front_of<J: Journal>(
     alloc: Global,
     journal: &mut J,
-    name: &str,
+    most: u64,
 ) -> Result<Vec<u8>, ResumeFault>
-    ensures bytes { IfOk result (λ bytes. IsSome (J.seen journal.new).contents
-        → bytes.items ≡ told (J.seen journal.new).contents) }
-    ensures fault { IfErr result IsReadFault }
-    ensures kept { OnOk result (IsSome (J.seen journal.new).contents → (J.seen journal.new).disk
-        ≡ goes_on (J.seen journal.old).disk (Kept (told (J.seen journal.new).contents))) }
-    ensures synced { IsSome (J.seen journal.new).contents → MaySync (J.seen journal.old).disk
-        (told (J.seen journal.new).contents) (J.seen journal.new).disk }
-    ensures stay { Stays (J.seen journal.old).contents (J.seen journal.new).contents }
-    ensures named { OnOk result (IsSome (J.seen journal.new).name
-        → told (J.seen journal.new).name ≡ name.now) }
-    ensures called { JournalCalled (J.seen journal.old) (J.seen journal.new)
-        (result ≡ Err ResumeFault.Journal) }
-{
-    journal.open(name)?;
-    journal.sync()?;
-    contents_of(alloc, journal)
-}
-
-/// All bytes of the contents, which stay.
-fn contents_of<J: Journal>(alloc: Global, journal: &mut J) -> Result<Vec<u8>, ResumeFault>
-    ensures bytes { IfOk result (λ bytes. IsSome (J.seen journal.new).contents
-        → bytes.items ≡ told (J.seen journal.new).contents) }
+    ensures front { IfOk result (λ front. IsSome (J.seen journal.new).contents
+        → front.items ≡ take (length front.items) (told (J.seen journal.new).contents)) }
+    ensures whole { IfOk result (λ front. IsSome (J.seen journal.new).contents
+        → length (told (J.seen journal.new).contents) ≤ most
+        → front.items ≡ told (J.seen journal.new).contents) }
     ensures fault { IfErr result IsReadFault }
     ensures stay { ContentsStay (J.seen journal.old) (J.seen journal.new) }
     ensures name { Stays (J.seen journal.old).name (J.seen journal.new).name }
     ensures called { JournalCalled (J.seen journal.old) (J.seen journal.new)
         (result ≡ Err ResumeFault.Journal) }
 {
-    let size = journal.len()?;
-    let mut bytes = Vec::new(alloc);
+    let mut front = Vec::new(alloc);
     let mut buffer = [0; SIZE];
-    'reads: while (bytes.len() as u64) < size {
-        let count = journal.read_at(bytes.len() as u64, &mut buffer)?;
+    'reads: while (front.len() as u64) < most {
+        let count = journal.read_at(front.len() as u64, &mut buffer)?;
         if count == 0 {
             break;
         }
-        bytes.extend_from_slice(&buffer[..count])?;
+        front.extend_from_slice(&buffer[..count])?;
     }
-    Ok(bytes)
+    Ok(front)
 }

@@ -21,6 +21,21 @@ pub enum ResumeFault {
     NoMemory,
 }
 
+impl ResumeFault {
+    ghost use Rattle.std.specs.Prelude.{◌≡◌};
+    ghost use Rattle.gd_rejoin.specs.Faults.{is_short};
+
+    /// Whether bytes are missing.
+    pub(crate) fn is_short(&self) -> bool
+        ensures { result ≡ is_short self.now }
+    {
+        match self {
+            ResumeFault::Bad { at: _, why } => *why == LogWhy::Short,
+            ResumeFault::Journal | ResumeFault::NoMemory | ResumeFault::Other { found: _ } => false,
+        }
+    }
+}
+
 impl From<Failed> for ResumeFault {
     ghost use Rattle.std.specs.Prelude.{◌≡◌};
     ghost use Rattle.gd_rejoin.specs.declared.fault.ResumeFault.TheVariants.{Journal};

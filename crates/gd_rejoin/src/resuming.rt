@@ -1,22 +1,25 @@
 //! Going on from a journal.
 
-ghost use Rattle.std.specs.Prelude.{◌≡◌, List, Err, IfErr, IfOk, IsSome, OnErr, OnOk};
+ghost use Rattle.std.specs.Prelude.{◌≡◌, ◌≤◌, ◌^◌, List, Err, IfErr, IfOk, IsSome, OnErr, OnOk};
 ghost use Rattle.gd_base.specs.declared.version.Version.TheVariants as version;
 ghost use Rattle.gd_effects.specs.Crashes.{MaySync, Stands};
 ghost use Rattle.gd_events.specs.Events.{Event};
-ghost use Rattle.gd_grammar.specs.Closing.{Closes};
+ghost use Rattle.gd_events.specs.Sound.{IsOp};
+ghost use Rattle.gd_grammar.specs.Closing.{gate_place};
 ghost use Rattle.gd_grammar.specs.Drawings.{drawings};
+ghost use Rattle.gd_logs.specs.Written.{IsRuled};
 ghost use Rattle.gd_outside.specs.Called.{JournalCalled};
+ghost use Rattle.gd_outside.specs.Disk.{Kept, goes_on};
 ghost use Rattle.gd_outside.specs.Told.{told, Stays};
-ghost use Rattle.gd_reference.specs.Rejoin.{found};
-ghost use Rattle.gd_rejoin.specs.Faults.{IsFound};
+ghost use Rattle.gd_reference.specs.Rejoin.{Events, found};
+ghost use Rattle.gd_rejoin.specs.Faults.{IsFoundOrFailed};
+ghost use Rattle.gd_rejoin.specs.LogFor.{IsLogFor};
 ghost use Rattle.gd_rejoin.specs.Resuming.{PaysFirst, ResumeIs, Resumes};
 
-use crate::contents::synced_contents;
 use crate::fault::ResumeFault;
-use crate::logs::log_for;
+use crate::logs::log_in;
 use gd_base::Steps;
-use gd_logs::LogWriter;
+use gd_logs::{LogWriter, WholeLog};
 use gd_outside::Journal;
 use gd_site::Site;
 use gd_wire::LogHeader;
@@ -55,26 +58,53 @@ pub fn resume<J: Journal, L: Ledger>(
     ensures called { JournalCalled (J.seen journal.old) (J.seen journal.new)
         (result ≡ Err ResumeFault.Journal) }
 {
-    let contents = synced_contents(alloc, journal, name)?;
-    judge(alloc, contents, header, steps)
+    let log = synced_log(alloc, journal, name, header)?;
+    site_of(alloc, &log, header, steps)
 }
 
-/// The site and the writer that go on with these contents of a journal, if they are a log of that header.
-fn judge<L: Ledger>(
+/// Opens the journal of that name, syncs it, and finds the log of that header in its contents, which stay.
+fn synced_log<J: Journal>(
     alloc: Global,
-    contents: Vec<u8>,
+    journal: &mut J,
+    name: &str,
+    header: &LogHeader,
+) -> Result<WholeLog, ResumeFault>
+    ensures log { IfOk result (λ log. IsLogFor header.now log.events log.place
+        (IsSome (J.seen journal.new).contents) (told (J.seen journal.new).contents)) }
+    ensures fault { IfErr result (λ fault. IsSome (J.seen journal.new).contents
+        → IsFoundOrFailed fault (found header.now (told (J.seen journal.new).contents))) }
+    ensures kept { OnOk result (IsSome (J.seen journal.new).contents → (J.seen journal.new).disk
+        ≡ goes_on (J.seen journal.old).disk (Kept (told (J.seen journal.new).contents))) }
+    ensures synced { IsSome (J.seen journal.new).contents → MaySync (J.seen journal.old).disk
+        (told (J.seen journal.new).contents) (J.seen journal.new).disk }
+    ensures stay { Stays (J.seen journal.old).contents (J.seen journal.new).contents }
+    ensures named { OnOk result (IsSome (J.seen journal.new).name
+        → told (J.seen journal.new).name ≡ name.now) }
+    ensures called { JournalCalled (J.seen journal.old) (J.seen journal.new)
+        (result ≡ Err ResumeFault.Journal) }
+{
+    journal.open(name)?;
+    journal.sync()?;
+    log_in(alloc, journal, header)
+}
+
+/// The site and the writer that go on with this log, which is of that header.
+fn site_of<L: Ledger>(
+    alloc: Global,
+    log: &WholeLog,
     header: &LogHeader,
     steps: &mut Steps<L>,
 ) -> Result<(Site, LogWriter), ResumeFault>
     requires newest { header.now.version ≡ version.Two }
-    ensures goes_on { IfOk result (λ x. (events : List Event)
-        × Resumes header.now events x.0 x.1 steps.old steps.new
-        × Closes drawings header.now events contents.items) }
-    ensures fault { IfErr result (λ fault. IsFound fault (found header.now contents.items)) }
+    requires ruled { IsRuled IsOp drawings header.now log.now.events }
+    requires gate { log.now.place ≡ gate_place drawings log.now.events }
+    requires near { log.now.place ≤ 2 ^ 30 }
+    ensures goes_on { IfOk result
+        (λ x. Resumes header.now log.now.events x.0 x.1 steps.old steps.new) }
+    ensures memory { IfErr result (λ fault. fault ≡ ResumeFault.NoMemory) }
     ensures err_steps { OnErr result
-        (PaysFirst (found header.now contents.items) steps.old steps.new) }
+        (PaysFirst (Events log.now.events) steps.old steps.new) }
 {
-    let log = log_for(alloc, contents, header)?;
     let site = Site::from_log(
         alloc,
         header.site(),
