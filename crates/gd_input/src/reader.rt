@@ -16,7 +16,7 @@ use std::marker::Model;
 const LONGEST: usize = 65_536;
 
 /// The most bytes that are pending.
-const SIZE: usize = 131_072;
+const SIZE: usize = 73_728;
 
 /// Reads the lines of an input. Contracts see the bytes that were taken from the source and are in no line yet. No call takes
 /// memory.
