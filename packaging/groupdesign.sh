@@ -33,5 +33,4 @@ case $#:$1:$2 in
         exit
         ;;
 esac
-has_stack || give_up "the program needs a stack of $stack KiB, and the limit is $has: raise it (ulimit -s)"
 become "$program" "$@"

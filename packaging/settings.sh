@@ -4,15 +4,6 @@
 # A write past a limit of the size of files is an error of that write, and no signal.
 trap '' XFSZ
 
-# The stack that the program needs, in KiB.
-stack=1024
-
-# Whether there is as much stack as the program needs, or can be. Else `has` is what there is.
-has_stack() {
-    has=$(ulimit -S -s)
-    [ "$has" = unlimited ] || [ "$has" -ge "$stack" ] || ulimit -S -s "$stack" 2>/dev/null
-}
-
 # Goes on as the program, with the words behind it. It asks the C library for large pages, taken 32 MiB at a time: a long log
 # takes much memory, and mapping it in small ones took half the time.
 become() {

@@ -11,11 +11,10 @@ from tests.program import (
 )
 from tests.spelled import header, log
 from tests.test_limits import nested, nested_text
+from tests.test_statuses import COMMANDS as RUNS
 from tests.worked import TIE, TIE_SNAPSHOT, TIE_TEXT
 
 SMALL_STACK = 512 << 10
-# The launcher's own status, where it didn't run the program.
-NOT_RUN = 70
 COMMANDS = ["node", "rehearse", "churn", "replay", "upgrade", "snapshot", "view", "board"]
 
 
@@ -122,20 +121,25 @@ class Told(Case):
         words = node_words(1, free_addresses(1), "j")
         self.expect_told(words, b"create rect 0 0 10 10\n", JOURNAL_FAULT, "ready 1 of 1\n", "j", preexec_fn=limit)
 
-    # Deeply nested groups take no more of the stack than others. Where the limit may not be raised, that may be said instead.
+    # Deeply nested groups take no more of the stack than others. Nobody can raise the limit.
     def test_a_stack_of_512_kib_is_enough(self):
-        most = resource.getrlimit(resource.RLIMIT_STACK)[1]
-        for given, printed in [(TIE, TIE_TEXT), (nested(), nested_text())]:
-            ended = self.launch_with_stack(given, most)
-            self.assertEqual(ended.status, DONE)
-            self.assertTrue(ended.text == printed, "other lines")
-        ended = self.launch_with_stack(TIE, SMALL_STACK)
-        if ended.status == NOT_RUN:
-            self.assertEqual((ended.text, ended.said.count(b"stack of")), ("", 1))
-        else:
-            self.assertEqual((ended.text, ended.status), (TIE_TEXT, DONE))
+        runs = [(words, given, printed) for words, given, printed in RUNS if words[0] in COMMANDS]
+        for words, given, printed in [*runs, (["replay"], nested(), nested_text().encode())]:
+            self.expect_in_a_small_stack(words, given, printed)
+        typed = b"create rect 0 0 10 10\nundo\npoll\nstatus\n"
+        words = node_words(1, free_addresses(1), "small")
+        self.expect_in_a_small_stack(
+            words, typed, b"ready 1 of 1\nok 1.1\nok 2.1\npolled 0\nheld 2 kept 0 line 2 clock 2\n")
+        words = node_words(1, free_addresses(1), "small", "--resume")
+        self.expect_in_a_small_stack(words, b"status\n", b"ready 1 of 1\nheld 2 kept 0 line 2 clock 2\n")
+        churned = self.launch_in_a_small_stack(["churn", "--seed", "1", "--steps", "2000"], b"")
+        self.assertEqual((churned.status, churned.text.count("same yes")), (DONE, 1))
 
-    def launch_with_stack(self, given, most):
-        """A replay with a small stack, whose limit may be raised up to that."""
-        limit = (resource.RLIMIT_STACK, (SMALL_STACK, most))
-        return launch(self.folder, ["replay"], given, preexec_fn=lambda: resource.setrlimit(*limit))
+    def expect_in_a_small_stack(self, words, given, printed):
+        ended = self.launch_in_a_small_stack(words, given)
+        self.assertEqual((ended.status, ended.said), (DONE, b""), words)
+        self.assertTrue(ended.printed == printed, (words, ended.printed[:200]))
+
+    def launch_in_a_small_stack(self, words, given):
+        limit = (resource.RLIMIT_STACK, (SMALL_STACK, SMALL_STACK))
+        return launch(self.folder, words, given, preexec_fn=lambda: resource.setrlimit(*limit))
