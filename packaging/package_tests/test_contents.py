@@ -47,10 +47,10 @@ class Contents(WithTree):
         self.assertEqual(packaged, built)
 
     def test_the_files_of_the_bridge_are_there_and_no_tests(self):
-        wanted = sorted(f"page/{path.name}" for path in (ROOT / "page").glob("*.py"))
+        wanted = sorted(f"{part}/{path.name}" for part in ("carrier", "page") for path in (ROOT / part).glob("*.py"))
         found = [name for name in self.files("usr/share/groupdesign") if not name.startswith("page/static/")]
-        self.assertEqual(found, ["draw", *wanted])
-        self.assertGreater(len(wanted), 10)
+        self.assertEqual(sorted(found), sorted(["draw", *wanted]))
+        self.assertGreater(len(wanted), 30)
 
     def test_each_file_that_the_page_names_is_there(self):
         static = self.share / "groupdesign/page/static"
