@@ -8,7 +8,7 @@ _groupdesign() {
         return
     fi
     case $before in
-        --journal | --program)
+        --journal | --program | --ca)
             compopt -o filenames
             mapfile -t COMPREPLY < <(compgen -f -- "$word")
             return
@@ -25,7 +25,10 @@ _groupdesign() {
             ;;
     esac
     case ${COMP_WORDS[1]} in
-        draw) options='--session --site --journal --demo --port --open --program --help' ;;
+        draw)
+            options='--session --site --journal --demo --port --open --program --help'
+            options+=' --found --listen --broker --ca --invite --join --keep --retire'
+            ;;
         node) options='--resume --session --site --journal --help' ;;
         rehearse) options='--sites --help' ;;
         churn) options='--seed --steps --help' ;;

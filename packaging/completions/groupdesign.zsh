@@ -29,7 +29,11 @@ _groupdesign() {
             _arguments $asked '--session[number of the session]:number' '--site[own number]:number' \
                 '--journal[file of the log]:file:_files' '--demo[people on this machine]:number:(1 2 3 4)' \
                 '--port[port of the page]:port' '--open[open the page in a browser]' \
-                '--program[another build of the program]:file:_files' '*:address of a site:_hosts'
+                '--program[another build of the program]:file:_files' '*:address of a site:_hosts' \
+                '--found[found a session over a broker]:name' '--listen[run a broker here]:address' \
+                '--broker[a broker that is there]:address' '--ca[what vouches for it]:file:_files' \
+                '--invite[print a link for one person]' '--join[sit down at the seat of a link]:link' \
+                '--keep[keep a copy at the seat of a link]:link' '--retire[end a seat that was left for good]:seat'
             ;;
         node)
             _arguments $asked '--resume[go on from the journal]' '--session[number of the session]:number' \
