@@ -66,6 +66,13 @@ class Drawing:
             self.process.communicate()
 
 
+class Page(Socket):
+    """A page's socket, which waits as long as anything here."""
+
+    async def next(self, wanted, seconds=PATIENCE):
+        return await super().next(wanted, seconds)
+
+
 class Installed:
     """Tests of a command that is installed; mixed into a case that has `ana` and `ben`."""
 
@@ -171,7 +178,7 @@ class Installed:
             pages = []
             for address in addresses:
                 origin = re.match(r"http://[^/]+", address)[0]
-                pages.append(Socket(await client.ws_connect(f"{address}socket", headers={"Origin": origin})))
+                pages.append(Page(await client.ws_connect(f"{address}socket", headers={"Origin": origin})))
             for site, page, label in zip((1, 2), pages, ("House", "Tree")):
                 answer = await page.ask("batch", site, lines=[f"create rect 0 0 100 50 {label}"])
                 self.assertRegex(answer["answers"][0], r"^ok \d+\.\d+$")
@@ -182,4 +189,4 @@ class Installed:
         """Waits until the page was told of a drawing that has the label."""
         is_shown = lambda told: told["is"] == "picture" and label in str(told["items"])
         if not any(map(is_shown, page.told)):
-            await page.next(is_shown, PATIENCE)
+            await page.next(is_shown)

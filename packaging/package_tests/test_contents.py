@@ -118,7 +118,7 @@ class Contents(WithTree):
         unpacked = self.room / "archive" / top
         found = {str(path.relative_to(unpacked)): path for path in unpacked.rglob("*") if not path.is_dir()}
         documents = {f"share/doc/groupdesign/{name}" for name in ("LICENSE", "LICENSE-MIT", "LICENSE-APACHE")}
-        debian = {f"share/doc/groupdesign/{name}" for name in ("copyright", "changelog.gz")}
+        debian = {"share/doc/groupdesign/changelog.gz"}
         self.assertEqual(found.keys() - documents, {name.removeprefix("usr/") for name in self.files()} - debian)
         for name in found.keys() - documents:
             self.assertEqual(sum_of(found[name]), sum_of(self.tree / "usr" / name), name)
