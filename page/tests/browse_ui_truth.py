@@ -207,6 +207,24 @@ class Truth(WithTwoPages):
         wait_for(lambda: one.do(seen) is None)
         self.assertLessEqual(set(one.ask("window.seen")), {before, before + 3, all, None})
 
+    def test_43_what_the_other_one_deleted_is_put_back_from_the_history(self):
+        one, two = self.one, self.two
+        self.make(one, "create rect 300 300 100 80 Start", "fill @1 FFF2AE", "create rect 500 300 100 80", "group @1 @3", "create line 0 0 9 9")
+        before = self.wait_until_same()
+        (group,) = one.ids("group")
+        self.make(two, f"delete {group}")
+        wait_for(lambda: len(one.ids()) == 1)
+        one.press(Keys.ARROW_LEFT, Keys.ARROW_RIGHT, hold=["alt"])
+        self.assertRegex(one.text(".hist-line"), "deleted a group$")
+        one.picture("history-put-back")
+        one.find(".hist-card > .quiet").click()
+        self.assertIsNone(one.ask("ed.history.at"))
+        wait_for(lambda: len(one.ids()) == 4 and one.is_settled())
+        again = self.wait_until_same()
+        look = lambda shown: sorted(line.partition(" at ")[2] for line in shown)
+        self.assertEqual(look(again), look(before))
+        self.assertEqual(one.selected(), one.ids("group"))
+
     def test_5_the_slider_goes_by_keys_and_tells_what_it_shows(self):
         self.make(self.one, "create rect 300 300 100 80 First", "move @1 310 300", "create rect 500 300 100 80 Second")
         page = self.one

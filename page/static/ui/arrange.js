@@ -144,7 +144,7 @@ export async function remove(ed) {
   if (!gesture || gesture === before) return;
   const text = ed.node.sites > 1 ? `${gesture.name} for everybody` : gesture.name;
   const banner = ed.banner({
-    text, icon: "trash", action: "Put back", key: "Mod+Z", run: () => edits.undo(gesture), lasts: PUT_BACK_LASTS,
+    text, icon: "trash", action: "Put back", key: "Mod+Z", run: () => (ed.readOnly ? ed.refuse([{ why: ed.readOnly }]) : edits.undo(gesture)), lasts: PUT_BACK_LASTS,
   });
   gesture.turned = () => banner?.remove();
   await sent;

@@ -4,6 +4,7 @@ import { personColour } from "../board/colours.js";
 import { isRepaired, repairOf, stepDeedOf, timeOf, voidOf } from "./deeds.js";
 import { button, h, keyText } from "./h.js";
 import { icon } from "./icons.js";
+import { putBack, takenBy } from "./putting.js";
 
 /** @typedef {import("../core/types.js").Ed} Ed */
 /** @typedef {import("../core/types.js").Event} Event */
@@ -56,7 +57,10 @@ export class Card {
     const where = [placeOf(step, at, this.walk.events.length), timeOf(event), event.stamp].filter(Boolean).join(" · ");
     const line = h("div", { class: "hist-line" }, dot, h("b", { dir: "auto" }, who), ` ${what}`);
     const more = isRepaired(event) ? repairOf(ed, event) : voidOf(ed, event);
-    return [line, h("div", { class: "hist-more" }, where), more && h("div", { class: "hist-late" }, icon("late", 14), more)].filter(Boolean);
+    const taken = takenBy(ed, step, at);
+    const back = taken.length > 0 && h("button", { type: "button", class: "quiet", onclick: () => putBack(ed, taken) }, "Put back as new");
+    const late = more && h("div", { class: "hist-late" }, icon("late", 14), more);
+    return [line, h("div", { class: "hist-more" }, where), late, back].filter((part) => part instanceof Node);
   }
 
   /**
