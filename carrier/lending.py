@@ -21,6 +21,8 @@ NUMBER = struct.Struct(">H")
 MOST_PART, MOST_LOAN = 60_000, 40 << 20
 # So many seconds a seat has to give the next part, and so many lie between two questions to the same seat.
 PATIENCE, AGAIN = 6.0, 5.0
+# So many lie between two gives to the same seat.
+BETWEEN = 2.0
 
 
 def parts_of(records):
@@ -72,7 +74,7 @@ class Lending:
         """`send` sends a content of a kind to a seat; `hand` is called with a loan that leads to its head; `clock` gives seconds."""
         self.roster, self.seat, self.feeds, self.heads = roster, seat, feeds, heads
         self.send, self.hand, self.clock = send, hand, clock
-        self.loans, self.giving = {}, set()
+        self.loans, self.giving, self.given_at = {}, set(), {}
         # Who was asked last and since when, who comes next, and when each was asked.
         self.asked, self.asked_at, self.queue, self.times = None, 0.0, [], {}
 
@@ -141,9 +143,12 @@ class Lending:
     # What is given.
 
     def take_want(self, sender, content):
-        """Somebody misses records. One who is being given some isn't given more beside that."""
-        if len(content) == WANTED.size and sender not in self.giving:
+        """Somebody misses records. One who is being given some, or was just now, isn't given more."""
+        now = self.clock()
+        is_soon = sender in self.giving or now - self.given_at.get(sender, -BETWEEN) < BETWEEN
+        if len(content) == WANTED.size and not is_soon:
             self.giving.add(sender)
+            self.given_at[sender] = now
             task = asyncio.get_running_loop().create_task(self.give(sender, WANTED.unpack(content)))
             task.add_done_callback(lambda done: self.giving.discard(sender))
 

@@ -25,7 +25,7 @@ from page.server import Server
 # What comes has the node polled at once. For what doesn't come it is polled so seldom.
 BEAT = 1.0
 # So many seconds the broker has at the start. A seat that doesn't reach it goes on alone, and reaches it later.
-PATIENCE = 8
+PATIENCE, FIRST_PATIENCE = 8, 40
 
 
 def main(words):
@@ -98,9 +98,13 @@ async def sit(given, seat):
     retiring = Retiring(carrier, standing, given.journal)
     try:
         begin(carrier, seat)
-        if not await carrier.settle(PATIENCE):
-            why = carrier.broker.fault or "it doesn't answer"
-            say(f"the broker at {seat.broker} isn't reached: {why}. You can draw all the same: it is tried again")
+        if not await carrier.settle(PATIENCE if seat.begun else FIRST_PATIENCE):
+            why = f"the broker at {seat.broker} isn't reached: {carrier.broker.fault or 'it does not answer'}."
+            if not seat.begun and seat.seat != commands.FIRST:
+                # Only the broker knows whether the link was used before.
+                say(f"{why} Try again later: ./draw --journal {given.journal}")
+                return FAILED
+            say(f"{why} You can draw all the same: it is tried again")
         older = standing.begin()
         wrong = used_before(seat, standing) or older or (OWN if retiring.is_own else None)
         if wrong:

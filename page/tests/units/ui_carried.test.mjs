@@ -1,0 +1,45 @@
+// What the page makes of a session over a broker: whose seats are taken, and what is said of the broker.
+
+import assert from "node:assert/strict";
+import "./ui_stub.mjs";
+import { test } from "node:test";
+
+const { People } = await import("../../static/core/people.js");
+const { faultOf } = await import("../../static/ui/inviting.js");
+
+/** A node of site 2 of 16, of which nothing is known but these. */
+const nodeWith = (/** @type {any} */ fields) => ({
+  site: 2, sites: 16, who: [], peers: [], names: {}, carried: null, selections: new Map(), connected: true, waiting: 0, ...fields,
+});
+
+const peopleOf = (/** @type {any} */ fields) => {
+  const people = new People(/** @type {any} */ (nodeWith(fields)));
+  people.update();
+  return people;
+};
+
+const carried = { name: "Oak", broker: "h:1", up: true, fault: "", invites: 0, seats: [{ site: 5 }, { site: 1 }] };
+
+test("without a broker each site has a seat, and over one those that somebody has", () => {
+  assert.deepEqual(peopleOf({}).seats.map((seat) => seat.site), Array.from({ length: 16 }, (_, at) => at + 1));
+  const people = peopleOf({ carried });
+  assert.deepEqual(people.seats.map((seat) => [seat.site, seat.me]), [[1, false], [2, true], [5, false]]);
+  assert.equal(people.name(9), "Site 9");
+});
+
+test("a selection that is told beside the notes comes before the focus, and goes with its seat", () => {
+  const who = [{ site: 5, name: null, focus: "1.1" }, { site: 1, name: null, focus: "3.1" }];
+  const peers = [{ site: 1, away: false, heard: 0, name: null }, { site: 5, away: false, heard: 0, name: null }];
+  const selections = new Map([[5, new Set(["7.2", "8.2"])]]);
+  const looked = (/** @type {any} */ fields) => peopleOf({ carried, who, peers, selections, ...fields }).seats.map((seat) => [...seat.selection]);
+  assert.deepEqual(looked({}), [["3.1"], [], ["7.2", "8.2"]]);
+  const away = peers.map((peer) => ({ ...peer, away: true }));
+  assert.deepEqual(looked({ peers: away }), [[], [], []]);
+});
+
+test("a broker that isn't reached is said, with the reason where one is known", () => {
+  assert.equal(faultOf(null), null);
+  assert.equal(faultOf(carried), null);
+  assert.match(String(faultOf({ ...carried, up: false })), /^The broker at h:1 isn’t reached\. You can/);
+  assert.match(String(faultOf({ ...carried, up: false, fault: "it has expired" })), /isn’t reached: it has expired\. You can/);
+});
