@@ -16,7 +16,7 @@ from page.names import BadName, name_of
 MOST_BYTES, MOST_IDS, FARTHEST = 8_000, 64, 1e10
 ID = re.compile(r"[0-9]{1,15}\.[0-9]{1,2}")
 # Seconds between two contents, and until what hasn't changed is said again.
-BETWEEN, AGAIN = 0.05, 8.0
+BETWEEN, AGAIN = 0.05, 30.0
 
 
 def point_of(value):

@@ -15,6 +15,8 @@ from page.node import Busy, Ended
 TIMES = (0.0, 1.0, 4.0)
 # So many seconds lie between two tellings of who is there, where nothing but times has changed.
 TELL_EVERY = 5.0
+# So often is looked how many seats are free.
+COUNT_EVERY = 1.0
 
 
 async def renew(desk):
@@ -45,6 +47,7 @@ class Table:
         self.own, self.name = carrier.seat.seat, carrier.seat.roster.name
         self.heard, self.closed, self.node, self.due, self.renewing = set(), set(), None, [], None
         self.is_settled, self.told, self.told_at = False, None, 0.0
+        self.free, self.counted_at = 0, float("-inf")
         carrier.comings.append(self.heard.add)
         standing.looks.append(self.look)
         desk.audience.openings.append((desk.number, self.opening))
@@ -111,7 +114,9 @@ class Table:
             seats.append({"site": seat, "here": pace.is_here(now), "heard": ago, "missing": missing, "lies": self.lies(seat)})
         broker = self.carrier.broker
         own = {"name": self.name, "seats": seats, "up": broker.up, "fault": "" if broker.up else broker.fault}
-        return {**own, "broker": self.carrier.seat.broker, "invites": self.invites()}
+        if now - self.counted_at >= COUNT_EVERY:
+            self.free, self.counted_at = self.invites(), now
+        return {**own, "broker": self.carrier.seat.broker, "invites": self.free}
 
     def is_behind(self, seat):
         return seat in self.standing.heads.newest and seat in self.standing.heads.missing()

@@ -53,7 +53,7 @@ class Seats(unittest.TestCase):
 
     def test_what_stays_is_said_seldom_and_to_newcomers(self):
         times = []
-        for step in range(400):
+        for step in range(1300):
             self.time = 100 + step / 10
             self.one.look([2], "Ana")
             times += [step / 10] * len(self.sent)

@@ -2,6 +2,7 @@
 
 import { personColour } from "../board/colours.js";
 import { h } from "./h.js";
+import { seatWords, whatToCheck } from "./seating.js";
 import { count, initialOf } from "./words.js";
 
 /** @typedef {import("../core/types.js").Ed} Ed */
@@ -122,7 +123,7 @@ export class Roster {
   /** Fills the list, where it isn't filled with just that: who presses one of its buttons has to meet it again. */
   fill() {
     const { seats } = this.ed.people;
-    const words = this.ed.standing.inWords();
+    const words = `${this.ed.standing.inWords()} ${whatToCheck(this.ed.node.carried)}`.trim();
     const looks = seats.map((seat) => [this.shown, this.looksAt(seat) ?? "", this.stateWords(seat)]);
     const key = JSON.stringify([words, looks]);
     if (key === this.listed) return;
@@ -145,7 +146,8 @@ export class Roster {
   /** @param {Seat} seat */
   stateWords(seat) {
     const looks = this.looksAt(seat);
-    return `site ${seat.site} · ${this.state(seat)}${looks ? `, looks at ${this.ed.short(looks)}` : ""}`;
+    const state = this.state(seat) + seatWords(this.ed.node.carried, seat.site);
+    return `site ${seat.site} · ${state}${looks ? `, looks at ${this.ed.short(looks)}` : ""}`;
   }
 
   /** @param {Seat} seat */

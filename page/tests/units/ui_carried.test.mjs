@@ -5,6 +5,7 @@ import "./ui_stub.mjs";
 import { test } from "node:test";
 
 const { People } = await import("../../static/core/people.js");
+const { ago, seatWords, whatToCheck } = await import("../../static/ui/seating.js");
 const { faultOf } = await import("../../static/ui/inviting.js");
 
 /** A node of site 2 of 16, of which nothing is known but these. */
@@ -42,4 +43,24 @@ test("a broker that isn't reached is said, with the reason where one is known", 
   assert.equal(faultOf(carried), null);
   assert.match(String(faultOf({ ...carried, up: false })), /^The broker at h:1 isn’t reached\. You can/);
   assert.match(String(faultOf({ ...carried, up: false, fault: "it has expired" })), /isn’t reached: it has expired\. You can/);
+});
+
+test("what is said of a seat, and what to check where nobody is heard", () => {
+  const seat = { site: 5, here: false, heard: null, missing: 0, lies: false };
+  const words = (/** @type {any} */ fields) => seatWords({ ...carried, seats: [{ ...seat, ...fields }] }, 5);
+  assert.equal(seatWords(null, 5), "");
+  assert.equal(seatWords({ ...carried, seats: [] }, 5), "");
+  assert.equal(words({}), "");
+  assert.equal(words({ heard: 3, here: true }), "");
+  assert.equal(words({ heard: 30, missing: 1 }), ", last heard 30 seconds ago, 1 edit of it not here yet");
+  assert.match(words({ lies: true }), /two stories/);
+  assert.deepEqual([1, 89, 90, 5399, 5400, 7200].map(ago), [
+    "1 second ago", "89 seconds ago", "2 minutes ago", "90 minutes ago", "2 hours ago", "2 hours ago",
+  ]);
+  const check = (/** @type {any} */ fields) => whatToCheck({ ...carried, seats: [seat], ...fields });
+  assert.equal(whatToCheck(null), "");
+  assert.equal(check({ seats: [{ ...seat, here: true }], up: false }), "");
+  assert.match(check({ up: false }), /Is the broker at h:1 running/);
+  assert.match(check({ seats: [] }), /invite somebody/);
+  assert.match(check({}), /Does \.\/draw run at the others/);
 });

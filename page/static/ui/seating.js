@@ -1,0 +1,41 @@
+// What is known of the seats of a session over a broker, in words.
+
+import { count } from "./words.js";
+
+/** @typedef {import("../core/types.js").Carried} Carried */
+
+/**
+ * How long ago something was.
+ * @param {number} seconds
+ */
+export function ago(seconds) {
+  if (seconds < 90) return `${count(Math.round(seconds), "second")} ago`;
+  if (seconds < 90 * 60) return `${count(Math.round(seconds / 60), "minute")} ago`;
+  return `${count(Math.round(seconds / 3600), "hour")} ago`;
+}
+
+/**
+ * What is said of a seat behind whether it is there.
+ * @param {Carried | null} carried
+ * @param {number} site
+ */
+export function seatWords(carried, site) {
+  const seat = carried?.seats.find((each) => each.site === site);
+  if (!seat) return "";
+  const words = [];
+  if (!seat.here && seat.heard !== null) words.push(`last heard ${ago(seat.heard)}`);
+  if (seat.missing) words.push(`${count(seat.missing, "edit")} of it not here yet`);
+  if (seat.lies) words.push("has told two stories: what it drew differs from one to another");
+  return words.map((each) => `, ${each}`).join("");
+}
+
+/**
+ * What to check where nobody else is heard, or nothing.
+ * @param {Carried | null} carried
+ */
+export function whatToCheck(carried) {
+  if (!carried || carried.seats.some((seat) => seat.here)) return "";
+  if (!carried.up) return `Is the broker at ${carried.broker} running, and does this machine reach it?`;
+  if (!carried.seats.length) return "Nobody else has a seat yet: invite somebody.";
+  return "The broker is reached, and nobody else is connected to it. Does ./draw run at the others?";
+}
