@@ -1,16 +1,24 @@
-"""When a frame for a seat goes out: a new one at once, and the same again ever more seldom."""
+"""When a frame for a seat goes out: one with something new at once, and the same again ever more seldom."""
 
 # Seconds until the same frame goes out again: at first, and at most. A seat that isn't there is only sent one so often.
 FIRST, LONGEST = 1.0, 10.0
+# Where a frame says how many events its seat has, and its clock. One that has nothing else that is new tells a seat what it may
+# be sure of, which can wait so long.
+BEAT, BETWEEN = slice(13, 21), 0.5
 # A seat that said nothing for so many seconds isn't there.
 GONE = 2.5 * LONGEST
+
+
+def news_of(frame):
+    """What of a frame goes out at once where it is new: acknowledgement, note and events."""
+    return frame[: BEAT.start] + frame[BEAT.stop :]
 
 
 class Pace:
     """What was sent to one seat, and when it was heard. All times are seconds of one clock that is handed in."""
 
     def __init__(self):
-        self.frame, self.due_at, self.pause, self.heard_at = None, float("-inf"), FIRST, None
+        self.frame, self.sent_at, self.due_at, self.pause, self.heard_at = b"", float("-inf"), float("-inf"), FIRST, None
 
     def is_here(self, now):
         """Whether the seat was heard lately."""
@@ -30,15 +38,16 @@ class Pace:
 
     def again(self):
         """What was sent may be lost: the next frame goes out at once."""
-        self.frame, self.due_at, self.pause = None, float("-inf"), FIRST
+        self.frame, self.due_at, self.pause = b"", float("-inf"), FIRST
 
     def takes(self, frame, now):
         """Whether a frame goes out now. It has then been sent."""
-        if self.is_here(now) and frame != self.frame:
+        is_new = news_of(frame) != news_of(self.frame) or (frame != self.frame and now - self.sent_at >= BETWEEN)
+        if self.is_here(now) and is_new:
             self.pause = FIRST
         elif now >= self.due_at:
             self.pause = min(2 * self.pause, LONGEST) if self.is_here(now) else LONGEST
         else:
             return False
-        self.frame, self.due_at = frame, now + self.pause
+        self.frame, self.sent_at, self.due_at = frame, now, now + self.pause
         return True

@@ -147,6 +147,7 @@ def desk_of(given, seat, carrier, audience):
     def tell(line):
         desk.tell_news([{"what": "said", "line": line}])
 
+    desk.is_woken = True
     carrier.wake, carrier.runs, carrier.say = wake, lambda: desk.node is not None and desk.node.status is None, tell
     return desk
 

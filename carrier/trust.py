@@ -65,6 +65,8 @@ def context(trust, certificate):
     if trust.kind == EXACT:
         # The one certificate is the right one, whatever name it has.
         made.check_hostname = False
+        # Nor does it matter what an authority would have put into it.
+        made.verify_flags &= ~ssl.VERIFY_X509_STRICT
     if trust.kind != SYSTEM:
         # An authority in the middle of a chain will do.
         made.verify_flags |= ssl.VERIFY_X509_PARTIAL_CHAIN

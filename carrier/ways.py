@@ -28,9 +28,9 @@ class Ways:
     """The sockets of all other seats. `sent` is called with a seat and the newest frame that the node sent to it."""
 
     def __init__(self, seat, seats, sent):
-        self.sent, self.loop, self.node = sent, asyncio.get_running_loop(), (HERE, free_port())
+        self.sent, self.loop, self.seat, self.seats = sent, asyncio.get_running_loop(), seat, seats
         self.sockets = {other: bound() for other in range(1, seats + 1) if other != seat}
-        self.seat, self.seats = seat, seats
+        self.node = (HERE, free_port())
         for other, way in self.sockets.items():
             self.loop.add_reader(way, self.read, other, way)
 

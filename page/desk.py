@@ -36,6 +36,8 @@ class Desk:
         # Of each gesture of several edits since this program started the clocks of the first and the last one.
         self.gestures = []
         self.node, self.rounds, self.tasks = None, None, []
+        # Whether the rounds are woken whenever a datagram has come.
+        self.is_woken = False
         # What pages ask of a session over a broker is asked of this, and the whole names of others come from there.
         self.carried, self.whole_names = None, dict
         self.starting, self.typing = asyncio.Lock(), asyncio.Lock()

@@ -40,7 +40,7 @@ class Rounds:
             while True:
                 await self.pause(due - time.monotonic())
                 await self.round()
-                is_soon = time.monotonic() < self.soon_until
+                is_soon = time.monotonic() < self.soon_until and not self.desk.is_woken
                 due = time.monotonic() + (min(SOON, self.poll_every) if is_soon else self.poll_every)
         except Ended:
             self.desk.read_history()

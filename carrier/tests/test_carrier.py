@@ -10,6 +10,7 @@ from carrier.files import Seat
 from carrier.frames import frame
 from carrier.keys import Keys
 from carrier.sealing import FRAME, WANT, Seals
+from carrier.tests.logs import create
 from carrier.tests.rosters import SEEDS, SESSION, roster_with, until
 from carrier.trust import SYSTEM, Trust
 
@@ -112,12 +113,13 @@ class Carried(unittest.IsolatedAsyncioTestCase):
     async def test_frames_of_the_node_go_out_sealed(self):
         self.connect()
         self.receive(self.others[1].seal(2, WANT, b""))
+        frames = {clock: frame(roster_with().number, 2, 1, [create(clock, 2, clock)], clock, clock) for clock in (1, 2, 3)}
         for clock in (1, 2, 2, 3):
-            self.node.sendto(self.frame(2, 1, clock), ("127.0.0.1", self.carrier.ways.port(1)))
+            self.node.sendto(frames[clock], ("127.0.0.1", self.carrier.ways.port(1)))
             await asyncio.sleep(0.05)
         await until(lambda: len(self.broker.sent) == 3)
         opened = [(name, self.others[1].opened(2, data)) for name, data in self.broker.sent]
-        self.assertEqual(opened, [(f"{ROOT}/1/2", (FRAME, self.frame(2, 1, clock))) for clock in (1, 2, 3)])
+        self.assertEqual(opened, [(f"{ROOT}/1/2", (FRAME, frames[clock])) for clock in (1, 2, 3)])
 
     async def test_nothing_goes_out_or_in_where_it_is_not_to(self):
         self.node.sendto(self.frame(2, 1), ("127.0.0.1", self.carrier.ways.port(1)))

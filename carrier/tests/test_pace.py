@@ -2,7 +2,7 @@
 
 import unittest
 
-from carrier.pace import FIRST, GONE, LONGEST, Pace
+from carrier.pace import BETWEEN, FIRST, GONE, LONGEST, Pace
 
 
 class Paces(unittest.TestCase):
@@ -28,6 +28,21 @@ class Paces(unittest.TestCase):
         self.assertEqual(gaps[:3], [FIRST, 2 * FIRST, 4 * FIRST])
         self.assertEqual(gaps, sorted(gaps))
         self.assertEqual(set(gaps[4:]), {LONGEST})
+
+    def test_a_frame_with_another_clock_alone_can_wait(self):
+        def made(clock=1, ack=0, count=1, events=b""):
+            head = b"GDOF\x02" + bytes(4) + b"\1\2" + ack.to_bytes(2, "big") + count.to_bytes(2, "big")
+            return head + clock.to_bytes(6, "big") + bytes(10) + bytes([1]) + events
+
+        pace = Pace()
+        pace.hear(0.0)
+        self.assertTrue(pace.takes(made(), 0.0))
+        self.assertEqual([pace.takes(made(clock=2 + step), step / 100) for step in range(50)], [False] * 50)
+        self.assertTrue(pace.takes(made(clock=99), BETWEEN))
+        # An acknowledgement, or an event, doesn't.
+        self.assertTrue(pace.takes(made(clock=99, ack=1), BETWEEN))
+        self.assertTrue(pace.takes(made(clock=99, ack=1, events=b"event"), BETWEEN))
+        self.assertFalse(pace.takes(made(clock=100, ack=1, count=2, events=b"event"), BETWEEN))
 
     def test_who_isn_t_there_gets_one_now_and_then_however_they_differ(self):
         pace = Pace()
