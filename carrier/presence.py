@@ -1,7 +1,8 @@
 """Who is called what, points where and has selected what: it travels beside the frames, sealed, and is kept nowhere.
 
-A content is a JSON object of at most 8,000 bytes: `at` is a number that rises from one to the next, also over runs; then `name`, a
-text of at most 64 bytes; `point`, two numbers of the board or null; `selection`, at most 64 ids; or `bye`, true, where a seat goes.
+A content is a JSON object of at most 8,000 bytes: `at` is a number that rises from one to the next, also over runs; then `name`,
+a text of at most 64 bytes; `point`, two numbers of the board or null; `selection`, at most 64 ids; or `bye`, true, where a seat
+goes.
 """
 
 import json

@@ -15,8 +15,8 @@ from carrier.sealing import GIVE, WANT
 LOOK, BETWEEN = 0.25, 0.5
 OLDER = (
     "the journal {journal} is older than what this seat has told the others: it has {held} of its own edits, and they know of "
-    "{told}. It is a copy that was put back, or this seat was used on another machine too. Nothing was sent. Go on with the newest "
-    "journal, on one machine; where that is lost, ask for a link to another seat"
+    "{told}. It is a copy that was put back, or this seat was used on another machine too. Nothing was sent. Go on with the "
+    "newest journal, on one machine; where that is lost, ask for a link to another seat"
 )
 ELSEWHERE = (
     "this seat draws elsewhere too: the others know of edits that this journal hasn't. Nothing more is sent or taken. End this "

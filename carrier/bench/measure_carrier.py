@@ -30,7 +30,8 @@ def asked():
 GIVEN = asked()
 os.environ["CARRIER_PROGRAM"] = str(GIVEN.program.resolve())
 
-from carrier.tests.members import WithMembers  # noqa: E402 - it takes the program when it is loaded
+# It takes the program when it is loaded.
+from carrier.tests.members import WithMembers  # noqa: E402
 
 
 class Measured(WithMembers):

@@ -74,7 +74,8 @@ class Pages(WithFolder):
         self.seen(ana, "ed.people.seats.map((seat) => seat.here).join()", "true,true")
         self.seen(ana, "ed.node.carried.invites", 14)
         self.points_and_selections(ana, ben)
-        self.assertEqual([entry for page in (ana, ben) for entry in page.driver.get_log("browser") if entry["level"] == "SEVERE"], [])
+        logged = [entry for page in (ana, ben) for entry in page.driver.get_log("browser")]
+        self.assertEqual([entry for entry in logged if entry["level"] == "SEVERE"], [])
         pictures = ROOT / "carrier/out/screenshots"
         pictures.mkdir(parents=True, exist_ok=True)
         ana.driver.save_screenshot(str(pictures / "together.png"))

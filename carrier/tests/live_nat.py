@@ -38,6 +38,7 @@ def why_no_network():
     try:
         call("ip", "netns", "add", name)
         call("ip", "netns", "exec", name, "nft", "-f", "-", input=NAT)
+        call("ip", "link", "add", "one", "netns", name, "type", "veth", "peer", "name", "other", "netns", name)
     except subprocess.CalledProcessError as fault:
         return f"no networks can be made: {fault.stderr.strip()}"
     finally:

@@ -136,7 +136,12 @@ class WithMembers(WithFolder):
         client.username_pw_set(user, password or user)
         client.on_message = lambda _, __, message: came(message.topic, message.payload)
         answers = []
-        client.on_connect = lambda _, __, ___, code, *rest: (answers.append(code), client.subscribe([(each, 0) for each in topics]))
+
+        def connected(client, _, flags, code, *rest):
+            answers.append(code)
+            client.subscribe([(each, 0) for each in topics])
+
+        client.on_connect = connected
         client.connect_async(host, int(port))
         client.loop_start()
         self.addCleanup(client.loop_stop)

@@ -132,10 +132,10 @@ class SignedHeads(WithJournal):
 class Frames(unittest.TestCase):
     def test_the_worked_frame_of_the_formats(self):
         """docs/FORMATS.md, section 8, but for what it acknowledges."""
-        record = bytes.fromhex("000000000001 02 0001 01 01 00000000 00000000 0000000A 0000000A 00".replace(" ", ""))
+        record = bytes.fromhex("000000000001 02 0001 01 01 00000000 00000000 0000000A 0000000A 00")
         self.assertEqual(
             frame(7, 2, 1, [record], 1, 1),
-            bytes.fromhex("47444F46 02 00000007 02 01 0000 0001 000000000001 0000 00000000000000 00 01".replace(" ", "")) + record,
+            bytes.fromhex("47444F46 02 00000007 02 01 0000 0001 000000000001 0000 00000000000000 00 01") + record,
         )
 
     def test_eight_records_a_frame(self):

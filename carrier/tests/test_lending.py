@@ -22,8 +22,10 @@ class Member:
         self.feeds = Feeds(self.path, SESSION, SEATS)
         self.feeds.read_on()
         self.heads = Heads(roster_with(), self.feeds)
-        send = lambda to, kind, content: self.sent.append((to, kind, content))  # noqa: E731 - it stands in for a carrier's
-        self.lending = Lending(roster_with(), seat, self.feeds, self.heads, send, self.handed.append, lambda: self.time)
+        self.lending = Lending(roster_with(), seat, self.feeds, self.heads, self.send, self.handed.append, lambda: self.time)
+
+    def send(self, to, kind, content):
+        self.sent.append((to, kind, content))
 
     def wants(self, other):
         """Asks another seat. Gives the content of the want."""

@@ -39,8 +39,9 @@ class Seats(unittest.IsolatedAsyncioTestCase):
         self.is_settled, self.renewed, self.heads = False, 0, {}
         seat = types.SimpleNamespace(seat=1, roster=roster_with(), broker="h:1")
         broker = types.SimpleNamespace(up=True, fault="")
+        paces, wake = dict.fromkeys(range(2, 17), pace), lambda: None
         self.carrier = types.SimpleNamespace(
-            seat=seat, comings=[], ways=ways, settled=self.settled, wake=lambda: None, broker=broker, paces={s: pace for s in range(2, 17)}
+            seat=seat, comings=[], ways=ways, settled=self.settled, wake=wake, broker=broker, paces=paces
         )
         self.feeds = {seat: feed(0) for seat in range(1, SEATS + 1)}
         heads = types.SimpleNamespace(newest=self.heads, liars=set(), missing=lambda: [])
