@@ -80,6 +80,9 @@ class Page:
     """A page in a browser's window, by what a person does in it and sees. Places are of the board, which is shown at 100 %
     with its place 0 0 at the window's top left, unless the view was moved."""
 
+    # When the last event of fingers was, by its own time.
+    touched_at = 0
+
     def __init__(self, driver):
         self.driver = driver
         self.come()
@@ -243,24 +246,28 @@ class Page:
             finger.create_pointer_up(0)
         actions.perform()
 
-    def touch(self, kind, *places, **more):
-        """One event of fingers, which are at places of the window."""
+    def touch(self, kind, *places, after=None):
+        """One event of fingers, which are at places of the window, so many seconds behind the last one by its own time, or now."""
         points = [{"x": x, "y": y, "id": number} for number, (x, y) in enumerate(places)]
-        self.driver.execute_cdp_cmd("Input.dispatchTouchEvent", {"type": kind, "touchPoints": points, **more})
+        self.touched_at = max(time.time(), self.touched_at + 0.01) if after is None else self.touched_at + after
+        event = {"type": kind, "touchPoints": points, "timestamp": self.touched_at}
+        self.driver.execute_cdp_cmd("Input.dispatchTouchEvent", event)
 
     def swipe(self, *way):
-        """A finger that goes over places of the window; a tap where there is one alone."""
+        """A finger that goes over places of the window; a tap where there is one alone. It comes to rest before it goes up: a
+        browser takes a tap behind a fling as what stops that."""
         self.touch("touchStart", way[0])
         for place in way[1:]:
-            self.touch("touchMove", place)
-        self.touch("touchEnd")
+            self.touch("touchMove", place, after=0.03)
+        if way[1:]:
+            self.touch("touchMove", way[-1], after=0.3)
+        self.touch("touchEnd", after=0.02)
 
     def tap_twice(self, place):
         """Two taps 100 ms apart by their own times, however long the browser takes for them."""
-        began = time.time()
-        for count in (1, 2):
-            self.touch("touchStart", place, timestamp=began + 0.1 * count)
-            self.touch("touchEnd", timestamp=began + 0.1 * count + 0.01)
+        self.swipe(place)
+        self.touch("touchStart", place, after=0.08)
+        self.touch("touchEnd", after=0.02)
 
     def tap_on(self, selector):
         """A tap on an element, which is brought into view. The browser makes a click of it some time behind."""
@@ -328,7 +335,7 @@ class Page:
         script = """
         const done = arguments[0];
         document.getAnimations().forEach((each) => each.finish());
-        requestIdleCallback(() => requestAnimationFrame(() => requestAnimationFrame(() => done())));
+        requestIdleCallback(() => requestAnimationFrame(() => requestAnimationFrame(() => done())), { timeout: 1000 });
         """
         self.driver.execute_async_script(script)
 
