@@ -216,6 +216,8 @@ class Truth(WithTwoPages):
         wait_for(lambda: len(one.ids()) == 1)
         one.press(Keys.ARROW_LEFT, Keys.ARROW_RIGHT, hold=["alt"])
         self.assertRegex(one.text(".hist-line"), "deleted a group$")
+        # It is lit where it was.
+        self.assertEqual(one.ask("ed.overlay.flashing.list.map((each) => each.where)"), [{"x0": 300, "y0": 300, "x1": 600, "y1": 380}])
         one.picture("history-put-back")
         one.find(".hist-card > .quiet").click()
         self.assertIsNone(one.ask("ed.history.at"))

@@ -1,7 +1,7 @@
 // The history bar: all events in stamp order. The slider shows the drawing as it was behind any of them, play and keys walk
 // through by gestures where these are known, and a card says who did what, when, and how a late one was repaired.
 
-import { boxOf } from "../board/boxes.js";
+import { around, boxOf } from "../board/boxes.js";
 import { personColour } from "../board/colours.js";
 import { Arrivals } from "./arrivals.js";
 import { Card, placeOf } from "./card.js";
@@ -9,6 +9,7 @@ import { deedOf, isRepaired, repairOf, stepDeedOf, voidOf } from "./deeds.js";
 import { button, h, keyText } from "./h.js";
 import { icon } from "./icons.js";
 import { Lane } from "./lane.js";
+import { under } from "./putting.js";
 import { stepAt, stepFrom } from "./steps.js";
 
 /** @typedef {import("../core/types.js").Ed} Ed */
@@ -161,7 +162,7 @@ export class HistoryBar {
     const event = step[step.length - 1];
     const { who, what } = stepDeedOf(ed, step);
     const ids = [...new Set(step.map((each) => each.id))].filter((id) => ed.model.byId.has(id));
-    const place = ids.length ? null : this.placeBefore(event, at);
+    const place = ids.length ? null : this.placeBefore(step, at);
     const redone = event.late?.redone ?? [];
     const came = event.late?.what === "dropped" ? "came late, overwritten" : `came late, ${redone.length} redone`;
     const isLate = isRepaired(event);
@@ -174,14 +175,14 @@ export class HistoryBar {
   }
 
   /**
-   * Where the object of an event was before it.
-   * @param {Event} event
+   * Where the objects of a step were before it.
+   * @param {Event[]} step
    * @param {number} at
    * @returns {Box | null}
    */
-  placeBefore(event, at) {
-    const was = this.ed.node.itemsAt(at - 1).find((/** @type {{id: string}} */ item) => item.id === event.id);
-    return was && was.kind !== "group" ? boxOf(was.x, was.y, was.w, was.h) : null;
+  placeBefore(step, at) {
+    const were = under(this.ed.node.itemsAt(at - step.length), new Set(step.map((event) => event.id)));
+    return around(were.map((was) => (was.kind === "group" ? null : boxOf(was.x, was.y, was.w, was.h))));
   }
 
   /**
@@ -217,7 +218,7 @@ export class HistoryBar {
     this.go(k);
     if (this.at === null) return;
     const event = this.events[this.at - 1];
-    const box = event && (ed.model.boxOf([event.id]) ?? this.placeBefore(event, this.at));
+    const box = event && (ed.model.boxOf([event.id]) ?? this.placeBefore([event], this.at));
     if (box) ed.camera.reveal(box, ed.pad());
     ed.say(event ? this.words(stepAt(ed.node, this.at), this.at) : "");
   }

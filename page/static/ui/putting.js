@@ -8,7 +8,20 @@ import { count } from "./words.js";
 /** @typedef {import("../core/types.js").Plain} Plain */
 
 /**
- * What the deletes of a step took away, each group before its members, from bottom to top.
+ * These objects and all that is in them, in their order.
+ * @param {Plain[]} plains each group before its members
+ * @param {Set<string>} ids
+ */
+export function under(plains, ids) {
+  const found = new Set(ids);
+  return plains.filter((plain) => {
+    if (plain.parent !== null && found.has(plain.parent)) found.add(plain.id);
+    return found.has(plain.id);
+  });
+}
+
+/**
+ * What the deletes of a step took away, from bottom to top.
  * @param {Ed} ed
  * @param {Event[]} step
  * @param {number} at how many events are shown
@@ -16,14 +29,7 @@ import { count } from "./words.js";
  */
 export function takenBy(ed, step, at) {
   const gone = new Set(step.filter((event) => event.op === "delete").map((event) => event.id));
-  if (!gone.size) return [];
-  /** @type {Set<string>} */
-  const taken = new Set();
-  return ed.node.itemsAt(at - step.length).filter((/** @type {Plain} */ plain) => {
-    const isTaken = gone.has(plain.id) || taken.has(plain.parent ?? "");
-    if (isTaken) taken.add(plain.id);
-    return isTaken;
-  });
+  return gone.size ? under(ed.node.itemsAt(at - step.length), gone) : [];
 }
 
 /**

@@ -31,3 +31,16 @@ test("an event that came in between parts a gesture, and where none is known eac
   const none = { site: 1, events: events("1.1", "2.1"), gestures: [] };
   assert.deepEqual([stepFrom(none, 0, 1), stepFrom(none, 2, -1), stepFrom(none, 2, 1), stepFrom(none, 0, -1)], [1, 1, 2, 0]);
 });
+
+test("what the deletes of a step took away, with all that was in it, as it was before the step", async () => {
+  await import("./ui_stub.mjs");
+  const { takenBy } = await import("../../static/ui/putting.js");
+  const plain = (id, parent = null) => ({ id, parent });
+  const before = [plain("9.1"), plain("8.1", "9.1"), plain("1.1", "8.1"), plain("2.1", "9.1"), plain("3.1"), plain("4.1")];
+  const asked = [];
+  const ed = { node: { itemsAt: (k) => (asked.push(k), before) } };
+  const step = [{ op: "delete", id: "9.1" }, { op: "move", id: "3.1" }, { op: "delete", id: "4.1" }];
+  assert.deepEqual(takenBy(ed, step, 20).map((each) => each.id), ["9.1", "8.1", "1.1", "2.1", "4.1"]);
+  assert.deepEqual(asked, [17]);
+  assert.deepEqual(takenBy(ed, [step[1]], 20), []);
+});
