@@ -14,6 +14,7 @@ from carrier.mosquitto import NoBroker, OwnBroker
 from carrier.roster import SEATS, SESSION, BadRoster, Roster, roster_of
 from carrier.showing import modules_of, show_code
 from page.addresses import BadAddress, parts_of
+from page.placed import CALLED
 
 PATIENCE = 20
 FIRST = 1
@@ -27,7 +28,7 @@ def check_new(journal):
     """Raises `Wrong` where something of a seat lies there already."""
     for path in (Path(journal), Seat.path(journal), Founder.path(journal), Path(f"{journal}.broker")):
         if path.exists():
-            raise Wrong(f"{path} is there already: `./draw --journal {journal}` goes on with it, or name another file")
+            raise Wrong(f"{path} is there already: `{CALLED} --journal {journal}` goes on with it, or name another file")
 
 
 def found(given):
@@ -62,7 +63,7 @@ def found(given):
 
 def told_when_founded(given, roster):
     """What the founder is told to do next."""
-    lines = [f"{roster.name} is founded. `./draw --invite --journal {given.journal}` prints a link for one person"]
+    lines = [f"{roster.name} is founded. `{CALLED} --invite --journal {given.journal}` prints a link for one person"]
     if given.broker:
         lines.append(f"the rules and passwords for the broker are in {given.journal}.broker: who runs it takes them in there")
     return lines
@@ -74,7 +75,7 @@ def founders_journal(journal):
         return journal
     here = sorted(Path().glob("*.founder"))
     if len(here) != 1:
-        raise Wrong("name the founder's journal: ./draw --invite --journal PATH")
+        raise Wrong(f"name the founder's journal: {CALLED} --invite --journal PATH")
     return Path(str(here[0]).removesuffix(".founder"))
 
 
@@ -130,7 +131,7 @@ def retire(given):
         raise Wrong(f"who founded the session retires seats: there is no {Founder.path(journal)}") from None
     except (BadFile, OSError) as why:
         raise Wrong(str(why)) from None
-    print(f"seat {given.retire} is retired as soon as ./draw --journal {journal} runs and has all that it signed", flush=True)
+    print(f"seat {given.retire} is retired as soon as {CALLED} --journal {journal} runs and has all that it signed", flush=True)
 
 
 def join(given):

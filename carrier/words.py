@@ -8,6 +8,7 @@ import sys
 from pathlib import Path
 
 from page.addresses import BadAddress, parts_of
+from page.placed import CALLED
 
 BEGIN = ("--found", "--join", "--keep", "--invite", "--retire")
 # Words of a node with addresses, or of a demonstration.
@@ -85,7 +86,7 @@ def seat(text):
 def asked(words, program):
     """What the command line asks for. `program` is the built groupdesign where none is named."""
     about, shape = "Draws together over a broker.", argparse.RawDescriptionHelpFormatter
-    parser = argparse.ArgumentParser(prog="./draw", description=about, epilog=HELP, formatter_class=shape)
+    parser = argparse.ArgumentParser(prog=CALLED, description=about, epilog=HELP, formatter_class=shape)
     add = parser.add_argument
     add("--found", metavar="NAME", help="found a session with this name")
     add("--listen", metavar="HOST:PORT", type=address, help="start a broker here, which the others reach at this address")

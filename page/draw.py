@@ -19,16 +19,9 @@ from page.demo import MOST_SITES, Proxy
 from page.desk import Desk
 from page.lines import meaning_of
 from page.node import Ended
+from page.placed import CALLED, PROGRAM, ROOT, TO_BUILD
 from page.server import Server
 
-ROOT = Path(__file__).resolve().parent.parent
-# In a checkout the launcher stands beside the folder of this page. Where it is installed, as share/groupdesign/page, the command
-# stands in bin.
-LAUNCHER = ROOT / "groupdesign"
-IS_INSTALLED = not LAUNCHER.exists()
-PROGRAM = ROOT.parent.parent / "bin/groupdesign" if IS_INSTALLED else LAUNCHER
-CALLED = "groupdesign draw" if IS_INSTALLED else "./draw"
-TO_BUILD = "" if IS_INSTALLED else " ./groupdesign builds it;"
 DEMO_SESSION = 7
 MOST_SESSION = 2**32 - 1
 USAGE, FAILED, BROKEN = 2, 1, 130
@@ -49,7 +42,8 @@ def asked(words):
     parser = argparse.ArgumentParser(
         prog=CALLED,
         description="Draws together in a browser, over a node of one's own.",
-        epilog=f"For example: {CALLED} --demo 2 --open",
+        epilog=f"for example {CALLED} --demo 2 --open\n\n{carried.HELP}",
+        formatter_class=argparse.RawDescriptionHelpFormatter,
     )
     add = parser.add_argument
     add("--session", metavar="N", type=number_in(0, MOST_SESSION), help="the session's number, the same at all sites")
@@ -60,7 +54,6 @@ def asked(words):
     add("--port", metavar="N", type=number_in(0, 65_535), default=0, help="the page's port; any free one if 0")
     add("--open", action="store_true", help="open the page in a browser")
     add("--program", metavar="PROGRAM", type=Path, default=PROGRAM, help="another built groupdesign")
-    parser.epilog, parser.formatter_class = carried.HELP, argparse.RawDescriptionHelpFormatter
     given = parser.parse_args(words)
     own = [given.session, given.site, given.journal]
     if given.demo is None and (None in own or not given.addresses):

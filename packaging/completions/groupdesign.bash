@@ -18,6 +18,7 @@ _groupdesign() {
             return
             ;;
         --session | --site | --sites | --seed | --steps | --demo | --port) return ;;
+        --found | --listen | --broker | --join | --keep | --retire) return ;;
         '<' | '>')
             compopt -o filenames
             mapfile -t COMPREPLY < <(compgen -f -- "$word")

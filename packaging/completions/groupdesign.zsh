@@ -29,11 +29,10 @@ _groupdesign() {
             _arguments $asked '--session[number of the session]:number' '--site[own number]:number' \
                 '--journal[file of the log]:file:_files' '--demo[people on this machine]:number:(1 2 3 4)' \
                 '--port[port of the page]:port' '--open[open the page in a browser]' \
-                '--program[another build of the program]:file:_files' '*:address of a site:_hosts' \
-                '--found[found a session over a broker]:name' '--listen[run a broker here]:address' \
-                '--broker[a broker that is there]:address' '--ca[what vouches for it]:file:_files' \
+                '--program[another build of the program]:file:_files' '--found[found a session over a broker]:name' \
+                '--listen[start a broker here]:address' '--broker[the broker]:address' '--ca[its authority]:file:_files' \
                 '--invite[print a link for one person]' '--join[sit down at the seat of a link]:link' \
-                '--keep[keep a copy at the seat of a link]:link' '--retire[end a seat that was left for good]:seat'
+                '--keep[keep a copy at the seat of a link]:link' '--retire[end a seat]:seat' '*:address of a site:_hosts'
             ;;
         node)
             _arguments $asked '--resume[go on from the journal]' '--session[number of the session]:number' \

@@ -46,8 +46,12 @@ class User:
 class Drawing:
     """A run of `groupdesign draw`, from its first address to its end."""
 
-    def __init__(self, user, *words, addresses=1):
+    def __init__(self, user, *words, addresses=1, given=None):
         self.process = user.start("draw", *words)
+        if given:
+            self.process.stdin.write(given)
+            self.process.stdin.close()
+            self.process.stdin = None
         self.addresses = [self.process.stdout.readline().partition(" ")[0].strip() for _ in range(addresses)]
         if not self.addresses[-1]:
             raise AssertionError(f"it printed no address: {self.process.communicate(timeout=PATIENCE)}")
@@ -74,7 +78,7 @@ class Page(Socket):
 
 
 class Installed:
-    """Tests of a command that is installed; mixed into a case that has `ana` and `ben`."""
+    """Tests of a command that is installed; mixed into a case that has `ana` and `ben`, and knows whether there is a broker."""
 
     def expect(self, words, given, status, printed):
         done = self.ana.run(*words, given=given)
@@ -161,12 +165,30 @@ class Installed:
             asyncio.run(self.draw_together([drawing.addresses[0] for drawing in drawings]))
             for drawing in drawings:
                 self.assertEqual(drawing.end(), (0, "", ""))
-        one, other = map(self.replayed, (self.ana, self.ben))
+        self.expect_same("mine.log")
+
+    def test_one_founds_a_session_and_one_joins(self):
+        if not self.has_broker:
+            self.skipTest("there is no mosquitto")
+        (address,) = free_addresses(1)
+        journal = ["--journal", "oak.log"]
+        with Drawing(self.ana, "--found", "Oak", "--listen", address, *journal) as one:
+            status, link, _ = self.ana.run("draw", "--invite", *journal)
+            self.assertEqual(status, 0)
+            with Drawing(self.ben, "--join", "-", *journal, given=link) as two:
+                asyncio.run(self.draw_together([one.addresses[0], two.addresses[0]]))
+                self.assertEqual(two.end()[0], 0)
+            self.assertEqual(one.end()[0], 0)
+        self.expect_same("oak.log")
+
+    def expect_same(self, name):
+        """Both have the two shapes in their journals of this name."""
+        one, other = (self.replayed(user, name) for user in (self.ana, self.ben))
         self.assertEqual(one, other)
         self.assertEqual([line.partition(" text ")[2] for line in sorted(one.splitlines())], ["", "House", "Tree"])
 
-    def replayed(self, user):
-        with open(user.home / "mine.log", "rb") as journal:
+    def replayed(self, user, name):
+        with open(user.home / name, "rb") as journal:
             process = user.start("replay", stdin=journal)
             printed, said = process.communicate(timeout=PATIENCE)
         self.assertEqual((process.returncode, said), (0, ""))

@@ -10,6 +10,8 @@ from package_tests.packages import ARCHIVE, VERSION, run
 
 
 class Anywhere(Installed, unittest.TestCase):
+    has_broker = shutil.which("mosquitto", path="/usr/sbin:/usr/local/sbin:/usr/bin") is not None
+
     @classmethod
     def setUpClass(cls):
         room = Path(tempfile.mkdtemp(prefix="groupdesign-"))

@@ -20,14 +20,16 @@ SOURCES = [Path("/etc/apt/sources.list.d/debian.sources"), Path("/etc/apt/source
 # What the system itself writes of what was installed when.
 OWN = ("proc/", "sys/", "dev/", "run/", "var/lib/dpkg/", "var/lib/apt/", "var/cache/", "var/log/")
 PATH = "/usr/local/sbin:/usr/local/bin:/usr/sbin:/usr/bin:/sbin:/bin"
+RECOMMENDED = ["mosquitto"]
 WITH_PROC = 'mount -t proc proc "$0/proc" && exec chroot "$@"'
-JOURNAL = re.compile(r"home/(ana|ben)/\w+\.log(\.name|\.times)?")
+# A journal, and what lies beside it.
+JOURNAL = re.compile(r"home/(ana|ben)/\w+\.log\b.*")
 
 
 def make_root(root):
-    """Makes a root that has what the package depends on, and nothing more. Says why where it can't be made."""
+    """Makes a root that has what the package depends on, and the broker. Says why where it can't be made."""
     depends = run("dpkg-deb", "--field", DEB, "Depends")
-    names = ",".join(word.split()[0] for word in depends.split(", "))
+    names = ",".join([*(word.split()[0] for word in depends.split(", ")), *RECOMMENDED])
     system = platform.freedesktop_os_release()
     sources = [str(path) for path in SOURCES if path.exists() and "deb" in path.read_text()][:1]
     is_debian = system["ID"] == "debian"
@@ -42,6 +44,8 @@ def make_root(root):
 
 
 class FreshRoot(Installed, unittest.TestCase):
+    has_broker = True
+
     @classmethod
     def setUpClass(cls):
         need("mmdebstrap", "chroot", "unshare")
