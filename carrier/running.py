@@ -98,9 +98,10 @@ async def sit(given, seat):
     retiring = Retiring(carrier, standing, given.journal)
     try:
         begin(carrier, seat)
-        if not await carrier.settle(PATIENCE if seat.begun else FIRST_PATIENCE):
+        is_new = not seat.begun and seat.seat != commands.FIRST
+        if not await carrier.settle(FIRST_PATIENCE if is_new else PATIENCE):
             why = f"the broker at {seat.broker} isn't reached: {carrier.broker.fault or 'it does not answer'}."
-            if not seat.begun and seat.seat != commands.FIRST:
+            if is_new:
                 # Only the broker knows whether the link was used before.
                 say(f"{why} Try again later: ./draw --journal {given.journal}")
                 return FAILED

@@ -5,11 +5,12 @@ import asyncio
 import os
 import signal
 
-from carrier import commands
+from carrier import certificate, commands
 from carrier.files import Seat
 from carrier.link import Link, link_of
-from carrier.tests.rosters import until
-from carrier.tests.runs import Person, WithPeople
+from carrier.mosquitto import OwnBroker
+from carrier.tests.rosters import PATIENCE, until
+from carrier.tests.runs import Person, WithPeople, free_port
 from carrier.trust import Trust
 
 
@@ -59,6 +60,26 @@ class Together(WithPeople):
         await ana.end(signal.SIGKILL)
         await until(lambda: self.broker_process(ana) is None, what="the end of the broker")
         await ana.begin()
+
+
+class Brokers(WithPeople):
+    async def test_a_broker_that_is_there_already(self):
+        """The founder's rules and passwords are taken in by who runs it, and its certificate is that of an authority."""
+        address, journal = f"localhost:{free_port()}", self.folder / "ana.log"
+        _, pem, key = certificate.made("localhost")
+        (self.folder / "ca.pem").write_bytes(pem)
+        ana = await Person(self, "ana.log").begin("--found", "Oak", "--broker", address, "--ca", str(self.folder / "ca.pem"))
+        self.assertIn("isn't reached", ana.last_said())
+        await ana.draw("create rect 0 0 10 10 alone")
+        broker = OwnBroker(journal, address)
+        for name, data in (("certificate.pem", pem), ("key.pem", key)):
+            (broker.folder / name).write_bytes(data)
+        await asyncio.get_running_loop().run_in_executor(None, broker.start)
+        self.addCleanup(broker.stop)
+        await ana.page.next(lambda told: told["is"] == "carried" and told["up"], PATIENCE)
+        ben = await self.join(ana, "ben.log")
+        await ben.draw("create rect 0 0 10 10 by Ben")
+        self.assertEqual(await self.all_see([ana, ben], 2), ["alone", "by Ben"])
 
 
 class Keepers(WithPeople):
