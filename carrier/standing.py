@@ -1,6 +1,7 @@
 """What a seat tells of its own records and knows of the others': it signs heads, and sees what doesn't fit."""
 
 import asyncio
+import logging
 import time
 
 from carrier.broker import topic
@@ -13,6 +14,7 @@ from carrier.sealing import GIVE, WANT
 
 # How often the journal is looked at, and how many seconds lie between two heads of the same seat.
 LOOK, BETWEEN = 0.25, 0.5
+LOG = logging.getLogger("carrier.standing")
 OLDER = (
     "the journal {journal} is older than what this seat has told the others: it has {held} of its own edits, and they know of "
     "{told}. It is a copy that was put back, or this seat was used on another machine too. Nothing was sent. Go on with the "
@@ -72,13 +74,21 @@ class Standing:
 
     async def run(self):
         while True:
-            self.look()
-            self.tell(time.monotonic())
-            if not self.feeding.is_busy:
-                self.lending.look(self.carrier.here())
-            for look in self.looks:
-                look()
+            try:
+                self.step()
+            except Exception:
+                # The next look may do better, and without any nobody would be told anything.
+                LOG.exception("a look at the journal and the heads failed")
             await asyncio.sleep(LOOK)
+
+    def step(self):
+        """Takes what came, tells, asks and has all others look who want to."""
+        self.look()
+        self.tell(time.monotonic())
+        if not self.feeding.is_busy:
+            self.lending.look(self.carrier.here())
+        for look in self.looks:
+            look()
 
     def change(self, up, fault):
         """The connection was made or lost. Made anew, all heads are told anew, since the broker may have lost them."""
