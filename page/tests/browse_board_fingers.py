@@ -87,7 +87,8 @@ class Fingers(WithBoard):
     def test_the_ends_of_a_line_are_dragged(self):
         (line,) = self.make(self.page, "create line 300 200 100 50", select=True)
         self.assert_typed(self.page, lambda: self.swipe((400, 250), (450, 300)), f"resize {line} 150 100")
-        self.assert_typed(self.page, lambda: self.swipe((300, 200), (320, 180)), f"resize {line} 130 120", f"move {line} 320 180")
+        # A finger beside an end takes it along, and not to itself.
+        self.assert_typed(self.page, lambda: self.swipe((290, 210), (310, 190)), f"resize {line} 130 120", f"move {line} 320 180")
 
     def test_a_text_is_written_made_larger_and_wrapped(self):
         self.page.tap_on("[data-tool=text]")

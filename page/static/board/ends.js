@@ -41,11 +41,14 @@ export function moveEnd(gestures, end, item) {
   const { ed } = gestures;
   const [x0, y0, x1, y1] = item.ends;
   const fixed = /** @type {[number, number]} */ (end === "start" ? [x1, y1] : [x0, y0]);
+  // It is pressed from beside, above all by fingers, and goes as far as the pointer does.
+  const [byX, byY] = end === "start" ? [x0 - gestures.pressed.x, y0 - gestures.pressed.y] : [x1 - gestures.pressed.x, y1 - gestures.pressed.y];
   let to = lineOf([x0, y0], [x1, y1]);
   return {
     begin: () => gestures.busy("end"),
     move: (at, event) => {
-      const place = event.shiftKey ? turned(fixed, [at.x, at.y]) : /** @type {[number, number]} */ ([at.x, at.y]);
+      const goal = /** @type {[number, number]} */ ([at.x + byX, at.y + byY]);
+      const place = event.shiftKey ? turned(fixed, goal) : goal;
       to = end === "start" ? lineOf(place, fixed) : lineOf(fixed, place);
       ed.model.preview(new Map([[item.id, to]]));
     },
