@@ -9,6 +9,8 @@ import { count } from "./words.js";
 /** Events that come within so many milliseconds of each other are told in one banner. */
 const REST = 700;
 const MOST_TURNS = 8;
+/** So many milliseconds behind the return the first of what was missed is there. */
+const CATCHES_UP = 5000;
 const BANNER_LASTS = 12_000;
 const CALM_LASTS = 6000;
 const FLASH = { plain: 1600, late: 4000 };
@@ -70,8 +72,13 @@ export class Arrivals {
    * @param {string} kind
    */
   standing(kind) {
-    this.isBack = kind !== "off" && (this.isBack || this.kind === "off");
+    // What came before this machine was cut off isn't what it missed.
+    if (kind === "off" && this.kind !== "off" && this.came.length) this.tell();
+    const isBackNow = kind !== "off" && this.kind === "off";
+    this.isBack = kind !== "off" && (this.isBack || isBackNow);
     this.kind = kind;
+    // Where nothing was missed, what comes later is nothing of that.
+    if (isBackNow) setTimeout(() => (this.isBack &&= this.came.length > 0), CATCHES_UP);
   }
 
   /** Looks at the events that have arrived since. Those of before the page was opened are old. */
@@ -105,6 +112,7 @@ export class Arrivals {
   }
 
   tell() {
+    clearTimeout(this.timer);
     const { ed, came, isBack } = this;
     // Who draws with others at the same time has late ones all along. These are told of where they had to be repaired.
     const lates = came.filter((event) => event.late && (isBack || isRepaired(event)));
