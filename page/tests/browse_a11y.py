@@ -140,15 +140,15 @@ class Accessibility(WithOnePage):
     def test_each_toolbar_is_one_stop_and_arrows_walk_in_it(self):
         page = self.page
         self.made("create rect 100 100 80 60")
-        page.do("ed.selection.clear(); document.activeElement.blur()")
+        page.do("ed.selection.clear(); ed.focusBoard()")
         stops = []
         where = "(a => a.closest('[role=toolbar], #history, #file, #faces, #link, #style')?.id ?? a.id ?? a.className)(document.activeElement)"
-        for _ in range(13):
+        # Once around, from the board to the board.
+        while "board" not in stops and len(stops) < 30:
             page.press(Keys.TAB)
             stops.append(page.ask(where))
-        for bar in ("tools", "zoom", "aid"):
+        for bar in ("tools", "zoom", "aid", "board"):
             self.assertEqual(stops.count(bar), 1, stops)
-        self.assertIn("board", stops)
         page.do("document.querySelector('#tools [tabindex=\"0\"]').focus()")
         first = page.ask("document.activeElement.dataset.tool")
         page.press(Keys.ARROW_RIGHT)
