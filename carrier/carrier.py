@@ -11,6 +11,7 @@ from carrier.keys import Keys
 from carrier.pace import Pace
 from carrier.roster import SEATS
 from carrier.sealing import FRAME, Seals
+from carrier.twin import Twin
 from carrier.ways import Ways
 from page.addresses import parts_of
 
@@ -37,6 +38,8 @@ class Carrier:
         # Seats that were retired.
         self.barred = set()
         self.counts = {"out": 0, "in": 0, "kept": 0, "strange": 0}
+        # What is called where this seat runs elsewhere too, with whether it was there first.
+        self.twin, self.met_twin, self.own_topic = Twin(seat.seed), lambda is_later: None, topic(self.session, seat.seat, seat.seat)
         # Set once all has come that the broker kept.
         self.settled = asyncio.Event()
         user = user_of(seat.roster.session, seat.seat)
@@ -73,7 +76,7 @@ class Carrier:
             pace.leave()
             pace.again()
         # What the broker kept comes before this does.
-        self.broker.publish(topic(self.session, self.seat.seat, self.seat.seat), b"")
+        self.broker.publish(self.own_topic, self.twin.hello())
         for call in self.changes:
             call(self.broker.up, self.broker.fault)
         self.wake()
@@ -111,12 +114,23 @@ class Carrier:
         words = name.split("/")[2:]
         own = str(self.seat.seat)
         if words == [own, own]:
-            self.settled.set()
+            self.take_own(data)
         elif len(words) == 2 and words[0] == own:
             if not was_kept and words[1].isascii() and words[1].isdigit() and len(words[1]) < 3:
                 self.take(int(words[1]), data)
         elif words and words[0] in self.keepers:
             self.keepers[words[0]](words[1:], data)
+
+    def take_own(self, data):
+        """A run of this seat said something to all runs of it."""
+        meaning = self.twin.take(data)
+        if meaning == "own":
+            self.settled.set()
+        elif meaning == "later":
+            self.met_twin(True)
+        elif meaning:
+            self.broker.publish(self.own_topic, meaning)
+            self.met_twin(False)
 
     def take(self, sender, data):
         """Something came as from a seat. What that seat hasn't sealed for this one is passed over."""

@@ -24,6 +24,11 @@ ELSEWHERE = (
     "this seat draws elsewhere too: the others know of edits that this journal hasn't. Nothing more is sent or taken. End this "
     "./draw, and go on where the newest journal is"
 )
+TAKEN = (
+    "this seat is in use elsewhere: another ./draw has it open, here or on another machine. Two would tell two stories, so nothing "
+    "is sent or taken here. End one of them"
+)
+OPENED = "this seat was opened elsewhere too, where nothing is sent or taken. End it there, or ask for another seat for it"
 LIES = "{seat} tells two stories: it has signed two different lists of its edits, so what it drew differs from one to another"
 
 
@@ -39,7 +44,8 @@ class Standing:
         self.feeding.grown = self.heads.grow
         # How many own edits are surely in the journal, whatever happens now; the head that was told last, and when.
         self.safe, self.told, self.told_at, self.shown, self.task = lambda: 0, None, 0.0, set(), None
-        self.begun_with, self.is_parted, self.looks = 0, False, []
+        self.begun_with, self.is_parted, self.is_taken, self.looks = 0, False, False, []
+        carrier.met_twin = self.meet_twin
         carrier.takers.update({WANT: self.lending.take_want, GIVE: self.lending.take_give})
         carrier.keepers["head"] = self.take_head
         carrier.comings.append(self.lending.come)
@@ -52,7 +58,9 @@ class Standing:
         return self.what_is_wrong()
 
     def what_is_wrong(self):
-        """Why this seat can't go on with its journal, as far as its own head is known here."""
+        """Why this seat can't go on with its journal, as far as that is known here."""
+        if self.is_taken:
+            return TAKEN
         head, held = self.heads.newest.get(self.seat), self.feeds[self.seat].count
         if head is None or (head.count <= held and self.seat not in self.heads.liars):
             return None
@@ -90,6 +98,14 @@ class Standing:
         for look in self.looks:
             look()
 
+    def meet_twin(self, is_later):
+        """This seat runs elsewhere too. Where it is the later one of them it goes no further."""
+        if is_later:
+            self.is_taken = True
+            self.judge()
+        else:
+            self.carrier.say(OPENED)
+
     def change(self, up, fault):
         """The connection was made or lost. Made anew, all heads are told anew, since the broker may have lost them."""
         self.told = None
@@ -111,7 +127,7 @@ class Standing:
         """Says what doesn't fit, once. A seat whose own head is beyond its journal sends nothing more."""
         if self.task and not self.is_parted and self.what_is_wrong():
             self.is_parted, self.carrier.runs = True, lambda: False
-            self.carrier.say(ELSEWHERE)
+            self.carrier.say(TAKEN if self.is_taken else ELSEWHERE)
         for seat in self.heads.liars - self.shown - {self.seat}:
             self.shown.add(seat)
             self.carrier.say(LIES.format(seat=f"seat {seat}"))

@@ -13,6 +13,7 @@ from carrier.sealing import FRAME, WANT, Seals
 from carrier.tests.logs import create
 from carrier.tests.rosters import SEEDS, SESSION, roster_with, until
 from carrier.trust import SYSTEM, Trust
+from carrier.twin import Twin
 
 ROOT = f"gd/{SESSION.hex()}"
 
@@ -31,6 +32,21 @@ class PlayedBroker:
 
     async def stop(self):
         pass
+
+
+class Twins(unittest.TestCase):
+    def test_who_comes_is_answered_by_who_is_there(self):
+        first, second, stranger = Twin(SEEDS[2]), Twin(SEEDS[2]), Twin(SEEDS[3])
+        hello = second.hello()
+        self.assertEqual((first.take(first.hello()), second.take(hello)), ("own", "own"))
+        answer = first.take(hello)
+        self.assertEqual((second.take(answer), first.take(answer)), ("later", None))
+        # An answer is for one run, and nobody else's secret will do.
+        self.assertIsNone(Twin(SEEDS[2]).take(answer))
+        self.assertEqual([stranger.take(each) for each in (hello, answer)], [None, None])
+        for place in range(len(answer)):
+            self.assertIsNone(second.take(answer[:place] + bytes([answer[place] ^ 1]) + answer[place + 1 :]))
+            self.assertIsNone(second.take(answer[:place]))
 
 
 class Carried(unittest.IsolatedAsyncioTestCase):
@@ -136,10 +152,14 @@ class Carried(unittest.IsolatedAsyncioTestCase):
         self.carrier.keepers["head"] = lambda words, data: heads.append((words, data))
         self.broker.up = True
         self.broker.changed()
-        self.assertEqual(self.broker.sent, [(f"{ROOT}/2/2", b"")])
+        ((name, hello),) = self.broker.sent
+        self.assertEqual(name, f"{ROOT}/2/2")
         self.receive(b"head", name=f"{ROOT}/head/3", kept=True)
         self.assertFalse(await self.carrier.settle(0))
-        self.receive(b"", name=f"{ROOT}/2/2")
+        for other in (b"", hello[:-1], bytes(len(hello)), Carrier.__name__.encode()):
+            self.receive(other, name=f"{ROOT}/2/2")
+        self.assertFalse(await self.carrier.settle(0))
+        self.receive(hello, name=f"{ROOT}/2/2")
         self.assertTrue(await self.carrier.settle(5))
         self.assertEqual(heads, [(["3"], b"head")])
         # Once it is lost all have to be heard again.
