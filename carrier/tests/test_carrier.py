@@ -51,6 +51,7 @@ class Twins(unittest.TestCase):
 
 class Carried(unittest.IsolatedAsyncioTestCase):
     async def asyncSetUp(self):
+        asyncio.get_running_loop().set_debug(False)
         self.said, self.polls, self.came = [], [], []
         seat = Seat(2, SEEDS[2], roster_with(), "h:1", Trust(SYSTEM), b"")
         with mock.patch("carrier.carrier.Broker", PlayedBroker):

@@ -1,5 +1,6 @@
 """Who sits where, over a carrier without a broker and a node that is played."""
 
+import asyncio
 import socket
 import types
 import unittest
@@ -28,6 +29,7 @@ class Desk:
 
 class Seats(unittest.IsolatedAsyncioTestCase):
     async def asyncSetUp(self):
+        asyncio.get_running_loop().set_debug(False)
         ways = Ways(1, SEATS, lambda seat, data: None)
         self.addCleanup(ways.close)
         self.node = socket.socket(socket.AF_INET, socket.SOCK_DGRAM)

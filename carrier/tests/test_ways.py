@@ -1,5 +1,6 @@
 """The sockets towards one node."""
 
+import asyncio
 import socket
 import unittest
 
@@ -9,6 +10,7 @@ from carrier.ways import HERE, MOST_DATAGRAM, Ways
 
 class WaysOfANode(unittest.IsolatedAsyncioTestCase):
     async def asyncSetUp(self):
+        asyncio.get_running_loop().set_debug(False)
         self.sent = []
         self.ways = Ways(2, 16, lambda seat, data: self.sent.append((seat, data)))
         self.addCleanup(self.ways.close)
