@@ -20,16 +20,16 @@ SOURCES = [Path("/etc/apt/sources.list.d/debian.sources"), Path("/etc/apt/source
 # What the system itself writes of what was installed when.
 OWN = ("proc/", "sys/", "dev/", "run/", "var/lib/dpkg/", "var/lib/apt/", "var/cache/", "var/log/")
 PATH = "/usr/local/sbin:/usr/local/bin:/usr/sbin:/usr/bin:/sbin:/bin"
-RECOMMENDED = ["mosquitto"]
+FURTHER = ["mosquitto", "passwd"]
 WITH_PROC = 'mount -t proc proc "$0/proc" && exec chroot "$@"'
 # A journal, and what lies beside it.
 JOURNAL = re.compile(r"home/(ana|ben)/\w+\.log\b.*")
 
 
 def make_root(root):
-    """Makes a root that has what the package depends on, and the broker. Says why where it can't be made."""
+    """Makes a root that has what the package depends on, the broker, and users. Says why where it can't be made."""
     depends = run("dpkg-deb", "--field", DEB, "Depends")
-    names = ",".join([*(word.split()[0] for word in depends.split(", ")), *RECOMMENDED])
+    names = ",".join([*(word.split()[0] for word in depends.split(", ")), *FURTHER])
     system = platform.freedesktop_os_release()
     sources = [str(path) for path in SOURCES if path.exists() and "deb" in path.read_text()][:1]
     is_debian = system["ID"] == "debian"
@@ -63,10 +63,9 @@ class FreshRoot(Installed, unittest.TestCase):
 
     @classmethod
     def user(cls, name, number):
-        home = cls.root / "home" / name
-        home.mkdir(mode=0o750)
-        os.chown(home, number, number)
-        return User([*cls.within(f"/home/{name}", f"--userspec={number}:{number}", "--groups="), "groupdesign"], home)
+        cls.as_root("useradd", "--create-home", f"--uid={number}", "--user-group", name)
+        words = cls.within(f"/home/{name}", f"--userspec={number}:{number}", "--groups=")
+        return User([*words, "groupdesign"], cls.root / "home" / name)
 
     @classmethod
     def within(cls, home, *options):
