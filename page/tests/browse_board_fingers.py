@@ -159,3 +159,16 @@ class Fingers(WithBoard):
         self.page.tap_on(".now")
         wait_for(lambda: self.page.ask("ed.history.at") is None)
         self.assert_seen(rect, fill="DAE6FF")
+
+    def test_the_menu_of_the_file_is_tapped(self):
+        (rect,) = self.make(self.page, "create rect 300 200 200 120 First")
+        self.page.tap_on("#file button")
+        wait_for(lambda: self.page.ask(MENU))
+        self.page.do("[...document.querySelectorAll('[role=menuitem]')].find((each) => each.textContent.startsWith('List of objects')).id = 'to-list'")
+        self.page.tap_on("#to-list")
+        wait_for(lambda: self.page.ask("!ed.objects.closed"))
+        self.page.rest()
+        self.page.tap_on(f"[id='object-{rect}']")
+        self.assertEqual(self.page.selected(), [rect])
+        self.page.tap_on("#objects .panel-head button")
+        self.assertTrue(self.page.ask("ed.objects.closed"))

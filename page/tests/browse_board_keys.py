@@ -144,3 +144,24 @@ class ByKeys(WithBoard):
         self.assertEqual(lines, ["create rect 320 220 100 60 A"])
         self.assert_typed(self.page, lambda: self.page.press(Keys.BACKSPACE), f"delete {copy}")
         self.assert_seen(name, label="A")
+
+    def test_a_file_is_chosen_and_its_drawing_comes(self):
+        # The browser's own window for files can't be used by tests.
+        self.page.do("""
+            const click = HTMLInputElement.prototype.click;
+            HTMLInputElement.prototype.click = function () { this.type === 'file' ? window.chooser = this : click.call(this); };
+        """)
+
+        def choose():
+            self.page.press("o", hold=["ctrl"])
+            self.page.do("""
+                const data = new DataTransfer();
+                data.items.add(new File([arguments[0]], 'drawing.txt'));
+                chooser.files = data.files;
+                chooser.dispatchEvent(new Event('change'));
+            """, "rect 1.1 in - at 0 0 size 50 40 stroke 000000 fill DAE6FF width 1 text A\nend 1\n")
+            wait_for(self.page.ids)
+
+        create, fill = self.typed_by(self.page, choose)
+        self.assertRegex(create, r"^create rect -?\d+ -?\d+ 50 40 A$")
+        self.assertEqual(fill.split()[::2], ["fill", "DAE6FF"])
