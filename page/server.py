@@ -21,6 +21,8 @@ NAME = re.compile(r"[a-zA-Z0-9_-][a-zA-Z0-9_.-]*(/[a-zA-Z0-9_-][a-zA-Z0-9_.-]*)*
 # A gesture over thousands of objects is one message.
 MOST_MESSAGE = 4 << 20
 BACKLOG = 64
+# So many seconds a page has to answer that this program ends.
+FAREWELL = 3
 HEADERS = {
     "Server": "draw",
     "Referrer-Policy": "no-referrer",
@@ -91,7 +93,7 @@ class Server:
         self.listening.close()
         self.audience.close()
         if self.talks:
-            await asyncio.wait(self.talks, timeout=2)
+            await asyncio.wait(self.talks, timeout=FAREWELL)
         await self.runner.cleanup()
 
     @web.middleware

@@ -141,11 +141,13 @@ class Sockets(WithServer):
     async def test_a_server_that_stops_closes_the_sockets(self):
         page = await self.open()
         await page.kind("history")
-        stopping = asyncio.create_task(self.server.stop())
-        with self.assertRaises(AssertionError):
-            await page.next(lambda each: False)
-        self.assertEqual(page.socket.close_code, 4001)
-        await stopping
+        # A slow machine has the time that it needs.
+        with mock.patch("page.server.FAREWELL", 120):
+            stopping = asyncio.create_task(self.server.stop())
+            with self.assertRaises(AssertionError):
+                await page.next(lambda each: False)
+            self.assertEqual(page.socket.close_code, 4001)
+            await stopping
         with self.assertRaises(aiohttp.ClientConnectorError):
             await self.status(f"/{TOKEN}/")
 
