@@ -74,9 +74,10 @@ class Table:
         async def anew():
             try:
                 await renew(self.desk)
+                self.carrier.ways.held = frozenset()
             except Ended:
                 # The page says so, and has a button that starts it again.
-                pass
+                self.carrier.ways.held = frozenset()
             except Busy:
                 self.closed = closed
             self.renewing = None
@@ -97,9 +98,10 @@ class Table:
         self.due.pop(0)
         free = set(self.standing.feeds.feeds) - taken - set(self.retiring.gone)
         self.closed |= free
+        self.carrier.ways.held = frozenset(self.closed)
         for seat, count in [*dict.fromkeys(free, 0).items(), *ready.items()]:
             if seat != self.own:
-                self.carrier.ways.deliver(seat, closing(self.carrier.seat.roster.number, seat, self.own, count))
+                self.carrier.ways.hand(seat, closing(self.carrier.seat.roster.number, seat, self.own, count))
         self.carrier.wake()
 
     # What the page is told.

@@ -31,6 +31,8 @@ class Ways:
         self.sent, self.loop, self.seat, self.seats = sent, asyncio.get_running_loop(), seat, seats
         self.sockets = {other: bound() for other in range(1, seats + 1) if other != seat}
         self.node = (HERE, free_port())
+        # Seats of which the node was told that they say nothing more: what they say waits until it was started anew.
+        self.held = frozenset()
         for other, way in self.sockets.items():
             self.loop.add_reader(way, self.read, other, way)
 
@@ -58,7 +60,12 @@ class Ways:
             self.sent(seat, newest)
 
     def deliver(self, seat, data):
-        """Hands the node a datagram from a seat. It may be lost, as datagrams may be."""
+        """Hands the node a datagram from a seat. It may be lost, as datagrams may be, and is where the seat is held back."""
+        if seat not in self.held:
+            self.hand(seat, data)
+
+    def hand(self, seat, data):
+        """The same, whether the seat is held back or not."""
         try:
             self.sockets[seat].sendto(data, self.node)
         except OSError:

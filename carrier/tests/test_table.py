@@ -4,6 +4,7 @@ import asyncio
 import socket
 import types
 import unittest
+from unittest import mock
 
 from carrier.frames import closing
 from carrier.roster import SEATS
@@ -90,6 +91,25 @@ class Seats(unittest.IsolatedAsyncioTestCase):
         self.carrier.comings[0](9)
         self.table.look()
         self.assertEqual((self.renewed, self.datagrams()), (1, []))
+
+    async def test_what_a_seat_says_waits_until_the_node_was_started_anew(self):
+        self.is_settled, self.feeds[3] = True, feed(1)
+        self.table.look()
+        self.datagrams()
+        for seat in (3, 9):
+            self.carrier.ways.deliver(seat, b"of %d" % seat)
+        self.assertEqual(self.datagrams(), [b"of 3"])
+        with mock.patch("carrier.table.renew", self.renew):
+            self.carrier.comings[0](9)
+            self.table.look()
+            self.carrier.ways.deliver(9, b"too early")
+            self.assertEqual(self.datagrams(), [])
+            await self.table.stop()
+        self.carrier.ways.deliver(9, b"of 9")
+        self.assertEqual((self.renewed, self.datagrams()), (1, [b"of 9"]))
+
+    async def renew(self, desk):
+        self.renewed += 1
 
     async def test_the_page_is_told_who_has_a_seat(self):
         self.table.look()
