@@ -71,7 +71,8 @@ class Fingers(WithBoard):
         for place in ((700, 500), (900, 500), (width - 3, 500)):
             self.page.touch("touchMove", place)
         wait_for(lambda: self.page.ask("ed.camera.x") > 60)
-        (line,) = self.typed_by(self.page, lambda: self.page.touch("touchEnd"))
+        self.page.touch("touchMove", (width - 3, 500), after=0.3)
+        (line,) = self.typed_by(self.page, lambda: self.page.touch("touchEnd", after=0.02))
         self.assertGreater(int(line.split()[2]), width - 40)
 
     def test_handles_resize_also_from_beside_them(self):

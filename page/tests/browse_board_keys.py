@@ -111,7 +111,7 @@ class ByKeys(WithBoard):
         self.assertEqual(self.page.ask("document.activeElement.ariaLabel"), "Fill Yellow")
 
     def test_the_history_is_walked_through(self):
-        names = self.make(self.page, *(f"create rect {300 + 120 * at} 200 100 60" for at in range(3)))
+        names = [name for at in range(3) for name in self.make(self.page, f"create rect {300 + 120 * at} 200 100 60")]
         count = self.page.ask("ed.node.events.length")
         self.assert_typed(self.page, lambda: self.page.press(Keys.ARROW_LEFT, hold=["alt"]))
         self.assertEqual([self.page.ask("ed.history.at"), self.page.ids()], [count - 1, names[:2]])

@@ -27,6 +27,7 @@ PROGRAM = os.environ.get("PAGE_PROGRAM", "")
 SCREENSHOTS = ROOT / "page/out/screenshots"
 SESSION = 7
 ATTEMPTS = 3
+TAPS = 10
 CONTROLS = {"ctrl": Keys.CONTROL, "shift": Keys.SHIFT, "alt": Keys.ALT}
 # A browser that does nothing of its own, and isn't ended by its own watchdogs where the machine is slow.
 FLAGS = """--headless=new --no-sandbox --disable-dev-shm-usage --window-size=1440,900 --disable-gpu --disable-gpu-watchdog
@@ -279,8 +280,15 @@ class Page:
             const { left, top, width, height } = element.getBoundingClientRect();
             return [Math.round(left + width / 2), Math.round(top + height / 2)];
         """, selector)
-        self.swipe(tuple(place))
-        wait_for(lambda: self.ask("window.wasTapped"))
+        # Where the finger goes up late on a slow machine the browser takes that for a long press, and makes no click of it.
+        for left in reversed(range(TAPS)):
+            self.swipe(tuple(place))
+            try:
+                wait_for(lambda: self.ask("window.wasTapped"), PATIENCE / TAPS)
+                return
+            except AssertionError:
+                if not left:
+                    raise
 
     def long_press(self, place, until, stays=0):
         """A finger that stays until something has come, and then for so many seconds."""
