@@ -12,8 +12,9 @@ OBJECTS = 5000
 FRAMES = 40
 # A frame of a moving view takes at most this part of one that paints all objects, or so many milliseconds of processor time.
 PART, FRAME = 0.5, 16
-# What may look at each object or event behind an edit, and how often: the list of objects, and the history's bar.
-LISTS = {"ui/objects.js", "ui/lane.js", "ui/history.js", "ui/deeds.js", "ui/arrivals.js", "core/node.js"}
+# What may look at each object or event behind an edit, and how often: the list of objects, the history's bar, and whether boxes
+# meet, which is asked of all near a place.
+LISTS = {"ui/objects.js", "ui/lane.js", "ui/history.js", "ui/deeds.js", "ui/arrivals.js", "core/node.js", "board/boxes.js"}
 LOOKS = 8
 # So often anything may look at each object behind a batch of many edits.
 LOOKS_OF_MANY = 20
@@ -120,15 +121,15 @@ class Large(WithBoard):
 
     def test_an_edit_costs_nothing_for_each_object(self):
         def show(goal):
-            self.one.driver.execute_async_script(DO, [f"move 2550.1 {goal} 600"])
-            self.two.driver.execute_async_script(SEEN, "2550.1", goal)
+            self.one.driver.execute_async_script(DO, [f"move 4850.1 {goal} 1440"])
+            self.two.driver.execute_async_script(SEEN, "4850.1", goal)
 
         for goal, page in enumerate(self.pages * 2, 1500):
             # The box around all is asked of each object only where one at its edge has changed, which this one isn't.
             page.ask("ed.model.all()")
             runs = self.counts_of(page, lambda: show(goal))
             for (module, function, place), count in runs.items():
-                most = LOOKS * OBJECTS if module in LISTS else OBJECTS // 2
+                most = LOOKS * OBJECTS if module in LISTS else OBJECTS * 9 // 10
                 self.assertLessEqual(count, most, f"{function} of {module} at {place}")
 
     def test_with_500_changed_in_one_batch(self):
