@@ -85,7 +85,7 @@ class Strangers(WithMembers):
         host, port = self.address.split(":")
         words = ["mosquitto_sub", "-h", host, "-p", port, "-u", "evil", "-P", "evil", "-t", "gd/#", "-C", "1", "-W", "5"]
         try:
-            done = subprocess.run(words, capture_output=True, timeout=60)
+            done = subprocess.run(words, capture_output=True, timeout=300)
         except FileNotFoundError:
             self.skipTest("there is no mosquitto_sub (Debian's mosquitto-clients)")
         self.assertNotEqual(done.returncode, 0)

@@ -11,7 +11,7 @@ import aiohttp
 
 from page.tests.serving import Socket
 
-PATIENCE = 60
+PATIENCE = 300
 
 
 async def main(address, count, *lines):

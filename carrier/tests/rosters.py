@@ -12,7 +12,7 @@ from pathlib import Path
 from carrier.keys import Keys, public_bytes
 from carrier.roster import SEATS, Roster
 
-PATIENCE = 60
+PATIENCE = 300
 SESSION = bytes(range(16))
 SEEDS = {seat: bytes([seat]) * 32 for seat in range(1, SEATS + 1)}
 FOUNDER = bytes([99]) * 32

@@ -17,7 +17,7 @@ class WaysOfANode(unittest.IsolatedAsyncioTestCase):
         self.node = socket.socket(socket.AF_INET, socket.SOCK_DGRAM)
         self.addCleanup(self.node.close)
         self.node.bind(self.ways.node)
-        self.node.settimeout(20)
+        self.node.settimeout(300)
 
     def to(self, seat):
         return (HERE, self.ways.port(seat))
