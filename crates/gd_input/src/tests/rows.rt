@@ -105,6 +105,6 @@ fn the_buffer_is_used_again(rt: HostRuntime) -> Result<(), test::Fail> {
         assert_eq!(rt; read_on(&mut reader, &mut input), Line(60_000));
     }
     assert_eq!(rt; read_on(&mut reader, &mut input), Finished);
-    assert_eq!(rt; input.reads, 4);
+    assert_eq!(rt; input.reads, 6);
     Ok(())
 }

@@ -17,7 +17,7 @@ const LINES: [&str; 4] = [
 ];
 
 /// How many bytes of the input are read at a time.
-const BUFFER: usize = 131_072;
+const BUFFER: usize = 73_728;
 
 /// A frame with an event, one without, a failure, and a frame with another event.
 const ENTRIES: [Entry; 4] = [Some(FIRST), Some((1, 1, &[])), None, Some(SECOND)];
