@@ -57,6 +57,9 @@ class FreshRoot(Installed, unittest.TestCase):
         cls.root = room / "root"
         if why := make_root(cls.root):
             raise unittest.SkipTest(why)
+        tried = subprocess.run([*cls.within("/"), "true"], stdin=subprocess.DEVNULL, capture_output=True, text=True)
+        if tried.returncode:
+            raise unittest.SkipTest(f"nothing can be run in a root here: {tried.stderr.strip()}")
         cls.ana, cls.ben = cls.user("ana", 1001), cls.user("ben", 1002)
         cls.before = cls.files()
         cls.install()
