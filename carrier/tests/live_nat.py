@@ -14,6 +14,8 @@ from carrier.tests.runs import PROGRAM, why_not
 from page.draw import ROOT
 
 BROKER = "198.51.100.1:8883"
+# Has a network hand on what isn't for itself.
+FORWARDS = ["sh", "-c", "echo 1 >/proc/sys/net/ipv4/ip_forward"]
 # Lets a router send out what comes from inside, as from itself, and let in what answers that, and nothing else.
 NAT = """
 add table ip home
@@ -38,6 +40,7 @@ def why_no_network():
     try:
         call("ip", "netns", "add", name)
         call("ip", "netns", "exec", name, "nft", "-f", "-", input=NAT)
+        call("ip", "netns", "exec", name, *FORWARDS)
         call("ip", "link", "add", "one", "netns", name, "type", "veth", "peer", "name", "other", "netns", name)
     except subprocess.CalledProcessError as fault:
         return f"no networks can be made: {fault.stderr.strip()}"
@@ -54,7 +57,7 @@ class Homes(WithFolder):
             self.skipTest(why)
         self.internet = self.network("net")
         self.inside(self.internet, "ip", "address", "add", "198.51.100.1/32", "dev", "lo")
-        self.inside(self.internet, "sysctl", "-qw", "net.ipv4.ip_forward=1")
+        self.inside(self.internet, *FORWARDS)
 
     def network(self, name):
         """A network of its own, with a loopback."""
@@ -79,7 +82,7 @@ class Homes(WithFolder):
         router, machine, at = self.network(f"router{number}"), self.network(f"home{number}"), 4 * number
         self.join(self.internet, f"to{number}", f"203.0.113.{at + 1}/30", router, "out", f"203.0.113.{at + 2}/30")
         self.join(router, "in", "192.168.1.1/24", machine, "eth", "192.168.1.2/24")
-        self.inside(router, "sysctl", "-qw", "net.ipv4.ip_forward=1")
+        self.inside(router, *FORWARDS)
         self.inside(router, "nft", "-f", "-", input=NAT)
         self.inside(router, "ip", "route", "add", "default", "via", f"203.0.113.{at + 1}")
         self.inside(machine, "ip", "route", "add", "default", "via", "192.168.1.1")
