@@ -70,9 +70,9 @@ class Text(WithOnePage):
             page.picture("text-too-long")
             # It goes once it fits.
             page.do("const f = document.querySelector('.label-field'); f.value = arguments[0]; f.dispatchEvent(new Event('input'))", text[:90])
-            page.click((900, 600))
+            page.press(Keys.ENTER, hold=["ctrl"])
             wait_for(lambda: self.item(name)["label"] == text[:90])
-            self.assertFalse(page.ask(OPEN))
+            wait_for(lambda: not page.ask(OPEN))
 
     def test_bytes_left_are_told_when_there_are_few(self):
         page = self.page
