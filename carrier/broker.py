@@ -5,6 +5,7 @@ import os
 import socket
 import sys
 import warnings
+from dataclasses import dataclass
 
 import paho.mqtt.client as mqtt
 
@@ -25,8 +26,27 @@ def topic(session, *words):
 
 
 def user_of(session, seat):
-    """The name by which a broker knows a seat."""
-    return f"{session.hex()}.{seat}"
+    """The name by which a broker knows a seat, or those who only look on."""
+    return f"{session.hex()}.{seat or 'watch'}"
+
+
+@dataclass(frozen=True)
+class Account:
+    """A user and a password at a broker."""
+
+    user: str
+    password: str
+
+    def __post_init__(self):
+        """Raises `ValueError` where one of both is empty, has a line break, or has more than 255 bytes."""
+        for text in (self.user, self.password):
+            if not 0 < len(text.encode()) < 256 or any(letter in text for letter in "\r\n\0"):
+                raise ValueError("a user and a password have 1 to 255 bytes each, on one line")
+
+
+def login_of(account, session, seat, keys):
+    """How a seat is known to a broker: by the one account of all, where there is such, else by its own."""
+    return account or Account(user_of(session, seat), keys.password)
 
 
 def client_of(name):
@@ -42,16 +62,15 @@ def client_of(name):
 class Broker:
     """One connection, which is made anew whenever it is lost, until `stop`."""
 
-    def __init__(self, address, user, password, trust, certificate, came, changed=lambda: None):
-        """`address` is host and port. `came` is called with the topic, the content and whether it was kept there, of each
+    def __init__(self, address, account, trust, certificate, came, changed=lambda: None):
+        """`address` is host and port, and `account` an `Account`. `came` is called with the topic, the content and whether it was kept there, of each
         message; `changed` where it is connected or isn't any more. `fault` says why not, in words."""
         self.address, self.came, self.changed = address, came, changed
         self.loop, self.up, self.fault, self.subscribed = asyncio.get_running_loop(), False, "", []
         self.is_refused, self.is_over = False, False
         self.client = client = client_of(f"gd-{os.urandom(8).hex()}")
         client.tls_set_context(context(trust, certificate))
-        if password:
-            client.username_pw_set(user, password)
+        client.username_pw_set(account.user, account.password)
         client.reconnect_delay_set(FIRST_PAUSE, LONGEST_PAUSE)
         client.max_queued_messages_set(MOST_WAITING)
         client.on_connect, client.on_disconnect, client.on_message = self.on_connect, self.on_disconnect, self.on_message

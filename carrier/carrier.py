@@ -6,7 +6,7 @@ Nothing here is needed for all to see the same drawing: a node may be handed any
 import asyncio
 import time
 
-from carrier.broker import Broker, topic, user_of
+from carrier.broker import Broker, login_of, topic
 from carrier.keys import Keys
 from carrier.pace import Pace
 from carrier.roster import SEATS
@@ -42,10 +42,8 @@ class Carrier:
         self.twin, self.met_twin, self.own_topic = Twin(seat.seed), lambda is_later: None, topic(self.session, seat.seat, seat.seat)
         # Set once all has come that the broker kept.
         self.settled = asyncio.Event()
-        user = user_of(seat.roster.session, seat.seat)
-        self.broker = Broker(
-            parts_of(seat.broker), user, self.keys.password, seat.trust, seat.certificate, self.come, self.changed
-        )
+        login, address = login_of(seat.account, self.session, seat.seat, self.keys), parts_of(seat.broker)
+        self.broker = Broker(address, login, seat.trust, seat.certificate, self.come, self.changed)
 
     @property
     def addresses(self):
@@ -54,8 +52,8 @@ class Carrier:
 
     def start(self):
         """Begins to connect."""
-        topics = [topic(self.session, self.seat.seat, "+"), topic(self.session, "head", "+")]
-        self.broker.start([*topics, topic(self.session, "roster"), topic(self.session, "retired")])
+        topics = [topic(self.session, each, "+") for each in (self.seat.seat, "head", "left")]
+        self.broker.start([*topics, *(topic(self.session, each) for each in ("roster", "retired", "watched"))])
 
     async def stop(self):
         await self.broker.stop()

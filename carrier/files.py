@@ -9,6 +9,7 @@ import stat
 from dataclasses import dataclass, field
 from pathlib import Path
 
+from carrier.broker import Account
 from carrier.roster import SEATS, BadRoster, Roster, roster_of
 from carrier.trust import BadTrust, Trust
 
@@ -69,7 +70,8 @@ def fields_of(path):
 @dataclass
 class Seat:
     """What a carrier needs of one seat. `certificate` is what connections to the broker are judged by, in DER; `listen` says
-    that the broker runs here, beside the journal; `begun` that there was a journal; `keep` that it has no page."""
+    that the broker runs here, beside the journal; `begun` that there was a journal; `keep` that it has no page. `account` is the
+    one that all members have at the broker, where each hasn't its own."""
 
     seat: int
     seed: bytes
@@ -80,6 +82,7 @@ class Seat:
     listen: bool = False
     begun: bool = False
     keep: bool = False
+    account: Account = None
 
     @staticmethod
     def path(journal):
@@ -98,6 +101,7 @@ class Seat:
             "listen": self.listen,
             "begun": self.begun,
             "keep": self.keep,
+            "account": [self.account.user, self.account.password] if self.account else None,
         }
         write_private(self.path(journal), json.dumps(fields, indent=1) + "\n")
 
@@ -111,17 +115,22 @@ class Seat:
             trust = Trust(fields["trust"], data_of(fields["trusted"]))
             roster, seed = roster_of(data_of(fields["roster"])), data_of(fields["seed"])
             certificate, flags = data_of(fields["certificate"]), [fields[name] is True for name in ("listen", "begun", "keep")]
-            return cls(number, seed, roster, str(fields["broker"]), trust, certificate, *flags)
+            account = Account(*fields["account"]) if fields.get("account") else None
+            return cls(number, seed, roster, str(fields["broker"]), trust, certificate, *flags, account)
 
 
 @dataclass
 class Founder:
     """What only the founder has: the secret that retires seats, the secrets of seats that nobody was handed yet, and by their
-    numbers the seats that are retired, with what was signed of them, or with an empty text where that isn't done yet."""
+    numbers the seats that are retired, with what was signed of them, or with an empty text where that isn't done yet. `watch`
+    is the secret of those who only look on, which a session has that was founded since there are such, and `is_watched` whether
+    a link for them was made."""
 
     seed: bytes
     free: dict = field(default_factory=dict)
     retired: dict = field(default_factory=dict)
+    watch: bytes = b""
+    is_watched: bool = False
 
     @staticmethod
     def path(journal):
@@ -132,6 +141,7 @@ class Founder:
         free = {str(seat): text_of(seed) for seat, seed in self.free.items()}
         retired = {str(seat): text for seat, text in self.retired.items()}
         fields = {"seed": text_of(self.seed), "free": free, "retired": retired}
+        fields.update({"watch": text_of(self.watch), "watched": self.is_watched})
         write_private(self.path(journal), json.dumps(fields, indent=1) + "\n")
 
     @classmethod
@@ -140,7 +150,8 @@ class Founder:
         with fields_of(cls.path(journal)) as fields:
             free = {int(seat): data_of(seed) for seat, seed in fields["free"].items()}
             retired = {int(seat): str(text) for seat, text in fields["retired"].items()}
-            return cls(data_of(fields["seed"]), free, retired)
+            watch = data_of(fields.get("watch", ""))
+            return cls(data_of(fields["seed"]), free, retired, watch, fields.get("watched") is True)
 
     @classmethod
     def take(cls, journal):
@@ -150,6 +161,13 @@ class Founder:
                 return None
             seat = min(found.free)
             return seat, found.free.pop(seat)
+
+    @classmethod
+    def let_watch(cls, journal):
+        """The secret of those who only look on, or nothing where the session has none. It is put down that there are some."""
+        with cls.changing(journal) as found:
+            found.is_watched = bool(found.watch)
+            return found.watch
 
     @classmethod
     def note_retired(cls, journal, seat, text=""):

@@ -14,12 +14,16 @@ from carrier import certificate
 from carrier.broker import topic, user_of
 from carrier.files import write_private
 from carrier.roster import SEATS
+from carrier.sealing import WATCHERS
 from carrier.ways import HERE
 from page.addresses import parts_of
+from page.placed import CALLED
 
 # Debian has it where only root's PATH leads.
 PATH = os.pathsep.join([os.environ.get("PATH", os.defpath), "/usr/sbin"])
 PATIENCE = 20
+# What the founder alone leaves with the broker, for all.
+KEPT = ("roster", "retired", "watched")
 MISSING = "mosquitto isn't there. Debian and Ubuntu have it: sudo apt install mosquitto"
 CONFIGURATION = """\
 # Made by ./draw, and read by the mosquitto that it starts.
@@ -46,16 +50,21 @@ class NoBroker(Exception):
 
 
 def rules(roster):
-    """Which seat may write and read what, as mosquitto reads it: each writes as itself alone, and reads what is for it."""
+    """Which seat may write and read what, as mosquitto reads it: each writes as itself alone, and reads what is for it. Who only
+    looks on writes nothing."""
     lines = []
     for seat in range(1, SEATS + 1):
         lines.append(f"user {user_of(roster.session, seat)}")
         lines += [f"topic write {topic(roster.session, '+', seat)}", f"topic read {topic(roster.session, seat, '+')}"]
-        lines.append(f"topic read {topic(roster.session, 'head', '+')}")
-        for name in ("roster", "retired"):
+        lines += [f"topic read {topic(roster.session, name, '+')}" for name in ("head", "left")]
+        lines.append(f"topic write {topic(roster.session, 'watch', seat, '+')}")
+        for name in KEPT:
             lines.append(f"topic {'readwrite' if seat == 1 else 'read'} {topic(roster.session, name)}")
         lines.append("")
-    return "\n".join(lines)
+    lines.append(f"user {user_of(roster.session, WATCHERS)}")
+    for words in (["head", "+"], ["left", "+"], ["watch", "+", "+"], *[[name] for name in KEPT]):
+        lines.append(f"topic read {topic(roster.session, *words)}")
+    return "\n".join([*lines, ""])
 
 
 def own_address(host, port):
@@ -152,7 +161,7 @@ class OwnBroker:
         """What it said last."""
         lines = (self.folder / "said").read_text(errors="replace").strip().split("\n")
         text = lines[-1].partition(": ")[2] or lines[-1] or "it said nothing"
-        return f"{text}. Does another broker or ./draw have that port?" if "in use" in text else text
+        return f"{text}. Does another broker or {CALLED} have that port?" if "in use" in text else text
 
     def stop(self):
         """Ends it, which keeps what was left with it."""

@@ -6,20 +6,22 @@ import secrets
 import signal
 import sys
 
-from carrier import commands
+from carrier import commands, watching
 from carrier.broker import topic
 from carrier.carrier import Carrier
 from carrier.files import BadFile, Seat
 from carrier.mosquitto import NoBroker, OwnBroker
 from carrier.presence import BETWEEN, Presence
-from carrier.retiring import OWN, Retiring
+from carrier.retiring import Retiring
 from carrier.sealing import PRESENCE
 from carrier.standing import Standing
 from carrier.table import Table
+from carrier.watched import Watched
 from carrier.words import asked, without_link
 from page.audience import Audience
 from page.desk import Desk
 from page.draw import BROKEN, FAILED, PROGRAM, ROOT, USAGE, check_journal, node_command, say, serve, start
+from page.placed import CALLED
 from page.server import Server
 
 # What comes has the node polled at once. For what doesn't come it is polled so seldom.
@@ -35,6 +37,8 @@ def main(words):
         if given.invite or given.retire:
             commands.invite(given) if given.invite else commands.retire(given)
             return 0
+        if given.watch is not None:
+            return watching.main(given, words)
         wrong = check_journal(given.journal)
         if wrong:
             raise commands.Wrong(wrong)
@@ -74,8 +78,14 @@ def seat_of(journal):
 
 async def run(given, seat):
     """Runs a seat until this program is told to end, and gives the status."""
+    use = (lambda desk: keep(given)) if seat.keep else (lambda desk: show(desk, given))
+    return await over_own_broker(given, seat, lambda: sit(given, seat, use, Audience()))
+
+
+async def over_own_broker(given, seat, goes_on):
+    """Does what `goes_on` does while the broker of a seat runs, where that is here, and gives its status."""
     if not seat.listen:
-        return await sit(given, seat)
+        return await goes_on()
     loop, own = asyncio.get_running_loop(), OwnBroker(given.journal, seat.broker)
     try:
         await loop.run_in_executor(None, own.start)
@@ -84,18 +94,18 @@ async def run(given, seat):
         return FAILED
     watching = loop.create_task(own.watch())
     try:
-        return await sit(given, seat)
+        return await goes_on()
     finally:
         watching.cancel()
         await asyncio.gather(watching, return_exceptions=True)
         await loop.run_in_executor(None, own.stop)
 
 
-async def sit(given, seat):
-    """Runs a seat whose broker is where it is."""
+async def sit(given, seat, use, audience):
+    """Runs a seat whose broker is where it is, as long as what `use` does with its desk, and gives the status of that."""
     carrier = Carrier(seat)
     standing = Standing(carrier, given.journal)
-    retiring = Retiring(carrier, standing, given.journal)
+    retiring, watched = Retiring(carrier, standing, given.journal), Watched(carrier, standing, given.journal)
     try:
         begin(carrier, seat)
         is_new = not seat.begun and seat.seat != commands.FIRST
@@ -103,16 +113,16 @@ async def sit(given, seat):
             why = f"the broker at {seat.broker} isn't reached: {carrier.broker.fault or 'it does not answer'}."
             if is_new:
                 # Only the broker knows whether the link was used before.
-                say(f"{why} Try again later: ./draw --journal {given.journal}")
+                say(f"{why} Try again later: {CALLED} --journal {given.journal}")
                 return FAILED
             say(f"{why} You can draw all the same: it is tried again")
         older = standing.begin()
-        wrong = used_before(seat, standing) or older or (OWN if retiring.is_own else None)
+        wrong = used_before(seat, standing) or older or (retiring.why if retiring.is_own else None)
         if wrong:
             say(wrong)
             return FAILED
-        desk = desk_of(given, seat, carrier, Audience())
-        return await drawn(given, seat, carrier, standing, retiring, desk)
+        desk = desk_of(given, seat, carrier, audience)
+        return await drawn(given, seat, carrier, standing, retiring, watched, desk, use)
     finally:
         await standing.stop()
         await carrier.stop()
@@ -164,9 +174,11 @@ def presence_of(given, carrier, desk):
     async def asked(words):
         if words.get("what") == "invite":
             return commands.invitation(given.journal)
+        if words.get("what") == "watch":
+            return commands.invitation(given.journal, commands.watching)
         if words.get("what") == "point":
             return presence.take_page(words)
-        raise ValueError("what a page asks of a session over a broker is to invite or to point")
+        raise ValueError("what a page asks of a session over a broker is to invite, to let others look on, or to point")
 
     carrier.takers[PRESENCE] = take
     carrier.comings.append(presence.come)
@@ -185,8 +197,9 @@ async def say_presence(presence, carrier, desk):
         presence.leave(carrier.here())
 
 
-async def show(server, given):
+async def show(desk, given):
     """Serves the page until this program is told to end, and gives the status."""
+    server = Server(secrets.token_urlsafe(24), [desk], desk.audience)
     try:
         await server.start(given.port)
     except OSError as fault:
@@ -206,21 +219,21 @@ async def keep(given):
     return 0
 
 
-async def drawn(given, seat, carrier, standing, retiring, desk):
-    """Starts the node and serves the page, and gives the status."""
+async def drawn(given, seat, carrier, standing, retiring, watched, desk, use):
+    """Starts the node, and gives the status of what `use` does with the desk."""
     saying = None
     try:
-        server = Server(secrets.token_urlsafe(24), [desk], desk.audience)
         status = await start([desk])
         if not status:
             if not seat.begun:
                 seat.begun = True
                 seat.write(given.journal)
-            Table(carrier, standing, retiring, desk, lambda: commands.free_seats(given.journal))
+            watched.name = lambda: desk.name
+            Table(carrier, standing, retiring, watched, desk, lambda: commands.free_seats(given.journal))
             presence = presence_of(given, carrier, desk)
             standing.start(lambda: desk.edits)
             saying = asyncio.get_running_loop().create_task(say_presence(presence, carrier, desk))
-            status = await (keep(given) if seat.keep else show(server, given))
+            status = await use(desk)
         return status
     except OSError as fault:
         say(f"the file of the seat can't be written: {fault.strerror}")

@@ -19,14 +19,16 @@ HEAD = struct.Struct(">5sB4sBB")
 MAGIC = b"GDOE\x01"
 NONCE, TAG = 12, 16
 # What a content is.
-FRAME, WANT, GIVE, PRESENCE = 1, 2, 3, 4
-KINDS = (FRAME, WANT, GIVE, PRESENCE)
+FRAME, WANT, GIVE, PRESENCE, WATCH = 1, 2, 3, 4, 5
+KINDS = (FRAME, WANT, GIVE, PRESENCE, WATCH)
+# Who only looks on has this number in the place of a seat's.
+WATCHERS = 0
 # So many bytes a content has at most.
 MOST = 65_000
 
 
 class Seals:
-    """The seals of one seat of a roster."""
+    """The seals of one seat of a roster, or of those who only look on."""
 
     def __init__(self, roster, seat, keys):
         """`keys` are those of that seat. Raises `ValueError` where a key of the roster is none to agree with."""
@@ -37,6 +39,12 @@ class Seals:
                 shared = keys.exchange.exchange(X25519PublicKey.from_public_bytes(roster.exchange_key(other)))
                 self.sending[other] = self.cipher(shared, roster, seat, other)
                 self.receiving[other] = self.cipher(shared, roster, other, seat)
+
+    def seal_for_watchers(self, roster, keys, key):
+        """From now on seals for those who only look on, whose public key for agreeing is given. Raises `ValueError` where it is
+        none to agree with."""
+        shared = keys.exchange.exchange(X25519PublicKey.from_public_bytes(key))
+        self.sending[WATCHERS] = self.cipher(shared, roster, self.seat, WATCHERS)
 
     @staticmethod
     def cipher(shared, roster, sender, receiver):

@@ -11,6 +11,7 @@ from carrier.heads import Heads, signed
 from carrier.lending import Lending
 from carrier.roster import SEATS
 from carrier.sealing import GIVE, WANT
+from page.placed import CALLED
 
 # How often the journal is looked at, and how many seconds lie between two heads of the same seat.
 LOOK, BETWEEN = 0.25, 0.5
@@ -22,10 +23,10 @@ OLDER = (
 )
 ELSEWHERE = (
     "this seat draws elsewhere too: the others know of edits that this journal hasn't. Nothing more is sent or taken. End this "
-    "./draw, and go on where the newest journal is"
+    f"{CALLED}, and go on where the newest journal is"
 )
 TAKEN = (
-    "this seat is in use elsewhere: another ./draw has it open, here or on another machine. Two would tell two stories, so nothing "
+    f"this seat is in use elsewhere: another {CALLED} has it open, here or on another machine. Two would tell two stories, so nothing "
     "is sent or taken here. End one of them"
 )
 OPENED = "this seat was opened elsewhere too, where nothing is sent or taken. End it there, or ask for another seat for it"

@@ -40,9 +40,9 @@ async def renew(desk):
 class Table:
     """The seats of one carrier's session."""
 
-    def __init__(self, carrier, standing, retiring, desk, invites):
+    def __init__(self, carrier, standing, retiring, watched, desk, invites):
         """`invites` gives how many more people can be invited here."""
-        self.retiring, self.retired = retiring, {}
+        self.retiring, self.watched, self.retired = retiring, watched, {}
         self.carrier, self.standing, self.desk, self.invites = carrier, standing, desk, invites
         self.own, self.name = carrier.seat.seat, carrier.seat.roster.name
         self.heard, self.closed, self.node, self.due, self.renewing = set(), set(), None, [], None
@@ -118,7 +118,8 @@ class Table:
         own = {"name": self.name, "seats": seats, "up": broker.up, "fault": "" if broker.up else broker.fault}
         if now - self.counted_at >= COUNT_EVERY:
             self.free, self.counted_at = self.invites(), now
-        return {**own, "broker": self.carrier.seat.broker, "invites": self.free}
+        looks = {"watches": self.watched.can_make, "watched": self.watched.key is not None}
+        return {**own, "broker": self.carrier.seat.broker, "invites": self.free, **looks}
 
     def is_behind(self, seat):
         return seat in self.standing.heads.newest and seat in self.standing.heads.missing()

@@ -10,7 +10,7 @@ from pathlib import Path
 from page.addresses import BadAddress, parts_of
 from page.placed import CALLED
 
-BEGIN = ("--found", "--join", "--keep", "--invite", "--retire")
+BEGIN = ("--found", "--join", "--keep", "--invite", "--retire", "--watch")
 # Words of a node with addresses, or of a demonstration.
 OTHERS = ("--session", "--site", "--demo")
 MOST_PORT = 65_535
@@ -19,11 +19,12 @@ SYSTEM = "/usr/bin/python3"
 WANTED = ("paho", "cryptography", "aiohttp")
 MISSING = "draw: a session over a broker needs two packages: sudo apt install python3-paho-mqtt python3-cryptography"
 HELP = """over a broker, from anywhere (page/README.md):
-  --found NAME (--listen HOST:PORT | --broker HOST:PORT [--ca FILE]) --journal PATH
+  --found NAME (--listen HOST:PORT | --broker HOST:PORT [--ca FILE] [--account FILE]) --journal PATH
                                  founds a session, and sits down at its first seat
-  --invite [--journal PATH]      prints a link for one person
+  --invite [--journal PATH]      prints a link for one person; with --watch the link for all who only look on
   --join LINK --journal PATH     sits down at the seat of a link; LINK may be -, and is then read from standard input
   --keep LINK --journal PATH     keeps a copy at the seat of a link, without a page, for a machine that is always on
+  --watch LINK                   shows the drawing to who only looks on
   --retire SEAT [--journal PATH] ends a seat that was left for good, or that was taken by a wrong one
   --journal PATH                 goes on later"""
 
@@ -34,19 +35,35 @@ def is_carried(words):
     return bool(names & {*BEGIN}) or ("--journal" in names and not names & {*OTHERS} and not {"-h", "--help"} & names)
 
 
-def run(words):
-    """Does what words of a session over a broker ask for, and gives the status. Where this Python hasn't the packages for that
-    and Debian's has, it goes on with that one."""
+def has_packages():
+    """Whether this Python has the packages for a session over a broker. Where it hasn't and Debian's has, it goes on with that
+    one; where neither has, that is said."""
     if not all(importlib.util.find_spec(name) for name in WANTED):
         imports = "; ".join(f"import {name}" for name in WANTED)
         tried, can_be = [SYSTEM, "-c", imports], sys.executable != SYSTEM and os.path.exists(SYSTEM)
         if can_be and subprocess.run(tried, stderr=subprocess.DEVNULL).returncode == 0:
             os.execv(SYSTEM, [SYSTEM, *sys.argv])
         print(MISSING, file=sys.stderr)
+        return False
+    return True
+
+
+def run(words):
+    """Does what words of a session over a broker ask for, and gives the status."""
+    if not has_packages():
         return 1
     from carrier.running import main
 
     return main(words)
+
+
+def host(given):
+    """Hosts seats of a session over a broker, as `page.hosting` was asked to, and gives the status."""
+    if not has_packages():
+        return 1
+    from carrier.hosting import main
+
+    return main(given)
 
 
 def without_link(words):
@@ -92,9 +109,11 @@ def asked(words, program):
     add("--listen", metavar="HOST:PORT", type=address, help="start a broker here, which the others reach at this address")
     add("--broker", metavar="HOST:PORT", type=address, help="the broker, which speaks MQTT over TLS")
     add("--ca", metavar="FILE", type=Path, help="the certificate of the authority behind the broker's, in PEM")
+    add("--account", metavar="FILE", type=Path, help="two lines, the user and password that all members have there; - asks for them")
     add("--invite", action="store_true", help="print a link for one person")
     add("--join", metavar="LINK", help="sit down at the seat of a link")
     add("--keep", metavar="LINK", help="keep a copy at the seat of a link, without a page")
+    add("--watch", metavar="LINK", nargs="?", const="", help="look on by a link for that; with --invite print that link")
     add("--retire", metavar="SEAT", type=seat, help="end a seat that was left for good")
     add("--journal", metavar="PATH", type=Path, help="the file of the node's log; the files of the seat lie beside it")
     add("--port", metavar="N", type=port, default=0, help="the page's port; any free one if 0")
@@ -108,15 +127,19 @@ def asked(words, program):
 
 def check(parser, given):
     """Refuses words that don't go together."""
-    asks = [given.found is not None, given.invite, given.join is not None, given.keep is not None, given.retire is not None]
-    if sum(asks) > 1:
-        parser.error("one of --found, --invite, --join, --keep and --retire at a time")
+    begun = [given.found, given.join, given.keep, given.retire, None if given.invite else given.watch]
+    if given.invite + sum(each is not None for each in begun) > 1:
+        parser.error("one of --found, --invite, --join, --keep, --retire and --watch at a time")
+    if given.invite == bool(given.watch) and given.watch is not None:
+        parser.error("--watch takes a link, and behind --invite none")
     places = [given.listen, given.broker]
     if given.found is not None and sum(place is not None for place in places) != 1:
         parser.error("--found takes either --listen HOST:PORT, for a broker of its own, or --broker HOST:PORT")
-    if given.found is None and (places != [None, None] or given.ca):
-        parser.error("--listen, --broker and --ca go with --found: later on the seat's file has them")
-    if given.ca and not given.broker:
-        parser.error("--ca goes with --broker")
-    if given.journal is None and not given.invite and not given.retire:
+    if given.found is None and (places != [None, None] or given.ca or given.account):
+        parser.error("--listen, --broker, --ca and --account go with --found: later on the seat's file has them")
+    if (given.ca or given.account) and not given.broker:
+        parser.error("--ca and --account go with --broker")
+    if given.watch and given.journal:
+        parser.error("--watch takes no --journal: who only looks on keeps nothing")
+    if given.journal is None and not given.invite and not given.retire and given.watch is None:
         parser.error("--journal is wanted: the file in which your copy of the drawing is kept")

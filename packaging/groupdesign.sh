@@ -21,15 +21,24 @@ draw() {
     exec "$python" "$prefix/share/groupdesign/draw" "$@"
 }
 
+# Adds to the program's help the command and the status that it doesn't have, and an example of that command.
+with_the_page='
+/^  node /i\
+  draw      draw together on a page in the browser
+s/13 a word that is no UTF-8/&, 70 not run at all/
+s/^example: .*/&\
+example: groupdesign draw --demo 2 --open/
+'
+
 case $#:$1:$2 in
     *:draw:*)
         shift
         draw "$@"
         ;;
-    2:help:draw) draw --help ;;
+    2:help:draw | 2:--help:draw | 2:-h:draw) draw --help ;;
     1:--help: | 1:-h: | 1:help:)
-        "$program" "$@" || exit
-        printf '\n  draw      draw together on a page in the browser: groupdesign draw --demo 2 shows two people on this machine\n'
+        text=$("$program" "$@") || exit
+        printf '%s\n' "$text" | sed "$with_the_page"
         exit
         ;;
 esac

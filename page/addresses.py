@@ -3,6 +3,8 @@
 import errno
 import socket
 
+from page.placed import CALLED
+
 MOST_SITES = 16
 
 
@@ -51,7 +53,8 @@ def numeric(word, family=socket.AF_INET):
 def looked_up(words, site):
     """The addresses of all sites in numbers. `site` is which of them is here, from 1. Raises `BadAddress`."""
     if not 2 <= len(words) <= MOST_SITES:
-        raise BadAddress(f"there are {len(words)} addresses: 2 to {MOST_SITES} are wanted, one of each site, this one too")
+        found = "there is 1 address" if len(words) == 1 else f"there are {len(words)} addresses"
+        raise BadAddress(f"{found}: 2 to {MOST_SITES} are wanted, one of each site, this one too")
     if not 1 <= site <= len(words):
         raise BadAddress(f"there is no site {site} among {len(words)} addresses")
     family = family_of(words)
@@ -79,7 +82,8 @@ def why_not(fault, host, port):
             "`hostname -I` prints the addresses that it has; behind a router it is one of these, not the router's"
         )
     if fault.errno == errno.EADDRINUSE:
-        return f"port {port} of {host} is taken: does a node or ./draw run there already? End it, or take another port at all sites"
+        asked = f"does a node or {CALLED} run there already?"
+        return f"port {port} of {host} is taken: {asked} End it, or take another port at all sites"
     if fault.errno == errno.EACCES:
         return f"port {port} isn't for this user: take one above 1023 at all sites"
     return f"{host}:{port} can't be had: {fault.strerror}"

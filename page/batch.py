@@ -55,6 +55,17 @@ class Batch:
             await self.answer(index)
         return self.answers
 
+    @property
+    def taken(self):
+        """The events of the lines that the node took, each with its line."""
+        answered = zip(self.answers, self.texts)
+        return [(answer[3:], text) for answer, text in answered if answer and answer.startswith("ok ")]
+
+    @property
+    def is_cut(self):
+        """Whether lines were typed whose answers never came."""
+        return UNANSWERED in self.answers
+
     async def named(self, text, needed):
         """A line with the ids that it needs, or `NOT_MADE` where an object that it names wasn't made."""
         self.flush()

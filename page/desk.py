@@ -7,6 +7,7 @@ from pathlib import Path
 from page import lines
 from page.audience import message
 from page.batch import Batch
+from page.gestures import Gestures
 from page.history import History
 from page.names import BadName, NameFile, name_of, word_of
 from page.news import News
@@ -23,6 +24,9 @@ WATCH_EVERY = 0.5
 class Desk:
     """One node and what is known of it. Each change is told to the audience, with the number of the desk."""
 
+    # One that only looks on has no node. The network can read along where pages come over another one than loopback, unencrypted.
+    is_watch = is_openly = False
+
     def __init__(self, number, command, journal, audience, session=None, poll_every=POLL_EVERY):
         """`command` is the node's, without `--resume`, which is added behind `node` where the journal is there."""
         self.number, self.command, self.journal, self.session = number, command, Path(journal), session
@@ -33,8 +37,8 @@ class Desk:
         self.site, self.sites, self.is_demo, self.desks = number, number, False, [number]
         # Edits that earlier runs of the node took, and the number of the last one that was shown.
         self.edits_before, self.shown, self.was_silent, self.is_fault_told = 0, -1, False, False
-        # Of each gesture of several edits since this program started the clocks of the first and the last one.
-        self.gestures = []
+        # Which edits are one gesture, and how many events were told.
+        self.gestures, self.told_events = Gestures(), 0
         self.node, self.rounds, self.tasks = None, None, []
         # Whether the rounds are woken whenever a datagram has come.
         self.is_woken = False
@@ -69,6 +73,7 @@ class Desk:
         if not self.peers.others:
             self.site, self.sites, self.peers = site, sites, Peers(site, sites)
             self.history.begin()
+            self.told_events = len(self.history.events)
             self.name = self.names.read()
         self.peers.resume()
         if self.name:
@@ -104,16 +109,28 @@ class Desk:
     async def batch(self, texts):
         """Types the lines of one gesture, and gives an answer for each and the number of the last edit that was taken."""
         batch = Batch(texts, self.type)
-        # One gesture is typed behind the other, also where one waits for ids.
-        async with self.typing:
-            await batch.type_all()
-        if self.rounds:
-            self.rounds.expect(batch.verbs)
-        answers = await batch.all_answers()
-        own = [(each[3:], text) for each, text in zip(answers, batch.texts) if each.startswith("ok ")]
-        self.note_gesture([int(event.partition(".")[0]) for event, _ in own])
-        self.tell_news([{"what": "own", "event": event, "line": text} for event, text in own])
+        self.gestures.begin()
+        try:
+            # One gesture is typed behind the other, also where one waits for ids.
+            async with self.typing:
+                await batch.type_all()
+            if self.rounds:
+                self.rounds.expect(batch.verbs)
+            answers = await batch.all_answers()
+        finally:
+            self.end_gesture(batch)
         return {"answers": answers, "edits": self.edits}
+
+    def end_gesture(self, batch):
+        """Tells which edits were one gesture, and then those of its events that waited for that."""
+        if batch.is_cut:
+            self.history.go_on()
+        gesture = self.gestures.end([int(event.partition(".")[0]) for event, _ in batch.taken], batch.is_cut)
+        if gesture:
+            self.tell("gestures", gestures=[gesture])
+        if self.told_events < len(self.history.events):
+            self.read_history()
+        self.tell_news([{"what": "own", "event": event, "line": text} for event, text in batch.taken])
 
     def type(self, typed):
         """Types lines, and gives their slots. Raises `Refused` where the node has ended or has too many to answer."""
@@ -147,8 +164,9 @@ class Desk:
         """Tells what is different in a drawing, which has so many edits of this run of the node."""
         difference = self.picture.take(shown)
         self.shown = self.edits_before + accepted
-        self.tell("picture", edits=self.shown, others=others, polled_at=polled_at, whole=False, **difference)
+        # Who sees an edit can step back from it.
         self.read_history()
+        self.tell("picture", edits=self.shown, others=others, polled_at=polled_at, whole=False, **difference)
 
     def take_standing(self, standing):
         """Tells the numbers where they have changed. Says whether fewer events are kept than before."""
@@ -202,22 +220,19 @@ class Desk:
             self.tell("news", news=told, earlier=False)
 
     def read_history(self):
-        """Tells what came to the journal, or once that it isn't read any more."""
-        first = self.history.go_on()
+        """Tells what came to the journal, up to the first event whose gesture isn't whole, or once that it isn't read any more."""
+        self.history.go_on()
         if self.history.fault and not self.is_fault_told:
             self.is_fault_told = True
             self.tell_news([{"what": "said", "line": f"the journal isn't read for the history: {self.history.fault}"}])
-        if first < len(self.history.events):
-            for text in self.history.messages(self.number, first):
+        first, self.told_events = self.told_events, self.gestures.told(len(self.history.events))
+        if first < self.told_events:
+            for text in self.history.messages(self.number, first, self.told_events):
                 self.audience.spread(text, self.number)
 
-    def note_gesture(self, clocks):
-        """Tells that edits are one gesture. No others of this site lie between, since batches are typed one behind the other."""
-        if len(clocks) > 1:
-            self.gestures.append([clocks[0], clocks[-1]])
-            self.tell("gestures", gestures=self.gestures[-1:])
-
-    def note_event(self, event, is_new):
+    def note_event(self, place, event, is_new):
+        if is_new and event["site"] == self.site:
+            self.gestures.see(place, event["clock"])
         self.peers.event(event["clock"], event["site"], is_new)
 
     def tell_peers(self):
@@ -247,7 +262,8 @@ class Desk:
     def hello(self):
         """What a page that comes is told first."""
         fields = {"site": self.site, "sites": self.sites, "session": self.session, "demo": self.is_demo}
-        return message("hello", desk=self.number, **fields, journal=self.journal.name, desks=self.desks, names=self.called())
+        fields |= {"openly": self.is_openly, "journal": self.journal.name, "desks": self.desks}
+        return message("hello", desk=self.number, **fields, names=self.called(), gestures=self.gestures.whole)
 
     def opening(self):
         """What a page that comes is told of this desk."""
@@ -259,7 +275,6 @@ class Desk:
         yield message("peers", desk=self.number, **self.peers.told(self.called(), silence))
         whole = self.picture.whole()
         yield message("picture", desk=self.number, edits=self.shown, others=False, polled_at=None, whole=True, **whole)
-        yield message("gestures", desk=self.number, gestures=self.gestures)
-        yield from self.history.messages(self.number)
+        yield from self.history.messages(self.number, 0, self.told_events)
         if self.end:
             yield message("end", desk=self.number, end=self.end)

@@ -25,6 +25,9 @@ from page.server import Server
 DEMO_SESSION = 7
 MOST_SESSION = 2**32 - 1
 USAGE, FAILED, BROKEN = 2, 1, 130
+HOSTING = """for guests who have a browser alone (page/README.md):
+  --host N [--at ADDR:PORT] [--cert FILE --key FILE] [--journal PATH]
+                                 runs N seats on this machine, and prints a link for each"""
 
 
 def number_in(least, most):
@@ -42,7 +45,7 @@ def asked(words):
     parser = argparse.ArgumentParser(
         prog=CALLED,
         description="Draws together in a browser, over a node of one's own.",
-        epilog=f"for example {CALLED} --demo 2 --open\n\n{carried.HELP}",
+        epilog=f"for example {CALLED} --demo 2 --open\n\n{HOSTING}\n\n{carried.HELP}",
         formatter_class=argparse.RawDescriptionHelpFormatter,
     )
     add = parser.add_argument
@@ -57,7 +60,7 @@ def asked(words):
     given = parser.parse_args(words)
     own = [given.session, given.site, given.journal]
     if given.demo is None and (None in own or not given.addresses):
-        parser.error("--session, --site, --journal and the addresses are wanted, or --demo")
+        parser.error(f"--session, --site, --journal and the addresses are wanted. For a first look: {CALLED} --demo 2 --open")
     if given.demo is not None and (own != [None] * 3 or given.addresses):
         parser.error("--demo takes no words of a node")
     return given
@@ -76,6 +79,8 @@ def say(text):
 def check_journal(path):
     """Says what is wrong with the place of a journal, or nothing."""
     folder = path.parent
+    if not path.name:
+        return f"the journal {path} is no file: name one, like mine.log"
     if path.is_dir():
         return f"the journal {path} is a folder: name a file in it"
     if not folder.is_dir():
@@ -149,8 +154,12 @@ def tell_addresses(server, given):
         for number in server.desks:
             print(f"{server.address}?desk={number}  (site {number} alone)", flush=True)
     if given.open:
-        # Some browsers only give back what they were given when they end.
-        threading.Thread(target=open_page, args=[first], daemon=True).start()
+        open_later(first)
+
+
+def open_later(address):
+    """Opens a page beside all else: some browsers only give back what they were given when they end."""
+    threading.Thread(target=open_page, args=[address], daemon=True).start()
 
 
 def open_page(address):
@@ -158,12 +167,12 @@ def open_page(address):
         say("no browser was found: open the address above in one")
 
 
-async def serve(server, given):
-    """Serves until this program is told to end."""
+async def serve(server, given, tell=tell_addresses):
+    """Serves until this program is told to end. `tell` says where the pages are."""
     told = asyncio.Event()
     for each in (signal.SIGINT, signal.SIGTERM, signal.SIGHUP):
         asyncio.get_running_loop().add_signal_handler(each, told.set)
-    tell_addresses(server, given)
+    tell(server, given)
     await told.wait()
     await server.stop()
 
@@ -196,6 +205,11 @@ async def run(given, room):
 
 def main(words=None):
     words = sys.argv[1:] if words is None else words
+    if any(word.partition("=")[0] == "--host" for word in words):
+        # It takes what is here.
+        from page import hosting
+
+        return hosting.main(words)
     if carried.is_carried(words):
         return carried.run(words)
     given = asked(words)

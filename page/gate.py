@@ -3,13 +3,15 @@
 import asyncio
 import hmac
 
+from page.placed import CALLED
+
 # The head of a request has so many bytes at most, and is whole after so many seconds.
 MOST_HEAD, PATIENCE = 16_384, 5
 # So many connections may be without a head. One more takes the place of the one that waits for longest.
 MOST_STRANGERS = 64
 END = b"\r\n\r\n"
 METHODS = (b"GET", b"HEAD")
-OTHER_TOKEN = "This address has another token than the one that ./draw printed last. Open the address that it printed.\n"
+OTHER_TOKEN = f"This address has another token than the one that {CALLED} printed last. Open the address that it printed.\n"
 
 
 def refusal(status, text, headers):
@@ -38,20 +40,28 @@ class Strangers:
 class Gate(asyncio.Protocol):
     """One connection. It has one request: what follows the head of that is never read."""
 
-    def __init__(self, token, strangers, handler, headers):
+    def __init__(self, tokens, strangers, handler, headers):
         """`handler` makes the protocol that takes a connection which was let in. `headers` are those of refusals."""
-        self.token, self.strangers, self.handler, self.headers = token.encode(), strangers, handler, headers
+        self.tokens, self.strangers, self.handler, self.headers = [each.encode() for each in tokens], strangers, handler, headers
         self.data, self.transport, self.late = bytearray(), None, None
 
     def connection_made(self, transport):
         self.transport = transport
         self.strangers.come(self)
         self.late = asyncio.get_running_loop().call_later(PATIENCE, self.let_go)
+        # Behind a handshake what was sent may be there already.
+        if self.data:
+            self.judge()
 
     def data_received(self, data):
-        if self.late is None:
-            return
-        self.data += data
+        if self.transport is None:
+            self.data += data
+        elif self.late is not None:
+            self.data += data
+            self.judge()
+
+    def judge(self):
+        """Lets the connection in, refuses it, or waits for more."""
         if self.is_refused():
             return
         end = self.data.find(END)
@@ -72,10 +82,11 @@ class Gate(asyncio.Protocol):
         return True
 
     def has_token(self, line):
-        """Whether the path in the first line of a request begins with the token."""
+        """Whether the path in the first line of a request begins with a token."""
         words = line.split(b" ")
         parts = words[1].split(b"/") if len(words) == 3 else []
-        return len(parts) > 2 and not parts[0] and hmac.compare_digest(parts[1], self.token)
+        # All are compared, so that the time tells nothing of which was nearer.
+        return len(parts) > 2 and not parts[0] and any([hmac.compare_digest(parts[1], token) for token in self.tokens])
 
     def refuse(self, status, text):
         self.transport.write(refusal(status, text, self.headers))
@@ -102,3 +113,39 @@ class Gate(asyncio.Protocol):
 
     def connection_lost(self, fault):
         self.forget()
+
+
+class Porch(asyncio.Protocol):
+    """One connection before the gate, where TLS is spoken: it is a stranger until its handshake is done."""
+
+    def __init__(self, context, strangers, gate):
+        """`gate` makes the gate to which the connection is led."""
+        self.context, self.strangers, self.gate = context, strangers, gate
+        self.transport = self.greeting = None
+
+    def connection_made(self, transport):
+        self.transport = transport
+        self.strangers.come(self)
+        # What comes is the handshake's.
+        transport.pause_reading()
+        self.greeting = asyncio.get_running_loop().create_task(self.greet())
+
+    async def greet(self):
+        loop, gate, limit = asyncio.get_running_loop(), self.gate(), {"ssl_handshake_timeout": PATIENCE}
+        try:
+            led = await loop.start_tls(self.transport, gate, self.context, server_side=True, **limit)
+        except (OSError, asyncio.TimeoutError):
+            self.transport.abort()
+            return
+        finally:
+            self.strangers.leave(self)
+        # There is none where the other side went away just then.
+        if led is not None:
+            gate.connection_made(led)
+
+    def let_go(self):
+        self.strangers.leave(self)
+        self.transport.abort()
+
+    def connection_lost(self, fault):
+        self.strangers.leave(self)

@@ -54,7 +54,8 @@ class TimesFile:
 class History:
     """The events of a journal, each as JSON: what it is, `seen`, and of one that came as an echo in this run what came of it."""
 
-    def __init__(self, journal, seen=lambda event, is_new: None):
+    def __init__(self, journal, seen=lambda place, event, is_new: None):
+        """`seen` is called for each event, with its place among all, counted from 0, and whether it came since the start."""
         self.journal, self.times = Journal(journal), TimesFile(journal)
         self.seen, self.events, self.outcomes, self.fault = seen, [], {}, None
 
@@ -74,14 +75,13 @@ class History:
             del self.outcomes[next(iter(self.outcomes))]
 
     def go_on(self):
-        """Takes what came to the journal since. Gives the number of the first of these events, counted from 0."""
-        first, moment = len(self.events), int(time.time() * 1000)
+        """Takes what came to the journal since."""
+        moment = int(time.time() * 1000)
         events = self.read_on()
         for event in events:
             self.keep(event, moment, is_new=True)
         if events:
             self.times.append([event["id"] for event in events], moment)
-        return first
 
     def read_on(self):
         try:
@@ -93,10 +93,10 @@ class History:
     def keep(self, event, moment, is_new):
         outcome = self.outcomes.pop(event["id"], {})
         self.events.append(packed({**event, "seen": moment, **outcome}))
-        self.seen(event, is_new)
+        self.seen(len(self.events) - 1, event, is_new)
 
-    def messages(self, desk, first=0):
-        """The texts that tell the events from a number on; at least one, so that a newcomer hears where there are none."""
-        for start in range(first, max(len(self.events), first + 1), PART):
-            events = ",".join(self.events[start : start + PART])
+    def messages(self, desk, first, end):
+        """The texts that tell the events from one number to another; at least one, so that a newcomer hears where there are none."""
+        for start in range(first, max(end, first + 1), PART):
+            events = ",".join(self.events[start : min(end, start + PART)])
             yield f'{{"is":"history","desk":{desk},"from":{start},"events":[{events}]}}'

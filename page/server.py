@@ -3,12 +3,15 @@
 import asyncio
 import logging
 import re
+import ssl
+from dataclasses import dataclass
 from pathlib import Path
 
 from aiohttp import web
 from aiohttp.http_exceptions import HttpProcessingError
 
-from page.gate import Gate, Strangers
+from page.gate import Gate, Porch, Strangers
+from page.placed import CALLED
 from page.talk import Talk
 
 HERE = "127.0.0.1"
@@ -16,11 +19,16 @@ STATIC = Path(__file__).resolve().parent / "static"
 TYPES = {".html": "text/html", ".css": "text/css", ".js": "text/javascript", ".svg": "image/svg+xml", ".png": "image/png"}
 # What stands in the place of a page to which another page led.
 ELSEWHERE = "elsewhere.html"
+# The file that says how this program is called, as in a checkout.
+NAMING = "core/called.js"
 # The name of a file of the page: words with `/` between them, none of which begins with a full stop.
 NAME = re.compile(r"[a-zA-Z0-9_-][a-zA-Z0-9_.-]*(/[a-zA-Z0-9_-][a-zA-Z0-9_.-]*)*")
 # A gesture over thousands of objects is one message.
 MOST_MESSAGE = 4 << 20
 BACKLOG = 64
+# The code with which a socket is closed where another page has what its token is for.
+TAKEN = 4002
+USUAL = {"http": 80, "https": 443}
 # So many seconds a page has to answer that this program ends.
 FAREWELL = 3
 HEADERS = {
@@ -43,6 +51,27 @@ def is_own_fault(record):
 LOG.addFilter(is_own_fault)
 
 
+@dataclass(frozen=True)
+class Place:
+    """Where a server is reached: the names by which requests may call it, without the port, the first of which stands in its
+    address; the address at which it listens; how TLS is spoken, if it is; and after how many seconds of silence a socket is asked
+    whether it is still there, if it is."""
+
+    names: tuple = (HERE, "localhost")
+    bound: str = HERE
+    tls: ssl.SSLContext = None
+    heartbeat: float = None
+
+    @property
+    def scheme(self):
+        return "https" if self.tls else "http"
+
+    def hosts(self, port):
+        """What requests may have for a host. A port that the scheme has anyway isn't named by browsers."""
+        named = {f"{name}:{port}" for name in self.names}
+        return named | set(self.names) if port == USUAL[self.scheme] else named
+
+
 def policy(sockets, frames):
     """What a page may load: its own files and its own socket, and no script or style that stands in the page itself."""
     return (
@@ -54,39 +83,51 @@ def policy(sockets, frames):
 class Server:
     """The server of one run. Its address has the token in it."""
 
-    def __init__(self, token, desks, audience, demo=None):
+    # Whether one token is for one page at a time.
+    is_single = False
+
+    def __init__(self, token, desks, audience, demo=None, place=Place()):
         """`demo` is the proxy of a demonstration, where there is one."""
-        self.token, self.audience, self.demo = token, audience, demo
+        self.token, self.audience, self.demo, self.place = token, audience, demo, place
         self.desks = {desk.number: desk for desk in desks}
         for desk in desks:
             desk.is_demo, desk.desks = demo is not None, list(self.desks)
+        # The desks behind each token, and the tokens that a page has open.
+        self.doors, self.opened = {token: self.desks}, set()
         self.port, self.hosts, self.origins = None, set(), set()
         self.headers, self.strangers, self.talks = dict(HEADERS), Strangers(), set()
         self.listening = self.runner = None
 
     @property
     def address(self):
-        return f"http://{HERE}:{self.port}/{self.token}/"
+        return self.address_of(self.token)
+
+    def address_of(self, token):
+        return f"{self.place.scheme}://{self.place.names[0]}:{self.port}/{token}/"
 
     async def start(self, port):
         """Serves at a port, any free one if it is 0. Raises `OSError` where it can't be had."""
         app = web.Application(middlewares=[self.admitted])
         app.on_response_prepare.append(self.add_headers)
-        app.router.add_get(f"/{self.token}/socket", self.give_socket, allow_head=False)
-        app.router.add_get(f"/{self.token}/{{name:.*}}", self.give_file)
+        app.router.add_get("/{token}/socket", self.give_socket, allow_head=False)
+        app.router.add_get("/{token}/{name:.*}", self.give_file)
         self.runner = web.AppRunner(app, logger=LOG, access_log=None, handle_signals=False, lingering_time=0)
         await self.runner.setup()
-        loop = asyncio.get_running_loop()
-        self.listening = await loop.create_server(self.gate, HERE, port, backlog=BACKLOG)
+        loop, place = asyncio.get_running_loop(), self.place
+        first = self.porch if place.tls else self.gate
+        self.listening = await loop.create_server(first, place.bound, port, backlog=BACKLOG)
         self.port = self.listening.sockets[0].getsockname()[1]
-        names = [f"{name}:{self.port}" for name in (HERE, "localhost")]
-        self.hosts, self.origins = set(names), {f"http://{name}" for name in names}
+        self.hosts = place.hosts(self.port)
+        self.origins = {f"{place.scheme}://{host}" for host in self.hosts}
         # In a demonstration pages of this server stand in frames of one of them.
-        frames = "'self'" if self.demo else "'none'"
-        self.headers["Content-Security-Policy"] = policy(sorted(f"ws://{host}" for host in self.hosts), frames)
+        frames, scheme = "'self'" if self.demo else "'none'", "wss" if place.tls else "ws"
+        self.headers["Content-Security-Policy"] = policy(sorted(f"{scheme}://{host}" for host in self.hosts), frames)
 
     def gate(self):
-        return Gate(self.token, self.strangers, self.runner.server, self.headers)
+        return Gate(list(self.doors), self.strangers, self.runner.server, self.headers)
+
+    def porch(self):
+        return Porch(self.place.tls, self.strangers, self.gate)
 
     async def stop(self):
         """Ends all connections, and tells the pages that listen."""
@@ -111,7 +152,7 @@ class Server:
 
     def elsewhere(self, request):
         """What another page gets. Who followed a link of it is asked, by a page of this address, whether to go on."""
-        if request.headers.get("Sec-Fetch-Dest") != "document" or request.path == f"/{self.token}/socket":
+        if request.headers.get("Sec-Fetch-Dest") != "document" or request.path.split("/")[2:] == ["socket"]:
             raise web.HTTPForbidden(text="another origin\n")
         return web.Response(status=403, body=(STATIC / ELSEWHERE).read_bytes(), content_type="text/html", charset="utf-8")
 
@@ -128,13 +169,16 @@ class Server:
         path = STATIC / name
         if not NAME.fullmatch(name) or path.suffix not in TYPES or not path.is_file():
             raise web.HTTPNotFound(text="nothing is there\n")
-        return web.Response(body=path.read_bytes(), content_type=TYPES[path.suffix], charset="utf-8")
+        body = path.read_bytes()
+        if name == NAMING:
+            body = body.replace(b"./draw", CALLED.encode())
+        return web.Response(body=body, content_type=TYPES[path.suffix], charset="utf-8")
 
-    def desk(self, number):
+    def desk(self, desks, number):
         """The desk of a number in an address; where there is one alone, or none was named, the first."""
-        if number is None or len(self.desks) == 1:
-            return self.desks[min(self.desks)]
-        desk = self.desks.get(int(number)) if number.isascii() and number.isdigit() and len(number) < 4 else None
+        if number is None or len(desks) == 1:
+            return desks[min(desks)]
+        desk = desks.get(int(number)) if number.isascii() and number.isdigit() and len(number) < 4 else None
         if desk is None:
             raise web.HTTPNotFound(text="there is no such desk\n")
         return desk
@@ -143,14 +187,21 @@ class Server:
         """The socket of a page: what it is told of a desk, and what it asks for."""
         if "Origin" not in request.headers:
             raise web.HTTPForbidden(text="a socket is for a page of this address\n")
-        desk = self.desk(request.query.get("desk"))
+        token = request.match_info["token"]
+        desks = self.doors[token]
+        desk = self.desk(desks, request.query.get("desk"))
         # A message that packs much into little would be unpacked, so none is packed.
-        socket = web.WebSocketResponse(max_msg_size=MOST_MESSAGE, compress=False)
+        socket = web.WebSocketResponse(max_msg_size=MOST_MESSAGE, compress=False, heartbeat=self.place.heartbeat)
         await socket.prepare(request)
+        if self.is_single and token in self.opened:
+            await socket.close(code=TAKEN)
+            return socket
         talk = asyncio.current_task()
         self.talks.add(talk)
+        self.opened.add(token)
         try:
-            await Talk(socket, self.desks, self.audience, self.demo).run(desk.number, request.transport.abort)
+            await Talk(socket, desks, self.audience, self.demo).run(desk.number, request.transport.abort)
         finally:
             self.talks.discard(talk)
+            self.opened.discard(token)
         return socket

@@ -10,6 +10,7 @@ from page.audience import message
 from page.batch import MOST_LINES
 from page.names import BadName
 from page.node import Busy, Ended
+from page.placed import CALLED
 from page.replays import NoReplay, saved
 
 # So many things that a page asked for may be under way. While they are, no more is read from it.
@@ -37,6 +38,9 @@ class Talk:
             "link": self.link,
             "carried": self.carried,
         }
+        if any(desk.is_watch for desk in desks.values()):
+            # Who only looks on saves what is seen, and asks for nothing else.
+            self.calls = {"save": self.save}
 
     async def run(self, desk, let_go):
         """Talks until either side ends. The page is told of one desk. `let_go` breaks the connection off."""
@@ -80,13 +84,13 @@ class Talk:
         asked = {}
         try:
             asked = self.read(text)
-            answer = await self.calls[asked["do"]](asked)
+            answer = await self.call(asked)(asked)
         except (Wrong, BadName, NoReplay) as why:
             answer = message("reply", id=asked.get("id"), error=str(why))
         except Exception:
             # A page that is told nothing waits for good.
             LOG.exception("what a page asked for wasn't done")
-            answer = message("reply", id=asked.get("id"), error="./draw failed at this; it says more where it runs")
+            answer = message("reply", id=asked.get("id"), error=f"{CALLED} failed at this; it says more where it runs")
         try:
             await self.socket.send_str(answer)
         except ConnectionError:
@@ -98,12 +102,18 @@ class Talk:
             asked = json.loads(text)
         except (ValueError, RecursionError):
             raise Wrong("a message is JSON") from None
-        if not isinstance(asked, dict) or not isinstance(asked.get("do"), str) or asked["do"] not in self.calls:
-            raise Wrong(f"a message asks for one of {', '.join(self.calls)}")
+        if not isinstance(asked, dict):
+            raise Wrong("a message is an object")
         if not isinstance(asked.get("id"), (int, str, type(None))):
-            asked["id"] = None
             raise Wrong("an id is a number or a text")
         return asked
+
+    def call(self, asked):
+        """What does what is asked for. Raises `Wrong`."""
+        wanted = asked.get("do")
+        if not isinstance(wanted, str) or wanted not in self.calls:
+            raise Wrong(f"a message asks for one of {', '.join(self.calls)}")
+        return self.calls[wanted]
 
     def desk(self, asked):
         number = asked.get("desk")

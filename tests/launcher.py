@@ -18,6 +18,8 @@ def checkout():
                 shutil.copy(path, folder)
         for name in ("examples", "docs", "packaging"):
             shutil.copytree(ROOT / name, folder / name)
+        for name in ("page", "carrier"):
+            (folder / name).symlink_to(ROOT / name)
         out = folder / "crates/groupdesign/out"
         out.mkdir(parents=True)
         (out / "groupdesign").symlink_to(PROGRAM)

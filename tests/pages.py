@@ -5,7 +5,8 @@ from dataclasses import dataclass
 
 from tests.program import ROOT
 
-PAGES = ["README.md", "examples/README.md", *sorted(f"docs/{path.name}" for path in (ROOT / "docs").glob("*.md"))]
+PAGES = ["README.md", *(f"{folder}/README.md" for folder in ("examples", "page", "carrier"))]
+PAGES += sorted(f"docs/{path.name}" for path in (ROOT / "docs").glob("*.md"))
 FENCE, INDENT = "```", "    "
 
 
@@ -76,3 +77,29 @@ def examples():
                     found.behind.append(line)
             if found:
                 yield found
+
+
+# What runs something, as a line of a block: a file of the checkout, the installed command, or one of the system.
+COMMAND = re.compile(r"(\$ |\./|groupdesign |rt |sudo |for |[a-z]+/[a-z-]+(\.sh|\.py)?( |$))")
+
+
+def bare(line):
+    """A line of a block without its prompt, and without what is said behind its command."""
+    return re.sub(r"\s{2,}\S.*$", "", line.removeprefix("$ "))
+
+
+def commands():
+    """Each command that stands in a block of a page, with the page. Of a dialogue it is what stands behind the prompt."""
+    for page in PAGES:
+        for block in blocks_of(page):
+            lines = [line for line in block if line.startswith("$ ")] or [line for line in block if COMMAND.match(line)]
+            yield from ((page, bare(line)) for line in lines)
+
+
+def draws():
+    """Each command that runs ./draw with its words, in a block or in backticks, with the page."""
+    for page in PAGES:
+        text = (ROOT / page).read_text()
+        inline = [f"./draw {words}" for words in re.findall(r"`\./draw (--[^`]+)`", text)]
+        blocks = [command for each, command in commands() if each == page and command.startswith("./draw ")]
+        yield from ((page, command) for command in blocks + inline)

@@ -1,12 +1,13 @@
-"""Each example of README.md, of examples/ and of docs/, run as it stands there."""
+"""Each example of the pages, run as it stands there, but for those of `./draw`."""
 
 import re
 import subprocess
 
 from tests.launcher import checkout, launch
 from tests.nodes import free_addresses
-from tests.pages import PAGES, examples, quoted, rows_of
+from tests.pages import PAGES, commands, draws, examples, quoted, rows_of
 from tests.program import DONE, EXAMPLES, LONGEST, PROGRAM, ROOT, Case, run_program
+from tests.test_draws import is_run
 from tests.test_formats import VOTES
 from tests.worked import FRAME, TIE
 
@@ -78,6 +79,25 @@ class Commands(Case):
         self.assertEqual(done.stdout.splitlines()[-1], "both sites and both journals show the same drawing")
 
 
+# The commands that aren't run by these tests, and why.
+NOT_HERE = {
+    "sudo apt install ./groupdesign_*.deb": "it installs, which packaging/test does in a fresh Debian root",
+    "groupdesign draw --demo 2 --open": "it is the installed command, which packaging/test runs there, and from the archive",
+    "./check": "it runs these tests",
+    "./draw --keep 'LINK' --journal copy.log": "it has no page; carrier/tests/live_together.py runs it",
+    "./draw --watch 'LINK'": "it needs a session that is drawn; carrier/tests/live_watch.py runs it",
+    "./draw --host 3 --at 192.168.1.20:8080 [--cert FILE --key FILE] [--journal PATH]": "page/tests/test_hosting.py runs it, with TLS",
+    "./draw --host 3 --journal mine.log": "it asks for two links more; carrier/tests/live_host.py runs it",
+}
+
+
+class Run(Case):
+    def test_each_command_of_a_page_is_run_or_it_is_said_why_not(self):
+        here = {example.command for example in examples()} | {"examples/two-sites.sh"}
+        found = {command for _, command in [*commands(), *draws()]}
+        self.assertEqual({command for command in found - here if not is_run(command)}, set(NOT_HERE))
+
+
 class Tables(Case):
     def test_the_logs_of_the_table(self):
         (table,) = rows_of("examples/README.md", "Log", "What it shows", "Status")
@@ -131,7 +151,7 @@ LEADING = ["ARCHITECTURE", "DECISIONS", "MODEL", "NEW-DOCUMENT", "PROVING"]
 
 class Names(Case):
     def test_links_lead_somewhere(self):
-        for page in [*PAGES, "tests/README.md", "bench/README.md", "page/README.md"]:
+        for page in [*PAGES, "tests/README.md", "bench/README.md", "packaging/README.md"]:
             for link in re.findall(r"\]\(([^)#]+)", (ROOT / page).read_text()):
                 if not re.match(r"\w+:", link):
                     self.assertTrue(((ROOT / page).parent / link).exists(), (page, link))

@@ -10,8 +10,8 @@ from contextlib import contextmanager
 
 from tests.nodes import Peer, free_addresses, node_words, room, started
 from tests.program import (
-    BAD_LOG, DONE, JOURNAL_FAULT, LINK_FAULT, LONGEST, NO_MEMORY, OTHER_JOURNAL, PROGRAM, READ_FAULT,
-    WRITE_FAULT, Case, guarded, run_program,
+    BAD_LOG, DONE, JOURNAL_FAULT, LINK_FAULT, LONGEST, OTHER_JOURNAL, PROGRAM, READ_FAULT, USAGE, WRITE_FAULT,
+    Case, guarded, run_program,
 )
 from tests.spelled import header, log, square
 from tests.test_formats import VOTES, VOTES_TEXT
@@ -101,9 +101,14 @@ class Outputs(Case):
             for size in (0, 1, len(printed) // 2, len(printed) - 1, len(printed)):
                 with room() as folder, opened(folder / "printed", os.O_WRONLY | os.O_CREAT) as output:
                     ended = run_program(words, given, stdout=output, **limited(size))
-                    status = WRITE_FAULT if size < len(printed) else 2 if words == ["paint"] else DONE
+                    status = WRITE_FAULT if size < len(printed) else USAGE if words == ["paint"] else DONE
                     self.assertEqual(ended.status, status, (words, size))
                     self.assertEqual((folder / "printed").read_bytes(), printed[:size], (words, size))
+
+    def test_help_that_cannot_be_written_is_a_failed_write(self):
+        for words in (["--help"], ["replay", "--counts", "--help"], ["-V"]):
+            with opened("/dev/full", os.O_WRONLY) as full:
+                self.assertEqual(run_program(words, stdout=full).status, WRITE_FAULT, words)
 
     # The event was accepted, and the journal holds it, but nobody was told: an answer that can't be written ends the run.
     def test_a_node_with_a_full_output_ends_and_keeps_its_journal(self):
@@ -252,22 +257,3 @@ class FullDisk(Case):
             held = answered + 1
             self.assertEqual(again.text.splitlines()[1:], [f"ok {held}.1", f"held {held} kept 0 line {held} clock {held}"])
             self.assertEqual((folder / "j").read_bytes(), log([square((k, 1), k) for k in range(1, held + 1)], sites=1))
-
-
-class Memory(Case):
-    def limited_memory(self, words, given, size):
-        def limit():
-            resource.setrlimit(resource.RLIMIT_AS, (size, size))
-
-        return run_program(words, given, preexec_fn=limit, env={"PATH": os.environ["PATH"]})
-
-    def test_where_memory_runs_out_nothing_is_printed(self):
-        sizes = (16 << 20, 32 << 20, 64 << 20)
-        little = next((size for size in sizes if self.limited_memory(["replay"], TIE, size).status == DONE), None)
-        if not little:
-            self.skipTest(f"this build doesn't start in {sizes[-1] >> 20} MiB")
-        # It takes more than twice as much.
-        large = log([square((clock, site), clock) for clock in range(1, 65_536) for site in range(1, 9)], sites=8)
-        for words in (["replay"], ["replay", "--format", "json"], ["snapshot"]):
-            ended = self.limited_memory(words, large, little)
-            self.assertEqual((ended.printed, ended.status), (b"", NO_MEMORY), words)

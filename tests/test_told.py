@@ -7,7 +7,7 @@ from tests.launcher import checkout, launch
 from tests.nodes import Node, Peer, free_addresses, node_words
 from tests.program import (
     BAD_LOG, BAD_VIEW, DONE, JOURNAL_FAULT, LINE_LIMIT, LINK_FAULT, OTHER_JOURNAL, READ_FAULT, ROOT, USAGE,
-    WRITE_FAULT, Case,
+    WRITE_FAULT, Case, run_program,
 )
 from tests.spelled import header, log
 from tests.test_limits import nested, nested_text
@@ -38,8 +38,32 @@ class Told(Case):
 
     def test_other_words_are_told(self):
         printed = "usage: groupdesign COMMAND OPTIONS\n"
-        for words, said in [(["paint"], "paint"), (["reply"], "replay"), (["replay", "--counts=yes"], "replay"), ([""], "--help")]:
+        for words, said in [
+            (["paint"], "no command paint: groupdesign --help"), (["reply"], "is replay meant"), (["vew"], "is view meant"),
+            (["darw"], "is draw meant"), ([""], "--help"), (["replay", "--counts=yes"], "groupdesign replay --help"),
+            (["view", "x"], "groupdesign view --help"), (["help", "veiw"], "is view meant"),
+            (["help", "view", "x"], "groupdesign view --help"), (["snapshots", "--help"], "is snapshot meant"),
+        ]:
             self.expect_told(words, b"", USAGE, printed, said)
+
+    # The program alone has no page, and says who has.
+    def test_a_page_is_not_the_program_s(self):
+        for words in (["draw"], ["draw", "--demo", "2"], ["draw", "--help"], ["help", "draw"]):
+            ended = run_program(words)
+            self.assertEqual((ended.text, ended.status), ("usage: groupdesign COMMAND OPTIONS\n", USAGE))
+            self.assertIn("./draw", ended.said.decode())
+
+    # The launcher's is ./draw, whose words and status it has.
+    def test_the_launcher_draws(self):
+        for words in (["draw", "--help"], ["help", "draw"]):
+            ended = launch(self.folder, words)
+            if b"aiohttp isn't there" in ended.said:
+                self.skipTest("there is no aiohttp")
+            self.assertEqual((ended.status, ended.said), (DONE, b""))
+            self.assertIn("--demo N", ended.text)
+        ended = launch(self.folder, ["draw", "--site", "1"])
+        self.assertEqual((ended.text, ended.status), ("", USAGE))
+        self.assertIn("./draw: error: ", ended.said.decode())
 
     def test_a_failed_read_or_write_is_told(self):
         folder, full = os.open(self.folder, os.O_RDONLY), os.open("/dev/full", os.O_WRONLY)
@@ -102,8 +126,10 @@ class Told(Case):
             text = self.answer(words)
             self.assertTrue(all(command in text for command in COMMANDS), text)
         for command in COMMANDS:
-            for words in ([command, "--help"], [command, "-h"], ["help", command]):
+            behind = ([command, "--paint", "--help"], [command, "-h", "--"], [command, "x", "y", "-h", "z"])
+            for words in ([command, "--help"], [command, "-h"], ["help", command], ["--help", command], *behind):
                 self.assertIn(command, self.answer(words))
+        self.assertIn("--counts", self.answer(["replay", "--counts", "--help"]))
         for words in (["--version"], ["-V"]):
             self.assertEqual(self.answer(words), f"groupdesign {(ROOT / 'VERSION').read_text()}")
 

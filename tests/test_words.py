@@ -30,6 +30,11 @@ REFUSED = [
     ["view", "replay"],
     ["board", "--format", "text"],
     ["board", "--counts", "--counts"],
+    ["draw", "--demo", "2"],
+    ["help", "paint"],
+    ["help", "view", "board"],
+    ["--version", "view"],
+    ["replay", "--", "--help"],
     ["node", "--session", "7", "--site", "3", "--journal", "j", "A", "B"],
 ]
 

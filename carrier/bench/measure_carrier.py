@@ -3,7 +3,8 @@
 
     carrier/bench/measure_carrier.py PROGRAM [--events 10000] [--edits 100] [--seats 3]
 
-It prints how long an edit takes to another seat, how long a newcomer takes to catch up, and how many messages an idle seat sends.
+It prints how long an edit takes to another seat, how long a newcomer takes to catch up, and how many messages an idle seat sends. The
+status is 0 where all of that is within its bar on this machine, which has to be idle.
 """
 
 import argparse
@@ -30,16 +31,27 @@ def asked():
 GIVEN = asked()
 os.environ["CARRIER_PROGRAM"] = str(GIVEN.program.resolve())
 
-# It takes the program when it is loaded.
+# In milliseconds: the median, and 99 of 100. In seconds, and in messages a second a seat.
+MOST_MEDIAN, MOST_LATE, MOST_CATCH_UP, MOST_IDLE = 60.0, 200.0, 5.0, 3.0
+
+# They take the program when they are loaded.
+from carrier.bench.group import idle_rate  # noqa: E402
 from carrier.tests.members import WithMembers  # noqa: E402
 
 
 class Measured(WithMembers):
     async def test_all(self):
+        self.over = []
         members = await self.sit(*range(1, GIVEN.seats + 1))
         await self.latency(members)
         await self.catch_up(members)
         await self.idle(members)
+        self.assertEqual(self.over, [], "over the bar")
+
+    def held(self, what, found, most):
+        """Puts down what is above its bar."""
+        if found > most:
+            self.over.append(f"{what}: {found:.2f} of {most:.0f}")
 
     async def latency(self, members):
         """From typing at one to the journal of another."""
@@ -56,6 +68,8 @@ class Measured(WithMembers):
         times.sort()
         median, late = statistics.median(times), times[int(0.99 * (len(times) - 1))]
         print(f"an edit at another seat: median {median:.1f} ms, 99 % {late:.1f} ms of {len(times)}", flush=True)
+        self.held("median", median, MOST_MEDIAN)
+        self.held("99 %", late, MOST_LATE)
 
     async def catch_up(self, members):
         """A newcomer to many events."""
@@ -69,16 +83,17 @@ class Measured(WithMembers):
         (newcomer,) = await self.sit(GIVEN.seats + 1)
         while newcomer.standing.feeds[1].count < total[1].count:
             await asyncio.sleep(0.01)
+        took = time.perf_counter() - start
         members.append(newcomer)
-        print(f"a newcomer has {total[1].count} events {time.perf_counter() - start:.2f} s after its start", flush=True)
+        print(f"a newcomer has {total[1].count} events {took:.2f} s after its start", flush=True)
+        self.held("a newcomer", took, MOST_CATCH_UP)
 
     async def idle(self, members):
         """What goes out where nobody does anything."""
         await asyncio.sleep(20)
-        before, start = [member.carrier.counts["out"] for member in members], time.perf_counter()
-        await asyncio.sleep(20)
-        rates = [(member.carrier.counts["out"] - old) / (time.perf_counter() - start) for member, old in zip(members, before)]
-        print(f"idle, {len(members)} of 16 seats: {max(rates):.2f} messages a second a seat", flush=True)
+        rate = await idle_rate(members, 20)
+        print(f"idle, {len(members)} of 16 seats: {rate:.2f} messages a second a seat", flush=True)
+        self.held("idle", rate, MOST_IDLE)
 
 
 if __name__ == "__main__":

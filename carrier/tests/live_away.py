@@ -5,7 +5,7 @@ import shutil
 from carrier.heads import signed
 from carrier.broker import topic
 from carrier.tests.members import Member, WithMembers
-from carrier.tests.rosters import until
+from page.tests.places import until
 
 
 class Away(WithMembers):

@@ -6,10 +6,9 @@ import shutil
 import subprocess
 import sys
 
-from carrier.tests.rosters import WithFolder
 from carrier.tests.runs import PROGRAM, free_port, why_not
 from page.draw import ROOT
-from page.tests.places import wait_for
+from page.tests.places import WithFolder, wait_for
 
 LONG = 90
 
@@ -92,3 +91,78 @@ class Pages(WithFolder):
         self.seen(ana, "document.querySelectorAll('.pointer').length", 0)
 
 
+
+
+class Others(Pages):
+    """People who have no seat of their own: who looks on, and guests of a host."""
+
+    def printed(self, *words):
+        """What a command prints."""
+        command = [sys.executable, str(ROOT / "draw"), *words]
+        return subprocess.run(command, check=True, capture_output=True, text=True).stdout.strip()
+
+    def run_of(self, *words):
+        """A run of ./draw without a journal among its first words, and the first words of the lines that it prints."""
+        run = subprocess.Popen([sys.executable, str(ROOT / "draw"), *words, "--program", PROGRAM], stdout=subprocess.PIPE, text=True)
+        for end in (run.stdout.close, run.wait, run.terminate):
+            self.addCleanup(end)
+        return run, lambda: run.stdout.readline().split(" ")[0].strip()
+
+    def opened(self, address):
+        """A browser with the page of that address, which may still have to come."""
+        from page.tests.browser import browser
+
+        driver = browser()
+        self.addCleanup(driver.quit)
+        driver.get(address)
+        return driver
+
+    def page(self, address):
+        from page.tests.browser import Page
+
+        return Page(self.opened(address))
+
+    def shown(self, page, selector):
+        return page.ask(f"getComputedStyle(document.querySelector({json.dumps(selector)})).display")
+
+    def test_looking_on(self):
+        ana = self.begin("ana.log", "--found", "Oak", "--listen", f"127.0.0.1:{free_port()}")
+        ana.do("ed.node.type(() => ['create rect 100 100 80 60 by Ana'])")
+        self.seen(ana, "ed.node.carried.watches", True)
+        self.click(ana, "button[aria-label='Invite']")
+        self.click(ana, ".invite .watch")
+        wait_for(lambda: ana.all(".invite .field"), LONG)
+        link = ana.ask("document.querySelector('.invite .field').value")
+        self.assertEqual(link, self.printed("--invite", "--watch", "--journal", str(self.folder / "ana.log")))
+        _, address = self.run_of("--watch", link)
+        looker = self.page(address())
+        self.seen(looker, "ed.model.items.map((each) => each.label).join()", "by Ana")
+        self.seen(looker, "ed.readOnly", "this page only looks on")
+        for selector in ("#tools", "#style", "#zoom [data-run='undo']", "button[aria-label='Invite']"):
+            self.assertEqual(self.shown(looker, selector), "none", selector)
+        # It is live, and keys and gestures change nothing.
+        ana.do("ed.node.type(() => ['create ellipse 300 100 80 60 later'])")
+        self.seen(looker, "ed.model.items.map((each) => each.label).join()", "by Ana,later")
+        looker.do("ed.selection.set(ed.model.items.map((each) => each.id)); ed.edits.type?.(['delete 1.1'])")
+        looker.do("ed.nudge(10, 0); ed.settle()")
+        self.assertEqual(ana.ask("ed.model.items.length"), 2)
+        self.seen(ana, "ed.node.carried.watched", True)
+        logged = [entry for page in (ana, looker) for entry in page.driver.get_log("browser")]
+        self.assertEqual([entry for entry in logged if entry["level"] == "SEVERE"], [])
+
+    def test_guests_of_a_host(self):
+        from page.tests.browser import Page
+
+        given = ["--host", "2", "--at", "127.0.0.1:0", "--journal", str(self.folder / "host.log")]
+        _, address = self.run_of(*given)
+        addresses = [address(), address()]
+        one, other = self.page(addresses[0]), self.page(addresses[1])
+        one.do("ed.node.type(() => ['create rect 100 100 80 60 by one'])")
+        self.seen(other, "ed.model.items.map((each) => each.label).join()", "by one")
+        waiting = self.opened(addresses[1])
+        banners = "return document.getElementById('banners')?.textContent ?? ''"
+        wait_for(lambda: "one person at a time" in waiting.execute_script(banners), LONG)
+        other.driver.get("about:blank")
+        third = Page(waiting)
+        self.seen(third, "ed.model.items.map((each) => each.label).join()", "by one")
+        self.assertFalse(third.ask("document.getElementById('banners').textContent.includes('one person')"))

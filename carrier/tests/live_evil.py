@@ -7,7 +7,8 @@ from carrier.frames import LAST_CLOCK, frame
 from carrier.keys import Keys
 from carrier.tests.logs import create
 from carrier.tests.members import WithMembers
-from carrier.tests.rosters import SEEDS, until
+from carrier.tests.rosters import SEEDS
+from page.tests.places import until
 
 DEEDS = ("repeat", "misroute", "cut", "flip", "forge", "noise", "head", "roster")
 

@@ -9,9 +9,9 @@ import shutil
 import subprocess
 import sys
 
-from carrier.tests.rosters import PATIENCE, WithFolder
 from carrier.tests.runs import PROGRAM, why_not
 from page.draw import ROOT
+from page.tests.places import PATIENCE, WithFolder
 
 BROKER = "198.51.100.1:8883"
 # Has a network hand on what isn't for itself.

@@ -2,9 +2,11 @@
 
 import asyncio
 
-from carrier.files import Founder
+from carrier.files import Founder, write_private
+from carrier.retiring import leaving_file
 from carrier.tests.members import Member, WithMembers
-from carrier.tests.rosters import FOUNDER, PATIENCE, until
+from carrier.tests.rosters import FOUNDER
+from page.tests.places import PATIENCE, until
 
 
 class Retired(WithMembers):
@@ -44,3 +46,20 @@ class Retired(WithMembers):
         await until(lambda: b"still" in ben.journal.read_bytes(), what="what Ana drew")
         shown = await self.same([ana, ben], 4)
         self.assertNotIn("too late", shown)
+
+    async def test_a_seat_retires_itself(self):
+        ana, ben, cem = await self.sit(1, 2, 3)
+        await cem.draw("create rect 0 0 5 5 by Cem")
+        write_private(leaving_file(cem.journal), "")
+        await self.same([ana, ben, cem], 1)
+        await until(lambda: 3 in ben.retiring.ready() and 3 in ana.retiring.ready(), what="the leave of Cem")
+        await until(lambda: cem.said, what="what is said to Cem")
+        self.assertIn("was retired by itself", cem.said[0])
+        await cem.draw("create rect 0 0 5 5 too late")
+        await ana.draw("create rect 0 0 5 5 still")
+        shown = await self.same([ana, ben], 2)
+        self.assertNotIn("too late", shown)
+        await cem.leave()
+        # Nobody founded anything here: it is the seat's own word, and stands for whoever comes later.
+        dan = await self.sit(4)
+        await until(lambda: 3 in dan[0].retiring.gone, what="the leave of Cem")

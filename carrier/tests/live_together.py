@@ -3,15 +3,17 @@
 import argparse
 import asyncio
 import os
+import shutil
 import signal
+import subprocess
 
 from carrier import certificate, commands
 from carrier.files import Seat
 from carrier.link import Link, link_of
-from carrier.mosquitto import OwnBroker
-from carrier.tests.rosters import PATIENCE, until
-from carrier.tests.runs import Person, WithPeople, free_port
+from carrier.mosquitto import PATH, OwnBroker
+from carrier.tests.runs import Looker, Person, WithPeople, free_port
 from carrier.trust import Trust
+from page.tests.places import PATIENCE, until
 
 
 class Together(WithPeople):
@@ -80,6 +82,32 @@ class Brokers(WithPeople):
         ben = await self.join(ana, "ben.log")
         await ben.draw("create rect 0 0 10 10 by Ben")
         self.assertEqual(await self.all_see([ana, ben], 2), ["alone", "by Ben"])
+
+    async def test_one_account_of_all_members(self):
+        """As at a rented broker, which knows nothing of seats."""
+        address, account = f"localhost:{free_port()}", self.folder / "account"
+        _, pem, key = certificate.made("localhost")
+        (self.folder / "ca.pem").write_bytes(pem)
+        account.write_text("rented\nall of us know it\n")
+        broker = OwnBroker(self.folder / "rented", address)
+        broker.folder.mkdir()
+        files = {"certificate.pem": pem, "key.pem": key, "passwords": b"rented:all of us know it\n"}
+        for name, data in {**files, "rules": b"user rented\ntopic readwrite gd/#\n"}.items():
+            (broker.folder / name).write_bytes(data)
+        tool = shutil.which("mosquitto_passwd", path=PATH)
+        subprocess.run([tool, "-U", broker.folder / "passwords"], check=True, capture_output=True)
+        await asyncio.get_running_loop().run_in_executor(None, broker.start)
+        self.addCleanup(broker.stop)
+        given = ["--broker", address, "--ca", str(self.folder / "ca.pem"), "--account", str(account)]
+        ana = await Person(self, "ana.log").begin("--found", "Oak", *given)
+        self.assertFalse((self.folder / "ana.log.broker").exists())
+        account.unlink()
+        ben = await self.join(ana, "ben.log")
+        await ana.draw("create rect 0 0 10 10 by Ana")
+        await ben.draw("create rect 0 0 10 10 by Ben")
+        await self.all_see([ana, ben], 2)
+        looker = await Looker(self, "looker").begin("--watch", await self.link(ana, "--watch"))
+        await looker.page.next(lambda told: told["is"] == "picture" and len(told["items"]) == 2)
 
 
 class Keepers(WithPeople):

@@ -4,13 +4,14 @@ import asyncio
 import ssl
 
 from carrier import trust
-from carrier.broker import Broker
+from carrier.broker import Broker, login_of
 from carrier.keys import Keys
 from carrier.mosquitto import OwnBroker
-from carrier.tests.rosters import SEEDS, WithFolder, roster_with, until
+from carrier.tests.rosters import SEEDS, roster_with
 from carrier.tests.runs import free_port, why_not
 from carrier.trust import AUTHORITY, EXACT, SYSTEM, BadTrust, Trust, exact, fetched
 from page.addresses import parts_of
+from page.tests.places import WithFolder, until
 
 
 class Certificates(WithFolder):
@@ -32,7 +33,7 @@ class Certificates(WithFolder):
     async def said(self, address, trusted, certificate):
         """What a connection says that doesn't come about; nothing, where it does."""
         changes = []
-        broker = Broker(address, f"{roster_with().session.hex()}.1", Keys(SEEDS[1]).password, trusted, certificate, print)
+        broker = Broker(address, login_of(None, roster_with().session, 1, Keys(SEEDS[1])), trusted, certificate, print)
         broker.changed = lambda: changes.append((broker.up, broker.fault))
         broker.start([])
         try:

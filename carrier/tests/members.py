@@ -16,13 +16,16 @@ from carrier.running import begin, desk_of
 from carrier.retiring import Retiring
 from carrier.standing import Standing
 from carrier.table import Table
-from carrier.tests.rosters import FOUNDER, PATIENCE, SEEDS, WithFolder, until
+from carrier.watched import Watched
+from carrier.sealing import WATCHERS
+from carrier.tests.rosters import FOUNDER, SEEDS, WATCH
 from carrier.tests.runs import PROGRAM, free_port, why_not
 from carrier.roster import Roster
 from carrier.keys import public_bytes
 from carrier.trust import context, exact
 from page.audience import Audience
 from page.node import Ended
+from page.tests.places import PATIENCE, WithFolder, until
 
 
 class Member:
@@ -39,6 +42,7 @@ class Member:
         self.carrier = Carrier(self.seat)
         self.standing = Standing(self.carrier, self.journal)
         self.retiring = Retiring(self.carrier, self.standing, self.journal)
+        self.watched = Watched(self.carrier, self.standing, self.journal)
         self.test.members.append(self)
         begin(self.carrier, self.seat)
         self.test.assertTrue(await self.carrier.settle(PATIENCE), self.carrier.broker.fault)
@@ -48,7 +52,8 @@ class Member:
             self.desk = desk_of(given, self.seat, self.carrier, Audience())
             self.carrier.say = self.said.append
             await self.desk.start()
-            Table(self.carrier, self.standing, self.retiring, self.desk, lambda: 0)
+            self.watched.name = lambda: self.desk.name
+            Table(self.carrier, self.standing, self.retiring, self.watched, self.desk, lambda: 0)
             self.standing.start(lambda: self.desk.edits)
         return wrong
 
@@ -89,7 +94,7 @@ class WithMembers(WithFolder):
         self.roster = Roster(os.urandom(16), "Oak", public_bytes(Keys(FOUNDER).signing), publics)
         self.address, self.members = f"127.0.0.1:{free_port()}", []
         self.own = OwnBroker(self.folder / "broker.log", self.address)
-        passwords = {seat: Keys(seed).password for seat, seed in SEEDS.items()}
+        passwords = {seat: Keys(seed).password for seat, seed in {**SEEDS, WATCHERS: WATCH}.items()}
         self.certificate = self.own.make(self.roster, passwords)
         self.trust = exact(self.certificate)
         self.let_in("evil", "topic readwrite gd/#")

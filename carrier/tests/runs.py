@@ -13,8 +13,8 @@ from pathlib import Path
 import aiohttp
 
 from carrier.mosquitto import PATH
-from carrier.tests.rosters import PATIENCE, WithFolder, until
 from page.draw import ROOT
+from page.tests.places import PATIENCE, WithFolder, until
 from page.tests.serving import Socket
 
 PROGRAM = os.environ.get("CARRIER_PROGRAM")
@@ -50,9 +50,13 @@ class Person:
         self.hello = await self.page.kind("hello")
         return self
 
+    def place(self):
+        """The words that say where the run keeps the drawing."""
+        return ["--journal", str(self.journal)]
+
     async def tell(self, *words):
         """Starts a run, and gives the first line that it prints."""
-        given = [str(ROOT / "draw"), *words, "--journal", str(self.journal), "--program", PROGRAM]
+        given = [str(ROOT / "draw"), *words, *self.place(), "--program", PROGRAM]
         self.said = self.test.folder / f"{self.journal.name}.said"
         with open(self.said, "wb") as said:
             made = asyncio.create_subprocess_exec(sys.executable, *given, stdout=asyncio.subprocess.PIPE, stderr=said)
@@ -88,6 +92,14 @@ class Person:
         """The drawing as the program prints it of the journal."""
         return (await self.page.ask("save", desk=self.seat, form="json"))["result"]
 
+    async def picture(self):
+        """The objects of the drawing as a page that comes is told of them."""
+        headers = {"Origin": self.origin}
+        socket = Socket(await self.test.client.ws_connect(f"{self.address}socket", headers=headers))
+        told = await socket.kind("picture")
+        await socket.socket.close()
+        return told["items"]
+
     async def labels(self):
         """The labels of the drawing, in their order from the bottom."""
         return re.findall(r'"label":"((?:[^"\\]|\\.)*)"', await self.drawing())
@@ -101,6 +113,13 @@ class Person:
             await self.page.socket.close()
             self.page = None
         return self.run.returncode if self.run else None
+
+
+class Looker(Person):
+    """Somebody who only looks on, and keeps nothing."""
+
+    def place(self):
+        return []
 
 
 class WithPeople(WithFolder):
@@ -128,9 +147,9 @@ class WithPeople(WithFolder):
         self.broker = f"127.0.0.1:{free_port()}"
         return await Person(self, name).begin("--found", "Oak", "--listen", self.broker)
 
-    async def link(self, founder):
-        """A link for one person."""
-        words = [sys.executable, str(ROOT / "draw"), "--invite", "--journal", str(founder.journal)]
+    async def link(self, founder, *more):
+        """A link for one person, or with `--watch` for all who only look on."""
+        words = [sys.executable, str(ROOT / "draw"), "--invite", *more, "--journal", str(founder.journal)]
         run = await asyncio.create_subprocess_exec(*words, stdout=asyncio.subprocess.PIPE)
         printed, _ = await asyncio.wait_for(run.communicate(), PATIENCE)
         text = printed.decode()

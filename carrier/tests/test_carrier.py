@@ -11,16 +11,18 @@ from carrier.frames import frame
 from carrier.keys import Keys
 from carrier.sealing import FRAME, WANT, Seals
 from carrier.tests.logs import create
-from carrier.tests.rosters import SEEDS, SESSION, roster_with, until
+from carrier.tests.rosters import SEEDS, SESSION, roster_with
 from carrier.trust import SYSTEM, Trust
 from carrier.twin import Twin
+from page.tests.places import until
 
 ROOT = f"gd/{SESSION.hex()}"
 
 
 class PlayedBroker:
-    def __init__(self, address, user, password, trust, certificate, came, changed):
-        self.user, self.came, self.changed, self.up, self.fault, self.is_refused, self.sent = user, came, changed, False, "", False, []
+    def __init__(self, address, account, trust, certificate, came, changed):
+        self.user, self.came, self.changed, self.up, self.fault = account.user, came, changed, False, ""
+        self.is_refused, self.sent = False, []
 
     def start(self, topics):
         self.topics = topics
@@ -89,7 +91,7 @@ class Carried(unittest.IsolatedAsyncioTestCase):
             found.append((data, [seat for seat in self.carrier.paces if self.carrier.ways.port(seat) == source[1]][0]))
 
     async def test_what_it_hears_and_says_who_it_is(self):
-        names = ["2/+", "head/+", "roster", "retired"]
+        names = ["2/+", "head/+", "left/+", "roster", "retired", "watched"]
         self.assertEqual(self.broker.topics, [f"{ROOT}/{name}" for name in names])
         self.assertEqual(self.broker.user, f"{SESSION.hex()}.2")
 

@@ -8,8 +8,9 @@ from carrier.heads import Heads, SIZE, head_of, signed
 from carrier.frames import closing, frame, frames
 from carrier.keys import Keys
 from carrier.roster import SEATS
-from carrier.tests.rosters import SEEDS, SESSION, WithFolder, roster_with
+from carrier.tests.rosters import SEEDS, SESSION, roster_with
 from carrier.tests.logs import create, log, move
+from page.tests.places import WithFolder
 
 SIGNING = {seat: Keys(SEEDS[seat]).signing for seat in SEEDS}
 

@@ -8,8 +8,9 @@ from carrier.lending import BETWEEN, END, MOST_PART, PART, WANTED, Lending
 from carrier.roster import SEATS
 from carrier.sealing import GIVE, MOST, WANT
 from carrier.tests.logs import create, log
-from carrier.tests.rosters import SESSION, roster_with, until
+from carrier.tests.rosters import SESSION, roster_with
 from carrier.tests.test_heads import WithJournal, records_by
+from page.tests.places import until
 
 
 class Member:

@@ -1,16 +1,19 @@
 """Rosters, links and the files of secrets."""
 
 import base64
+import dataclasses
 import json
 import os
 import threading
 import unittest
 
 from carrier.files import BadFile, Founder, Seat, write_private
-from carrier.link import BadLink, Link, link_of
+from carrier.broker import Account
+from carrier.link import SCHEME, BadLink, Link, checksum, link_of
 from carrier.roster import BadRoster, roster_of
-from carrier.tests.rosters import FOUNDER, SEEDS, SESSION, WithFolder, roster_with
+from carrier.tests.rosters import FOUNDER, SEEDS, SESSION, roster_with
 from carrier.trust import AUTHORITY, EXACT, SYSTEM, BadTrust, Trust
+from page.tests.places import WithFolder
 
 TRUSTS = (Trust(SYSTEM), Trust(EXACT, bytes(32)), Trust(AUTHORITY, b"certificate" * 40))
 
@@ -55,12 +58,26 @@ class Rosters(unittest.TestCase):
 class Links(unittest.TestCase):
     def test_text_and_back_and_all_of_it_stands_behind_the_hash(self):
         for trust in TRUSTS:
-            for broker in ("broker.example:8883", "[2001:db8::1]:1"):
-                link = link_with(trust, broker)
+            for broker, seat in (("broker.example:8883", 2), ("[2001:db8::1]:1", 0)):
+                link = link_with(trust, broker, seat)
                 self.assertEqual(link_of(link.text), link)
                 self.assertEqual(link_of(f" '{link.text}'\n"), link)
                 self.assertRegex(link.text, r"^groupdesign:#[A-Za-z0-9_-]+$")
         self.assertLess(len(link_with().text), 220)
+
+    def test_a_link_with_an_account_at_the_broker(self):
+        for user, password in (("oak", "a password"), ("é", "x" * 255)):
+            link = dataclasses.replace(link_with(), account=Account(user, password))
+            self.assertEqual(link_of(link.text), link)
+        for user, password in (("", "x"), ("x", ""), ("a\nb", "x"), ("x", "y" * 256), ("x", "a\0")):
+            with self.assertRaises(ValueError):
+                Account(user, password)
+        # One whose account is cut is none, though its sum is right.
+        data = base64.urlsafe_b64decode(link.text[13:] + "==")[:-4]
+        for cut in range(len("broker.example:8883"), 270):
+            short = data[:-cut] + checksum(data[:-cut])
+            with self.assertRaises(BadLink):
+                link_of(SCHEME + base64.urlsafe_b64encode(short).rstrip(b"=").decode())
 
     def test_a_letter_that_is_wrong_or_missing_is_seen(self):
         text = link_with().text
@@ -76,7 +93,7 @@ class Links(unittest.TestCase):
         for text in ("", "groupdesign:#", "https://a/#b", "groupdesign:#" + "A" * 9000, "groupdesign:#ä", "x" + link_with().text):
             with self.assertRaises(BadLink):
                 link_of(text)
-        for link in (link_with(seat=0), link_with(seat=17), link_with(broker="nowhere"), link_with(broker="a:0")):
+        for link in (link_with(seat=17), link_with(seat=255), link_with(broker="nowhere"), link_with(broker="a:0")):
             with self.assertRaises(BadLink):
                 link_of(link.text)
 
@@ -93,11 +110,11 @@ class Files(WithFolder):
     def test_a_seat_is_read_again_and_its_file_is_private(self):
         old = os.umask(0)
         self.addCleanup(os.umask, old)
-        for seat in (self.seat(), self.seat(listen=True, begun=True)):
+        for seat in (self.seat(), self.seat(listen=True, begun=True), self.seat(account=Account("oak", "a password"))):
             seat.write(self.journal)
             self.assertEqual(Seat.read(self.journal), seat)
             self.assertEqual(os.stat(Seat.path(self.journal)).st_mode & 0o777, 0o600)
-        self.assertEqual(sorted(file.name for file in self.folder.iterdir()), ["mine.log.seat"])
+        self.assertEqual(sorted(file.name for file in self.folder.iterdir()), ["site.log.seat"])
 
     def test_a_file_that_others_may_read_isn_t_used(self):
         self.seat().write(self.journal)

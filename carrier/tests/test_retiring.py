@@ -1,12 +1,14 @@
 """What the founder signs of seats that were left for good."""
 
 import base64
+import time
 import types
 
 from carrier.files import Founder
 from carrier.keys import Keys
-from carrier.retiring import SIZE, Retiring, retire, retired_of
-from carrier.tests.rosters import FOUNDER, SEEDS, WithFolder, roster_with
+from carrier.retiring import MAGIC, OWN_MAGIC, SIZE, Retiring, leaving_file, retire, retired_of
+from carrier.tests.rosters import FOUNDER, SEEDS, roster_with
+from page.tests.places import WithFolder
 
 KEY = Keys(FOUNDER).signing
 
@@ -24,6 +26,10 @@ class Statements(WithFolder):
             self.assertIsNone(retired_of(roster_with(), data[:place]))
         for key in (Keys(SEEDS[1]).signing, Keys(SEEDS[3]).signing):
             self.assertIsNone(retired_of(roster_with(), retire(roster_with(), key, 3, 500, bytes(32))))
+        for signer, seat, magic, is_good in ((3, 3, OWN_MAGIC, True), (3, 3, MAGIC, False), (3, 4, OWN_MAGIC, False)):
+            signed = retire(roster_with(), Keys(SEEDS[signer]).signing, seat, 500, bytes(32), magic)
+            self.assertEqual(retired_of(roster_with(), signed) is not None, is_good)
+        self.assertIsNone(retired_of(roster_with(), retire(roster_with(), KEY, 3, 500, bytes(32), OWN_MAGIC)))
         other = retire(roster_with("Elm"), KEY, 3, 500, bytes(32))
         self.assertIsNone(retired_of(roster_with(), other[:5] + roster_with().digest[:4] + other[9:]))
 
@@ -31,15 +37,17 @@ class Statements(WithFolder):
 class Wishes(WithFolder):
     def setUp(self):
         super().setUp()
-        self.said, self.barred, self.published = [], [], []
+        self.said, self.barred, self.published, self.is_up = [], [], [], True
         seat = types.SimpleNamespace(seat=1, roster=roster_with())
-        broker = types.SimpleNamespace(publish=lambda name, data, keep: self.published.append(data))
+        broker = types.SimpleNamespace(publish=lambda name, data, keep: self.published.append(data) or self.is_up)
         self.carrier = types.SimpleNamespace(
             seat=seat, broker=broker, keepers={}, changes=[], bar=self.barred.append, say=self.said.append, runs=lambda: True
         )
+        self.carrier.keys = Keys(SEEDS[1])
         self.feeds = {number: types.SimpleNamespace(count=0, digest=lambda count: bytes([count]) * 32) for number in SEEDS}
         heads = types.SimpleNamespace(proved={}, missing=lambda: self.missing)
-        self.missing, self.standing = [], types.SimpleNamespace(feeds=self.feeds, heads=heads, looks=[])
+        self.missing = []
+        self.standing = types.SimpleNamespace(feeds=self.feeds, heads=heads, looks=[], told=None, told_at=-100.0)
 
     def retiring(self):
         return Retiring(self.carrier, self.standing, self.journal)
@@ -80,6 +88,33 @@ class Wishes(WithFolder):
             one.look()
         self.assertEqual(one.ready(), {3: 2, 5: 4})
         self.assertEqual([line[:30] for line in self.said], ["seat 5 was retired, and 2 of i"])
+
+    def test_a_seat_leaves_once_it_has_signed_all_that_it_drew(self):
+        one, self.feeds[1].count = self.retiring(), 3
+        self.standing.told = 3
+        one.leave()
+        self.assertEqual(one.gone, {})
+        leaving_file(self.journal).touch()
+        self.standing.told, self.standing.told_at = 2, time.monotonic() - 100
+        one.leave()
+        self.standing.told, self.standing.told_at = 3, time.monotonic()
+        one.leave()
+        self.standing.told_at, self.is_up = time.monotonic() - 100, False
+        one.leave()
+        self.assertEqual(one.gone, {})
+        self.is_up = True
+        one.look()
+        found = retired_of(roster_with(), self.published[-1])
+        self.assertEqual((found.seat, found.count, found.is_by_itself), (1, 3, True))
+        self.assertEqual(one.ready(), {1: 3})
+        self.assertEqual([line[:33] for line in self.said], ["this seat was retired by itself: "])
+        self.assertFalse(self.carrier.runs())
+        # The founder says nothing in its name.
+        Founder(FOUNDER).write(self.journal)
+        again, told = self.retiring(), len(self.published)
+        again.take(found.data)
+        again.publish()
+        self.assertEqual(len(self.published), told)
 
     def test_a_seat_that_was_retired_stops(self):
         one = self.retiring()

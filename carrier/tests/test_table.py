@@ -50,7 +50,8 @@ class Seats(unittest.IsolatedAsyncioTestCase):
         heads = types.SimpleNamespace(newest=self.heads, liars=set(), missing=lambda: [])
         standing = types.SimpleNamespace(looks=[], feeds=types.SimpleNamespace(feeds=self.feeds), heads=heads)
         self.retiring, self.desk = types.SimpleNamespace(gone={}, ready=lambda: dict(self.retiring.gone)), Desk()
-        self.table = Table(self.carrier, standing, self.retiring, self.desk, lambda: 3)
+        watched = types.SimpleNamespace(can_make=False, key=None)
+        self.table = Table(self.carrier, standing, self.retiring, watched, self.desk, lambda: 3)
 
     def datagrams(self):
         found = []

@@ -4,8 +4,8 @@ import asyncio
 import socket
 import unittest
 
-from carrier.tests.rosters import until
 from carrier.ways import HERE, MOST_DATAGRAM, Ways
+from page.tests.places import until
 
 
 class WaysOfANode(unittest.IsolatedAsyncioTestCase):

@@ -18,7 +18,7 @@ class Words(unittest.TestCase):
         self.assertEqual(found.exception.code, 2)
 
     def test_which_words_are_over_a_broker(self):
-        carried = [["--found", "Oak"], ["--invite"], ["--join", LINK], ["--join=" + LINK], ["--keep", LINK], ["--retire=2"]]
+        carried = [["--found", "Oak"], ["--invite"], ["--join", LINK], ["--join=" + LINK], ["--keep", LINK], ["--retire=2"], ["--watch", LINK]]
         for words in [*carried, ["--journal", "a"], ["--journal=a", "--open"]]:
             self.assertTrue(is_carried(words), words)
         node = ["--session", "7", "--site", "1", "--journal", "a", "A", "B"]
@@ -30,8 +30,11 @@ class Words(unittest.TestCase):
         self.assertEqual((given.found, given.listen, given.broker, given.port, given.open), ("Oak", "h:1", None, 5, True))
         self.assertEqual((given.journal, given.program, given.demo), (Path("a"), PROGRAM, None))
         given = asked(["--found", "Oak", "--broker", "[::1]:8883", "--ca", "ca.pem", "--journal", "a"], PROGRAM)
-        self.assertEqual((given.broker, given.ca), ("[::1]:8883", Path("ca.pem")))
+        self.assertEqual((given.broker, given.ca, given.account), ("[::1]:8883", Path("ca.pem"), None))
+        self.assertEqual(asked(["--found", "Oak", "--broker", "h:1", "--account", "-", "--journal", "a"], PROGRAM).account, Path("-"))
         self.assertIsNone(asked(["--invite"], PROGRAM).journal)
+        self.assertEqual(asked(["--watch", LINK], PROGRAM).watch, LINK)
+        self.assertEqual([asked(words, PROGRAM).watch for words in (["--invite", "--watch"], ["--invite"])], ["", None])
         self.assertEqual(asked(["--retire", "16"], PROGRAM).retire, 16)
         self.assertEqual(asked(["--keep", LINK, "--journal", "a"], PROGRAM).keep, LINK)
         self.assertEqual(asked(["--join", LINK, "--journal", "a"], PROGRAM).join, LINK)
@@ -45,6 +48,8 @@ class Words(unittest.TestCase):
             ["--found", "Oak", *place, "--broker", "h:1", *journal],
             ["--found", "Oak", *place, "--ca", "ca.pem", *journal],
             ["--found", "Oak", *place, *journal, "--join", LINK],
+            ["--found", "Oak", *place, *journal, "--account", "file"],
+            [*journal, "--account", "file"],
             ["--found", "Oak", "--listen", "nowhere", *journal],
             ["--found", "Oak", "--broker", "h:70000", *journal],
             ["--join", LINK],
@@ -55,6 +60,10 @@ class Words(unittest.TestCase):
             ["--retire", "0"],
             ["--retire", "17"],
             ["--retire", "2", "--invite"],
+            ["--watch"],
+            ["--watch", LINK, "--invite"],
+            ["--watch", LINK, *journal],
+            ["--watch", LINK, "--join", LINK, *journal],
             ["--keep", LINK],
             ["--keep", LINK, "--join", LINK, *journal],
         ):

@@ -8,7 +8,7 @@ _groupdesign() {
         return
     fi
     case $before in
-        --journal | --program | --ca)
+        --journal | --program | --ca | --account | --cert | --key)
             compopt -o filenames
             mapfile -t COMPREPLY < <(compgen -f -- "$word")
             return
@@ -18,7 +18,7 @@ _groupdesign() {
             return
             ;;
         --session | --site | --sites | --seed | --steps | --demo | --port) return ;;
-        --found | --listen | --broker | --join | --keep | --retire) return ;;
+        --found | --listen | --broker | --join | --keep | --retire | --host | --at) return ;;
         '<' | '>')
             compopt -o filenames
             mapfile -t COMPREPLY < <(compgen -f -- "$word")
@@ -28,7 +28,7 @@ _groupdesign() {
     case ${COMP_WORDS[1]} in
         draw)
             options='--session --site --journal --demo --port --open --program --help'
-            options+=' --found --listen --broker --ca --invite --join --keep --retire'
+            options+=' --found --listen --broker --ca --account --invite --join --keep --watch --retire --host --at --cert --key'
             ;;
         node) options='--resume --session --site --journal --help' ;;
         rehearse) options='--sites --help' ;;

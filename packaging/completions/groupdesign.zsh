@@ -32,7 +32,10 @@ _groupdesign() {
                 '--program[another build of the program]:file:_files' '--found[found a session over a broker]:name' \
                 '--listen[start a broker here]:address' '--broker[the broker]:address' '--ca[its authority]:file:_files' \
                 '--invite[print a link for one person]' '--join[sit down at the seat of a link]:link' \
-                '--keep[keep a copy at the seat of a link]:link' '--retire[end a seat]:seat' '*:address of a site:_hosts'
+                '--keep[keep a copy at the seat of a link]:link' '--retire[end a seat]:seat' \
+                '--account[user and password of all members]:file:_files' '--watch[look on by a link]' \
+                '--host[seats for guests with a browser]:number' '--at[address that guests reach]:address' \
+                '--cert[certificate of that address]:file:_files' '--key[its key]:file:_files' '*:address of a site:_hosts'
             ;;
         node)
             _arguments $asked '--resume[go on from the journal]' '--session[number of the session]:number' \

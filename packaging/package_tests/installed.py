@@ -4,7 +4,6 @@ import asyncio
 import contextlib
 import importlib.util
 import re
-import shutil
 import signal
 import subprocess
 from dataclasses import dataclass
@@ -70,6 +69,16 @@ class Drawing:
             self.process.communicate()
 
 
+def draw_shape(pane, kind, height):
+    """Draws a shape as a person does: a click on its tool, and a drag over the paper."""
+    from selenium.webdriver.common.action_chains import ActionChains
+
+    pane.enter()
+    pane.find(f"#tools [data-tool={kind}]").click()
+    drag = ActionChains(pane.driver, duration=10).move_to_element_with_offset(pane.find("#board"), -80, height)
+    drag.click_and_hold().move_by_offset(80, 40).move_by_offset(80, 40).release().perform()
+
+
 class Page(Socket):
     """A page's socket, which waits as long as anything here."""
 
@@ -109,16 +118,17 @@ class Installed:
             self.assertEqual((status, said), (0, ""))
             for command in ("node", "board", "draw"):
                 self.assertRegex(printed, rf"(?m)^  {command} ")
-        for words in (["draw", "--help"], ["help", "draw"], ["draw", "-h"]):
+            self.assertIn(", 70 ", printed)
+        self.assertRegex(self.expect(["replay", "--counts", "--help"], "", 0, self.ana.run("help", "replay")[1]), "^$")
+        for words in (["draw", "--help"], ["help", "draw"], ["draw", "-h"], ["--help", "draw"]):
             status, printed, said = self.ana.run(*words)
             self.assertEqual((status, said), (0, ""))
             self.assertRegex(printed, r"^usage: groupdesign draw ")
 
     def test_words_and_statuses_are_the_program_s(self):
-        said = self.expect(["replays"], "", 2, "usage: groupdesign COMMAND OPTIONS\n")
-        self.assertRegex(said, r"is replay meant\?")
+        for words, hint in ((["replays"], r"is replay meant\?"), (["darw"], r"is draw meant\?"), ([""], "--help")):
+            self.assertRegex(self.expect(words, "", 2, "usage: groupdesign COMMAND OPTIONS\n"), rf"^groupdesign: .*{hint}")
         self.expect(["replay"], "no log", 3, "bad log at 0: Magic\n")
-        self.expect([""], "", 2, "usage: groupdesign COMMAND OPTIONS\n")
         status, _, said = self.ana.run("draw", "--site", "1")
         self.assertEqual(status, 2)
         self.assertIn("groupdesign draw: error: ", said)
@@ -137,7 +147,7 @@ class Installed:
             wait_for(lambda: len(driver.find_elements("css selector", "iframe")) == 2, PATIENCE)
             panes = [Pane(driver, number) for number in (1, 2)]
             for pane, other, kind, height in (*panes, "rect", -150), (*reversed(panes), "ellipse", 50):
-                self.draw(pane, kind, height)
+                draw_shape(pane, kind, height)
                 wait_for(lambda: other.ids(kind), PATIENCE)
             wait_for(lambda: panes[0].shown() == panes[1].shown(), PATIENCE)
             self.assertEqual([line.split()[1].partition(".")[2] for line in panes[0].shown()], ["1", "2"])
@@ -145,15 +155,6 @@ class Installed:
             SCREENSHOTS.mkdir(parents=True, exist_ok=True)
             driver.save_screenshot(str(SCREENSHOTS / f"{type(self).__name__.lower()}.png"))
             self.assertEqual(drawing.end(), (0, "", ""))
-
-    def draw(self, pane, kind, height):
-        """Draws a shape as a person does: a click on its tool, and a drag over the paper."""
-        from selenium.webdriver.common.action_chains import ActionChains
-
-        pane.enter()
-        pane.find(f"#tools [data-tool={kind}]").click()
-        drag = ActionChains(pane.driver, duration=10).move_to_element_with_offset(pane.find("#board"), -80, height)
-        drag.click_and_hold().move_by_offset(80, 40).move_by_offset(80, 40).release().perform()
 
     def test_two_users_draw_together(self):
         addresses = free_addresses(2)

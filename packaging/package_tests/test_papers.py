@@ -57,6 +57,14 @@ class Man(WithTree):
         page = self.source("man1/groupdesign.1.gz")
         self.assertEqual(re.findall(r"^\.It (\d+)$", page, re.MULTILINE), [*wanted, "70"])
 
+    def test_the_files_are_those_of_the_page(self):
+        text = (ROOT / "page/README.md").read_text()
+        rows = re.findall(r"^\| (JOURNAL\b.*?) \|", text, re.MULTILINE)
+        wanted = {ending for row in rows for ending in re.findall(r"JOURNAL(\.[a-z]+)", row)}
+        self.assertGreater(len(wanted), 3)
+        page = self.source("man1/groupdesign-draw.1.gz")
+        self.assertEqual(set(re.findall(r"\.Pa PATH(\.[a-z]+)", page.partition(".Sh FILES")[2])), wanted)
+
     def test_the_lines_are_those_of_the_program(self):
         text = (ROOT / "docs/LINES.md").read_text()
         section = text[text.index("## 3. The lines"):text.index("## 4. ")]

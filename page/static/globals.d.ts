@@ -9,3 +9,11 @@ declare class CompressionStream implements GenericTransformStream {
   readonly readable: ReadableStream;
   readonly writable: WritableStream;
 }
+
+// What nearly every module of the page names.
+
+type Ed = import("./core/types.js").Ed;
+type Item = import("./core/types.js").Item;
+type Plain = import("./core/types.js").Plain;
+type Box = import("./core/types.js").Box;
+type Place = import("./core/types.js").Place;

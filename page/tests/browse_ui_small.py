@@ -3,9 +3,10 @@
 import time
 
 from page.tests.browse_ui import WithOnePage
+from page.tests.browser import PHONE
 from page.tests.places import wait_for
 
-SIZES = {"desktop": (1440, 900), "tablet": (820, 1180), "phone": (390, 844), "narrow": (320, 640)}
+SIZES = {"desktop": (1440, 900), "tablet": (820, 1180), "phone": PHONE, "narrow": (320, 640)}
 LEAST = 44
 # What can be pressed and is seen: its name, its size, and whether it leaves the window.
 TARGETS = """

@@ -1,5 +1,7 @@
 """Text in place: it grows, nothing that was typed is lost, and letters of every kind go."""
 
+import time
+
 from selenium.webdriver.common.keys import Keys
 
 from page.tests.browse_ui import WithOnePage
@@ -70,9 +72,31 @@ class Text(WithOnePage):
             page.picture("text-too-long")
             # It goes once it fits.
             page.do("const f = document.querySelector('.label-field'); f.value = arguments[0]; f.dispatchEvent(new Event('input'))", text[:90])
-            page.press(Keys.ENTER, hold=["ctrl"])
+            page.click((900, 600))
             wait_for(lambda: self.item(name)["label"] == text[:90])
             wait_for(lambda: not page.ask(OPEN))
+
+    def test_a_click_that_ends_a_text_is_never_the_second_of_two(self):
+        page = self.page
+        one, two = self.made("create rect 300 200 100 60", "create rect 500 200 100 60")
+        began = time.time()
+        for at, name in enumerate((one, two)):
+            self.choose(name)
+            page.press(Keys.ENTER)
+            page.write(f"Text {at}")
+            # Both at one place, and 100 ms apart by their own times.
+            page.click_by_time(900, 600, began + 0.1 * at)
+            wait_for(lambda: self.item(name)["label"] == f"Text {at}")
+            self.assertFalse(page.ask(OPEN))
+        # The first of two may end one: who clicks twice beside a text writes there.
+        self.choose(one)
+        page.press(Keys.ENTER)
+        page.write("Again")
+        page.click_twice((900, 600))
+        wait_for(lambda: page.ask(OPEN))
+        self.assertEqual((self.item(one)["label"], page.ask("ed.editing")), ("Again", "~new"))
+        page.press(Keys.ESCAPE)
+        self.assertEqual(len(page.ids()), 2)
 
     def test_bytes_left_are_told_when_there_are_few(self):
         page = self.page
@@ -126,15 +150,14 @@ class Text(WithOnePage):
 
     def test_lines_are_kept_and_right_to_left_runs_so(self):
         page = self.page
-        for at, text in enumerate(("one\ntwo", "שלום, עולם (test)!", "🙂👩‍👩‍👧 山田")):
+        for text in ("one\ntwo", "שלום, עולם (test)!", "🙂👩‍👩‍👧 山田"):
             (name,) = self.made("create rect 300 300 300 80")
             self.choose(name)
             page.press(Keys.ENTER)
             page.do("const f = document.querySelector('.label-field'); f.value = arguments[0]; f.dispatchEvent(new Event('input'))", text)
             direction = page.ask("getComputedStyle(document.querySelector('.label-field')).direction")
             self.assertEqual(direction, "rtl" if text.startswith("ש") else "ltr")
-            # Not where the last click was: two of them there at once write a text.
-            page.click((900, 400 + 100 * at))
+            page.click((900, 600))
             wait_for(lambda: self.item(name)["label"] == text.replace("\n", "\u2028"))
             page.do("ed.edits.do('x', ['delete ' + arguments[0]])", name)
             wait_for(lambda: not page.ids())

@@ -28,6 +28,7 @@ SCREENSHOTS = ROOT / "page/out/screenshots"
 SESSION = 7
 ATTEMPTS = 3
 TAPS = 10
+PHONE = (390, 844)
 CONTROLS = {"ctrl": Keys.CONTROL, "shift": Keys.SHIFT, "alt": Keys.ALT}
 # A browser that does nothing of its own, and isn't ended by its own watchdogs where the machine is slow.
 FLAGS = """--headless=new --no-sandbox --disable-dev-shm-usage --window-size=1440,900 --disable-gpu --disable-gpu-watchdog
@@ -90,17 +91,9 @@ class Page:
         self.home()
 
     def come(self):
-        """Waits until the drawing is there. The bridge lets go who sends no head within 5 s, which a browser on a slow machine
-        may not: the page then misses a file, and is loaded again as anybody would do."""
-        for left in reversed(range(ATTEMPTS)):
-            try:
-                wait_for(lambda: self.ask("document.body?.dataset.ready"), PATIENCE / 2)
-                self.do(UNHURRIED)
-                return
-            except AssertionError:
-                if not left:
-                    raise
-                self.driver.refresh()
+        """Waits until the drawing is there. A page on a slow machine that missed a file loads itself again."""
+        wait_for(lambda: self.ask("document.body?.dataset.ready"))
+        self.do(UNHURRIED)
 
     def ask(self, expression, *given):
         return self.driver.execute_script(f"return {expression}", *given)
@@ -199,9 +192,13 @@ class Page:
         """A double click: two clicks 100 ms apart by their own times, however long the browser takes for them."""
         began = time.time()
         for count in (1, 2):
-            for kind in ("mousePressed", "mouseReleased"):
-                event = {"type": kind, "x": x, "y": y, "button": "left", "clickCount": count, "timestamp": began + 0.1 * count}
-                self.driver.execute_cdp_cmd("Input.dispatchMouseEvent", event)
+            self.click_by_time(x, y, began + 0.1 * count, count)
+
+    def click_by_time(self, x, y, moment, count=1):
+        """A click with a time of its own, in seconds since 1970; the how-many-th of a row of clicks it is."""
+        for kind in ("mousePressed", "mouseReleased"):
+            event = {"type": kind, "x": x, "y": y, "button": "left", "clickCount": count, "timestamp": moment}
+            self.driver.execute_cdp_cmd("Input.dispatchMouseEvent", event)
 
     def press(self, *keys, hold=()):
         """Presses keys, wherever the focus is."""

@@ -2,6 +2,7 @@
 
 import asyncio
 import json
+import os
 import shutil
 import tempfile
 import time
@@ -10,7 +11,7 @@ from pathlib import Path
 
 STAND_IN = Path(__file__).resolve().parent / "stand_in.py"
 # In seconds. What is waited for comes at once on an idle machine, and on a slow and busy one much later.
-PATIENCE = 180
+PATIENCE = 300
 
 
 def wait_for(call, seconds=PATIENCE):
@@ -23,12 +24,12 @@ def wait_for(call, seconds=PATIENCE):
     return found
 
 
-async def until(call, seconds=PATIENCE):
+async def until(call, seconds=PATIENCE, what="it"):
     """The same for what comes about in the loop of the test."""
     end = time.monotonic() + seconds
     while not (found := call()):
         if time.monotonic() > end:
-            raise AssertionError(f"it didn't come within {seconds} s")
+            raise AssertionError(f"{what} didn't come within {seconds} s")
         await asyncio.sleep(0.005)
     return found
 
@@ -37,8 +38,10 @@ class WithFolder(unittest.IsolatedAsyncioTestCase):
     """A test with a folder of its own, in which there is room for a journal."""
 
     def setUp(self):
-        self.folder = Path(tempfile.mkdtemp(prefix="page-test-"))
-        self.addCleanup(shutil.rmtree, self.folder)
+        # A node waits for the disk twice for each event, which says nothing of what is tested.
+        memory = "/dev/shm" if os.access("/dev/shm", os.W_OK) else None
+        self.folder = Path(tempfile.mkdtemp(prefix="groupdesign-test-", dir=memory))
+        self.addCleanup(shutil.rmtree, self.folder, ignore_errors=True)
         self.journal = self.folder / "site.log"
 
     async def asyncSetUp(self):

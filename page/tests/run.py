@@ -1,6 +1,7 @@
 """Runs one part of the tests, `units`, `program` or `browser`, prints a line for each, and how many there were."""
 
 import sys
+import time
 import unittest
 from pathlib import Path
 
@@ -17,23 +18,31 @@ def names_of(part):
     return [name for name in sorted(file.stem for file in HERE.glob(pattern)) if name not in OVER_PROGRAM]
 
 
+def name_of(test):
+    """A test's name without that of its package."""
+    return test.id().partition(".tests.")[2]
+
+
 class Counting(unittest.TextTestResult):
-    """Names each test as it ends."""
+    """Names each test as it ends, with the seconds that it took."""
+
+    def startTest(self, test):
+        super().startTest(test)
+        self.began = time.monotonic()
 
     def addSuccess(self, test):
         super().addSuccess(test)
-        print(f"ok      {test.id().removeprefix('page.tests.')}", flush=True)
+        print(f"ok      {name_of(test)} ({time.monotonic() - self.began:.1f} s)", flush=True)
 
     def addSkip(self, test, reason):
         super().addSkip(test, reason)
-        print(f"skipped {test.id().removeprefix('page.tests.')}: {reason}", flush=True)
+        print(f"skipped {name_of(test)}: {reason}", flush=True)
 
 
-def main(part):
-    names = [f"page.tests.{name}" for name in names_of(part)]
-    suite = unittest.defaultTestLoader.loadTestsFromNames(names)
-    runner = unittest.TextTestRunner(stream=sys.stdout, resultclass=Counting, verbosity=0)
-    result = runner.run(suite)
+def run(package, names):
+    """Runs modules of a package, and gives the status to end with."""
+    suite = unittest.defaultTestLoader.loadTestsFromNames([f"{package}.{name}" for name in names])
+    result = unittest.TextTestRunner(stream=sys.stdout, resultclass=Counting, verbosity=0).run(suite)
     # A test that failed to load counts as failed.
     failed = len(result.failures) + len(result.errors) + len(result.unexpectedSuccesses)
     passed = max(0, result.testsRun - failed - len(result.skipped))
@@ -42,4 +51,4 @@ def main(part):
 
 
 if __name__ == "__main__":
-    sys.exit(main(sys.argv[1]))
+    sys.exit(run("page.tests", names_of(sys.argv[1])))

@@ -57,7 +57,7 @@ class Looked(unittest.TestCase):
             self.refused(why, numeric, word)
 
     def test_what_is_wrong_with_the_list(self):
-        self.refused("there are 1 addresses", looked_up, [HERE], 1)
+        self.refused("there is 1 address:", looked_up, [HERE], 1)
         self.refused("there are 17 addresses", looked_up, [f"192.0.2.8:{port}" for port in range(1, 18)], 1)
         self.refused("no site 3 among 2", looked_up, [HERE, "192.0.2.8:7001"], 3)
         self.refused("no site 0 among 2", looked_up, [HERE, "192.0.2.8:7001"], 0)

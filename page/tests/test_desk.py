@@ -142,15 +142,15 @@ class Telling(WithDesk):
         await desk.batch(["move 1.1 0 0"])
         await until(lambda: desk.shown == 1 and desk.standing and desk.who)
         told = self.opened(desk)
-        hello = {"is": "hello", "desk": 1, "site": 1, "sites": 2, "session": 7, "demo": False, "journal": "site.log"}
-        self.assertEqual(told["hello"], {**hello, "desks": [1], "names": {}})
+        hello = {"is": "hello", "desk": 1, "site": 1, "sites": 2, "session": 7, "demo": False, "openly": False, "journal": "site.log"}
+        self.assertEqual(told["hello"], {**hello, "desks": [1], "names": {}, "gestures": []})
         self.assertEqual([each["id"] for each in told["picture"]["items"]], ["1.1"])
         self.assertEqual((told["picture"]["whole"], told["picture"]["edits"]), (True, 1))
         self.assertEqual([each["line"] for each in told["news"]["news"]], ["move 1.1 0 0"])
         self.assertEqual(told["who"]["who"], [{"site": 1, "name": None, "focus": None}])
         self.assertEqual(told["standing"]["standing"], {"held": 0, "kept": 0, "line": 0, "clock": 0})
         self.assertEqual((told["peers"]["silent"], [each["site"] for each in told["peers"]["peers"]]), (False, [2]))
-        self.assertEqual(list(told), ["hello", "news", "who", "standing", "peers", "picture", "gestures", "history"])
+        self.assertEqual(list(told), ["hello", "news", "who", "standing", "peers", "picture", "history"])
 
     async def test_the_edits_of_a_gesture_are_told_as_one(self):
         desk = await self.desk(poll_every=1000, refused={"raise 9.1": "NoObject"})
@@ -163,7 +163,40 @@ class Telling(WithDesk):
         (clocks,) = told[0]
         self.assertEqual((len(told), clocks[1] - clocks[0]), (1, 2))
         self.assertGreater(clocks[0], first)
-        self.assertEqual(self.opened(desk)["gestures"]["gestures"], [clocks])
+        self.assertEqual(self.opened(desk)["hello"]["gestures"], [clocks])
+
+    async def stopped(self, *lines):
+        """A desk whose node has stopped behind the lines of a gesture, which stand in its journal, and another one's event
+        behind them; the gesture, and the clocks of its first and its last event."""
+        desk = await self.desk(poll_every=1000)
+        await until(lambda: self.typed()[-2:] == ["who", "status"] and not desk.node.slots)
+        os.kill(desk.node.process.pid, signal.SIGSTOP)
+        gesture = asyncio.create_task(desk.batch(list(lines)))
+        await until(lambda: len(desk.node.slots) >= len(lines))
+        first = len(self.typed()) + 1
+        own = [create(f"{first + at}.1", at + 1, "rect", 0, 0, 1, 1) for at in range(len(lines))]
+        self.journal.write_bytes(log(header(), *own, create(f"{first}.2", 1, "rect", 0, 0, 1, 1)))
+        # As behind a poll that brought the other one's event.
+        desk.read_history()
+        return desk, gesture, [first, first + len(lines) - 1]
+
+    async def test_a_gesture_is_told_before_its_events_however_late_its_answers_come(self):
+        desk, gesture, clocks = await self.stopped("raise 1.1", "raise 2.1", "raise 3.1")
+        self.assertEqual((self.heard("history"), self.opened(desk)["history"]["events"]), ([], []))
+        os.kill(desk.node.process.pid, signal.SIGCONT)
+        await gesture
+        self.heard("history")
+        kinds = [each["is"] for each in self.told if each["is"] in ("gestures", "history")]
+        self.assertEqual(kinds, ["gestures", "history"])
+        self.assertEqual(self.heard("gestures")[0]["gestures"], [clocks])
+        self.assertEqual([event["site"] for event in self.heard("history")[0]["events"]], [1, 1, 1, 2])
+
+    async def test_a_gesture_is_one_where_the_node_ends_before_it_has_answered(self):
+        desk, gesture, clocks = await self.stopped("raise 1.1", "raise 2.1", "raise 3.1")
+        os.kill(desk.node.process.pid, signal.SIGKILL)
+        self.assertEqual((await gesture)["answers"], ["unanswered"] * 3)
+        self.assertEqual([each["gestures"] for each in self.heard("gestures")], [[clocks]])
+        self.assertEqual(len(self.heard("history")[0]["events"]), 4)
 
     async def test_a_desk_of_another_site_begins_with_its_name_and_its_journal_too(self):
         self.script()

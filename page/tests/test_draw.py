@@ -50,6 +50,11 @@ class Words(WithStandIn):
         self.assertEqual(asked(["--demo", "3", "--open"]).demo, 3)
         self.assertEqual(asked(["--session", "4294967295", "--site", "16", "--journal", "x", "A"]).session, 2**32 - 1)
 
+    def test_without_words_a_first_look_is_named(self):
+        with self.assertRaises(SystemExit), contextlib.redirect_stderr(io.StringIO()) as said:
+            asked([])
+        self.assertIn("For a first look: ./draw --demo 2 --open", said.getvalue())
+
     def test_other_words_are_refused(self):
         self.refused()
         self.refused(*NODE, "A", "B")
@@ -143,6 +148,11 @@ class Runs(WithRuns):
             first = [line.split()[0] for line in printed.getvalue().splitlines()]
             self.assertEqual(first, ["http://127.0.0.1:1/x/panes.html", "http://127.0.0.1:1/x/?desk=1"])
 
+    def test_where_no_browser_is_found_that_is_said(self):
+        with mock.patch("page.draw.webbrowser.open", return_value=False), contextlib.redirect_stderr(io.StringIO()) as said:
+            draw.open_page("http://127.0.0.1:1/x/")
+        self.assertEqual(said.getvalue(), "draw: no browser was found: open the address above in one\n")
+
     def test_a_node_doesn_t_outlive_its_run(self):
         run, _ = self.start()
         wait_for(lambda: self.typed())
@@ -182,7 +192,7 @@ class Wrong(WithRuns):
                 (HERE, here): "has no port",
                 ("nobody.invalid:7001", here): "isn't known here",
                 ("[::1]:7001", here): "IPv6",
-                (here,): "there are 1 addresses",
+                (here,): "there is 1 address:",
                 (here, here): "stands there twice",
             }
             for addresses, words in rows.items():
@@ -191,7 +201,7 @@ class Wrong(WithRuns):
         self.assertFalse(self.beside("words").exists())
 
     def test_what_is_wrong_with_the_journal_is_said(self):
-        for journal, words in ((self.folder, "is a folder"), (self.folder / "no/site.log", "mkdir -p")):
+        for journal, words in ((self.folder, "is a folder"), (self.folder / "no/site.log", "mkdir -p"), ("", "name one, like mine.log")):
             code, said = self.fails(*NODE, "--journal", str(journal), free_address(), free_address())
             self.assertEqual((code, words in said), (2, True), said)
 

@@ -20,12 +20,12 @@ class Events(WithFolder):
 
     def begun(self):
         self.came = []
-        history = History(self.journal, lambda event, is_new: self.came.append((event["id"], is_new)))
+        history = History(self.journal, lambda place, event, is_new: self.came.append((place, event["id"], is_new)))
         history.begin()
         return history
 
-    def told(self, history, first=0):
-        return [json.loads(text) for text in history.messages(3, first)]
+    def told(self, history, first=0, end=None):
+        return [json.loads(text) for text in history.messages(3, first, len(history.events) if end is None else end)]
 
     def seen(self, history):
         return {event["id"]: event["seen"] for each in self.told(history) for event in each["events"]}
@@ -34,11 +34,11 @@ class Events(WithFolder):
         self.write("1.1", "2.1")
         history, before = self.begun(), int(time.time() * 1000)
         self.write("1.1", "2.1", "1.2")
-        self.assertEqual(history.go_on(), 2)
+        history.go_on()
         seen = self.seen(history)
         self.assertEqual((seen["1.1"], seen["2.1"]), (None, None))
         self.assertTrue(before <= seen["1.2"] <= int(time.time() * 1000))
-        self.assertEqual(self.came, [("1.1", False), ("2.1", False), ("1.2", True)])
+        self.assertEqual(self.came, [(0, "1.1", False), (1, "2.1", False), (2, "1.2", True)])
 
     def test_times_outlive_a_start(self):
         self.write("1.1")
@@ -81,14 +81,17 @@ class Events(WithFolder):
         history = self.begun()
         self.assertEqual(self.told(history), [{"is": "history", "desk": 3, "from": 0, "events": []}])
         self.write(*[f"{clock}.1" for clock in range(1, PART + 3)])
-        self.assertEqual(history.go_on(), 0)
+        history.go_on()
         told = self.told(history)
         self.assertEqual([(each["from"], len(each["events"])) for each in told], [(0, PART), (PART, 2)])
         (last,) = self.told(history, PART + 1)
         self.assertEqual((last["from"], [event["id"] for event in last["events"]]), (PART + 1, [f"{PART + 2}.1"]))
+        counts = {end: [len(each["events"]) for each in self.told(history, 3, end)] for end in (3, 5, PART + 1)}
+        self.assertEqual(counts, {3: [0], 5: [2], PART + 1: [PART - 2]})
 
     def test_a_journal_that_is_none_is_said_and_stops_nothing(self):
         self.journal.write_bytes(b"no log at all")
         history = self.begun()
-        self.assertEqual((history.events, history.go_on()), ([], 0))
+        history.go_on()
+        self.assertEqual(history.events, [])
         self.assertIn("no log", history.fault)

@@ -21,7 +21,7 @@ class Sockets(WithServer):
         await page.kind("history")
         kinds = [each["is"] for each in page.told]
         self.assertEqual(kinds[:2], ["hello", "news"])
-        self.assertEqual(set(kinds), {"hello", "news", "who", "standing", "peers", "picture", "gestures", "history"})
+        self.assertEqual(set(kinds), {"hello", "news", "who", "standing", "peers", "picture", "history"})
         answer = await page.ask("batch", lines=["undo", "raise 9.1"])
         self.assertEqual((answer["answers"][0][:3], answer["answers"][1], answer["edits"]), ("ok ", "refused: NoObject", 1))
         picture = await page.next(lambda each: each["is"] == "picture" and each["edits"] >= 1)
@@ -55,6 +55,7 @@ class Sockets(WithServer):
         for text in rows:
             await page.socket.send_str(text)
             self.assertIn("error", await page.kind("reply"), text[:20])
+        self.assertIn("asks for one of batch", (await page.ask("paint"))["error"])
         for desk in (0, 2, "1", None, [1], 1.0, True):
             self.assertEqual((await page.ask("batch", desk=desk, lines=["undo"]))["error"], "there is no such desk", desk)
         for lines in (None, "undo", {"0": "undo"}, ["undo"] * 10_001):

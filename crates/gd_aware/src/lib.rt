@@ -3,8 +3,6 @@
 
 mod laws;
 mod notes;
-#[cfg(test)]
-mod tests;
 
 pub use laws::the_newest_note_is_kept;
 pub use notes::Notes;

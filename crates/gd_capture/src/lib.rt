@@ -7,7 +7,5 @@ mod kept;
 mod known;
 mod numbers;
 mod placed;
-#[cfg(test)]
-mod tests;
 
 pub use capture::snapshot_of;

@@ -3,7 +3,5 @@
 
 mod card_op;
 mod cards;
-#[cfg(test)]
-mod tests;
 
 pub use cards::Cards;

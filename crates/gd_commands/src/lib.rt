@@ -12,8 +12,6 @@ mod node;
 mod number;
 mod rehearse;
 mod replay;
-#[cfg(test)]
-mod tests;
 
 pub use command::read_command;
 pub use fault::CommandFault;

@@ -4,8 +4,6 @@
 mod array;
 mod events;
 mod picture;
-#[cfg(test)]
-mod tests;
 mod texts;
 
 pub use array::JsonText;

@@ -4,8 +4,6 @@
 mod next;
 mod reader;
 mod scan;
-#[cfg(test)]
-mod tests;
 mod typed;
 
 pub use gd_base::LineFault;

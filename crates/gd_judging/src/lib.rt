@@ -3,7 +3,5 @@
 
 mod groups;
 mod judging;
-#[cfg(test)]
-mod tests;
 
 pub use judging::judge;

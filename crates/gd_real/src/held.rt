@@ -122,7 +122,7 @@ fn place_of(found: &Metadata) -> Place {
 }
 
 /// The folder in which that name stands.
-pub(crate) fn folder_of(name: &str) -> &str {
+fn folder_of(name: &str) -> &str {
     match Path::new(name).parent() {
         Some(folder) if !folder.as_str().is_empty() => folder.as_str(),
         _ => ".",

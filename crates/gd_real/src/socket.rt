@@ -188,7 +188,7 @@ fn sent_of(answer: IoResult<usize>, size: usize) -> Sent
 }
 
 /// The addresses that the words write, if there are no more than sites.
-pub(crate) fn read_addresses(alloc: Global, words: &[Word]) -> Option<Vec<SocketAddr>>
+fn read_addresses(alloc: Global, words: &[Word]) -> Option<Vec<SocketAddr>>
     ensures { IfSome result (λ addresses. AreWritten words.now addresses.items) }
 {
     if words.len() > SITES {

@@ -5,8 +5,6 @@ mod contents;
 mod fault;
 mod logs;
 mod resuming;
-#[cfg(test)]
-mod tests;
 
 pub use fault::ResumeFault;
 pub use resuming::resume;

@@ -4,8 +4,6 @@
 mod back;
 mod backs;
 mod take_back;
-#[cfg(test)]
-mod tests;
 
 pub use back::Back;
 pub use take_back::{BackFault, TakeBack};

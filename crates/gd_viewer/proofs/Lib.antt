@@ -5,4 +5,3 @@ pub mod Beating
 pub mod Rising
 pub mod Parts
 pub mod Begun
-pub mod Handed

@@ -6,8 +6,6 @@ mod items;
 mod showing;
 mod snapshotting;
 mod taking;
-#[cfg(test)]
-mod tests;
 mod viewing;
 
 pub use snapshotting::snapshot;

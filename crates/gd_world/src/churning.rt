@@ -17,8 +17,6 @@ mod counting;
 mod drawing;
 mod playing;
 mod summing;
-#[cfg(test)]
-mod tests;
 
 use crate::churning::playing::Churning;
 use crate::churning::summing::summary;

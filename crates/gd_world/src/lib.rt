@@ -11,8 +11,6 @@ mod rehearsing;
 mod replies;
 mod scripting;
 mod telling;
-#[cfg(test)]
-mod tests;
 mod world;
 
 pub use churning::churn;

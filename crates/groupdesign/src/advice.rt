@@ -1,4 +1,4 @@
-//! What is said on standard error of a run that was cut short: what happened, and what to do.
+//! What is said on standard error of a run that wasn't carried out: what happened, and what to do.
 
 use crate::help::{COMMANDS, topic_of};
 use gd_asked::Command;
@@ -10,6 +10,9 @@ use strsim::jaro_winkler;
 
 /// A word at least so near to a command's name may be meant for it.
 const NEAR: f64 = 0.8;
+
+/// The command that opens the page, which stands beside the program.
+const DRAW: &str = "draw";
 
 /// What was under the name of a node's journal, before the run and after it.
 #[derive(Clone, Copy, Debug, PartialEq, Eq)]
@@ -216,15 +219,29 @@ fn are_mixed(words: &[Word]) -> bool {
     words.iter().any(|word| is_ipv6(word)) && !words.iter().all(|word| is_ipv6(word))
 }
 
+/// The word that has to name a command: the first, or behind `help` the second.
+fn name_in(words: &[Word]) -> Option<&str> {
+    let first = words.first()?.as_str();
+    if first != "help" && first != "--help" && first != "-h" {
+        return Some(first);
+    }
+    Some(words.get(1)?.as_str())
+}
+
 /// What is said of words that ask for no command.
 pub fn advice_on_words(alloc: Global, words: &[Word]) -> Result<String, AllocError> {
-    let Some(first) = words.first() else {
+    let Some(name) = name_in(words) else {
         return String::from_str(alloc, "a command is missing: groupdesign --help lists them");
     };
-    let name = first.as_str();
     if topic_of(name).is_some() {
         return format!(in alloc;
-            "these options of {name} don't fit: groupdesign {name} --help lists them"
+            "these words behind {name} don't fit: groupdesign {name} --help explains them, with an example"
+        );
+    }
+    if name == DRAW {
+        return String::from_str(
+            alloc,
+            "draw opens the page and isn't in this program alone: the installed groupdesign has it, and a checkout as ./draw",
         );
     }
     match near(alloc, name)? {
@@ -247,6 +264,9 @@ fn near(alloc: Global, name: &str) -> Result<Option<&'static str>, AllocError> {
             most = score;
             found = Some(command);
         }
+    }
+    if jaro_winkler(alloc, DRAW, name)? > most {
+        found = Some(DRAW);
     }
     Ok(found)
 }

@@ -34,7 +34,7 @@ fn main(rt: HostRuntime) -> ExitCode {
         Ok(words) => words,
         Err(fault) => return exit_without_words(&rt, fault),
     };
-    if let Some(question) = question_of(words.as_slice()) {
+    if let Some(question) = question_of(rt.alloc(), &words) {
         return answer(&rt, question);
     }
     let before = look_at_journal(&rt, &words);
@@ -67,7 +67,7 @@ fn look_at_journal(rt: &HostRuntime, words: &WordList) -> FileState {
     }
 }
 
-/// Says on standard error what happened, where a run was cut short, and what to do.
+/// Says on standard error what happened, where a run wasn't carried out, and what to do.
 fn advise(rt: &HostRuntime, code: ExitCode, words: &WordList, traces: Traces) {
     let Some(status) = status_of(code) else {
         return;

@@ -1,8 +1,5 @@
 // What one press of a pointer begins. An act is told of each move, and of the end; it previews, and types at the end alone.
 
-/** @typedef {import("../core/types.js").Ed} Ed */
-/** @typedef {import("../core/types.js").Item} Item */
-/** @typedef {import("../core/types.js").Place} Place */
 /**
  * @typedef {object} Act
  * @property {boolean} [eager] whether it begins with the press, and not once the pointer has gone a little way

@@ -4,9 +4,6 @@ import { has } from "./boxes.js";
 import { CURSORS, handleAt } from "./handles.js";
 import { itemAt } from "./hit.js";
 
-/** @typedef {import("../core/types.js").Ed} Ed */
-/** @typedef {import("../core/types.js").Item} Item */
-/** @typedef {import("../core/types.js").Place} Place */
 /** @typedef {import("./gestures.js").Gestures} Gestures */
 
 /** In pixels: how far beside a line still counts. */

@@ -1,7 +1,5 @@
 // Boxes, and how far a place is from a line.
 
-/** @typedef {import("../core/types.js").Box} Box */
-
 /**
  * The box of a place and a size, which may be below 0.
  * @param {number} x

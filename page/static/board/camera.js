@@ -1,7 +1,7 @@
 // The camera: which place of the board is at the window's top left, and how large a unit is.
 
-/** @typedef {import("../core/types.js").Box} Box */
 /** @typedef {[number, number, number, number]} Pad what islands take at the top, right, bottom and left */
+/** @typedef {{x: number, y: number, zoom: number}} View */
 
 export const LEAST = 0.05;
 export const MOST = 8;
@@ -19,6 +19,8 @@ export class Camera {
     this.height = 0;
     this.frame = 0;
     this.wasShown = false;
+    /** Where it goes or went by itself, until it is moved again. @type {View | null} */
+    this.goal = null;
     /** @type {() => void} */
     this.hear = () => {};
   }
@@ -30,7 +32,14 @@ export class Camera {
    */
   set(x, y, zoom) {
     this.stop();
+    this.goal = null;
     this.put(x, y, zoom);
+  }
+
+  /** @returns {View} */
+  view() {
+    const { x, y, zoom } = this;
+    return { x, y, zoom };
   }
 
   /**
@@ -123,6 +132,7 @@ export class Camera {
    * Brings a box into the window by the least way, where it isn't there.
    * @param {Box} box
    * @param {Pad} pad
+   * @returns {boolean} whether it goes anywhere
    */
   reveal(box, pad) {
     const shown = this.box();
@@ -131,12 +141,13 @@ export class Camera {
     const [y0, y1] = [shown.y0 + pad[0] / z, shown.y1 - pad[2] / z];
     if (box.x1 - box.x0 > x1 - x0 || box.y1 - box.y0 > y1 - y0) {
       this.fit(box, pad, z);
-      return;
+      return true;
     }
     const gap = 24 / z;
     const dx = wayInto(box.x0, box.x1, x0, x1, gap);
     const dy = wayInto(box.y0, box.y1, y0, y1, gap);
     if (dx || dy) this.glide(this.x + dx, this.y + dy, z);
+    return Boolean(dx || dy);
   }
 
   stop() {
@@ -151,6 +162,7 @@ export class Camera {
    */
   glide(x, y, zoom) {
     this.stop();
+    this.goal = { x, y, zoom };
     if (!this.wasShown || matchMedia("(prefers-reduced-motion: reduce)").matches) {
       this.wasShown = true;
       this.put(x, y, zoom);

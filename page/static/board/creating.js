@@ -10,9 +10,6 @@ import { itemOf } from "./items.js";
 import { snapper } from "./snap.js";
 import { LEADING } from "./text.js";
 
-/** @typedef {import("../core/types.js").Ed} Ed */
-/** @typedef {import("../core/types.js").Box} Box */
-/** @typedef {import("../core/types.js").Place} Place */
 /** @typedef {import("../core/types.js").ShapeKind} ShapeKind */
 /** @typedef {import("./acts.js").Act} Act */
 /** @typedef {import("./gestures.js").Gestures} Gestures */

@@ -12,7 +12,6 @@ import { turn } from "./turning.js";
 
 export { copyLines, createLines, fitLabel } from "./making.js";
 
-/** @typedef {import("../core/types.js").Ed} Ed */
 /** @typedef {import("../core/types.js").Refusal} Refusal */
 /** @typedef {import("./pending.js").Pending} Pending */
 /** @typedef {import("./remains.js").Remains} Remains */

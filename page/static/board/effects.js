@@ -1,6 +1,5 @@
 // What lines will do to the drawing, as far as this page can say, so that it can be shown before the node has.
 
-/** @typedef {import("../core/types.js").Plain} Plain */
 /** @typedef {import("../core/types.js").Change} Change */
 /** @typedef {import("./model.js").Model} Model */
 /**

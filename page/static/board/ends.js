@@ -2,7 +2,6 @@
 
 import { turned } from "./boxes.js";
 
-/** @typedef {import("../core/types.js").Item} Item */
 /** @typedef {import("../core/types.js").Ends} Ends */
 /** @typedef {import("./acts.js").Act} Act */
 /** @typedef {import("./gestures.js").Gestures} Gestures */

@@ -1,8 +1,5 @@
 // Flashes: what came is marked for a while, and how. Green was applied, amber reworked, grey and dashed overwritten.
 
-/** @typedef {import("../core/types.js").Ed} Ed */
-/** @typedef {import("../core/types.js").Item} Item */
-/** @typedef {import("../core/types.js").Box} Box */
 /** @typedef {import("./pen.js").Pen} Pen */
 /** @typedef {"applied" | "reworked" | "dropped" | "undone"} What */
 /** @typedef {{ids: Set<string>, what: What, tag: string | null, from: number, lasts: number, where: Box | null}} Flash */

@@ -1,7 +1,5 @@
 // Frames: one is drawn where something was touched, and no other.
 
-/** @typedef {import("../core/types.js").Ed} Ed */
-
 const MOST_DRAWS = 2000;
 
 export class Frames {

@@ -6,8 +6,6 @@ import { creating, drawingLine, writing } from "./creating.js";
 import { edgePush, panning, pinching } from "./panning.js";
 import { selecting } from "./selecting.js";
 
-/** @typedef {import("../core/types.js").Ed} Ed */
-/** @typedef {import("../core/types.js").Place} Place */
 /** @typedef {import("./acts.js").Act} Act */
 
 const SLIP = 4;
@@ -122,6 +120,8 @@ export class Gestures {
     const { ed } = this;
     ed.settle();
     const wasEditing = ed.editing !== null;
+    // A press that ends a text is never the second of two clicks.
+    if (wasEditing) this.clicked = null;
     // A text that is too long stays in its field.
     if (wasEditing && ed.editor.commit() === false) return;
     // A press beside a text that is being written ends that, and begins no other.

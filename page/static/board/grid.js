@@ -2,9 +2,6 @@
 
 import { meet } from "./boxes.js";
 
-/** @typedef {import("../core/types.js").Item} Item */
-/** @typedef {import("../core/types.js").Box} Box */
-
 const CELL = 512;
 const MOST_CELLS = 16;
 const ROW = 67108864;

@@ -3,10 +3,6 @@
 import { has } from "./boxes.js";
 import { HANDLES } from "./overlay.js";
 
-/** @typedef {import("../core/types.js").Ed} Ed */
-/** @typedef {import("../core/types.js").Item} Item */
-/** @typedef {import("../core/types.js").Box} Box */
-/** @typedef {import("../core/types.js").Place} Place */
 /** @typedef {import("./overlay.js").Handle} Handle */
 /** @typedef {{handle?: Handle, end?: "start" | "end", item?: Item}} Found */
 

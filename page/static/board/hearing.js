@@ -1,6 +1,5 @@
 // What the node tells, and what becomes of it on the board.
 
-/** @typedef {import("../core/types.js").Ed} Ed */
 /** @typedef {import("./pending.js").Pending} Pending */
 /** @typedef {import("../core/node.js").NodeEar} NodeEar */
 
@@ -31,6 +30,11 @@ export function hearing(ed, pending) {
     stand(what) {
       if (what === "pointer") ed.pointing.update();
       if (!STANDING.has(what)) return;
+      if (what === "hello") {
+        ed.watcher = ed.node.watcher;
+        document.body.dataset.watcher = ed.watcher ? "1" : "";
+        ed.standing.warn();
+      }
       ed.people.update();
       ed.standing.update();
       ed.roster.update();

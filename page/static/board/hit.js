@@ -4,7 +4,6 @@
 import { farFrom, grown, has } from "./boxes.js";
 import { textBox } from "./paint.js";
 
-/** @typedef {import("../core/types.js").Item} Item */
 /** @typedef {import("./model.js").Model} Model */
 
 /** The widest stroke reaches so far out of a shape's box. */

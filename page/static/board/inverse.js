@@ -1,7 +1,5 @@
 // What takes a line back.
 
-/** @typedef {import("../core/types.js").Plain} Plain */
-
 /** What nothing takes back so far, in words; what is made anew has no need of any. */
 const FINAL = /** @type {Record<string, string>} */ ({
   ungroup: "a group in a group can’t be made again yet",

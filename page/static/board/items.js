@@ -3,10 +3,6 @@
 import { around, boxOf } from "./boxes.js";
 import { mostOf, sizeOf } from "./text.js";
 
-/** @typedef {import("../core/types.js").Item} Item */
-/** @typedef {import("../core/types.js").Plain} Plain */
-/** @typedef {import("../core/types.js").Box} Box */
-
 /** Items by id. An object that has got its id by now is found by its former name too. */
 export class Ids extends Map {
   constructor() {

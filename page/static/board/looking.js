@@ -1,7 +1,5 @@
 // What this person looks at is told to the others: the first of what is selected, once the selection rests.
 
-/** @typedef {import("../core/types.js").Ed} Ed */
-
 const REST = 400;
 
 export class Looking {

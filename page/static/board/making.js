@@ -2,7 +2,6 @@
 
 import { BREAK, bytesOf, MOST_LABEL } from "../core/lines.js";
 
-/** @typedef {import("../core/types.js").Plain} Plain */
 /** @typedef {Omit<Plain, "id" | "parent"> & {id?: string, parent?: string | null}} Fresh a shape to be made */
 
 const { round } = Math;

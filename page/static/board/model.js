@@ -5,9 +5,6 @@ import { Grid } from "./grid.js";
 import { arrange, boxGroups } from "./groups.js";
 import { Ids, isSame, itemOf } from "./items.js";
 
-/** @typedef {import("../core/types.js").Item} Item */
-/** @typedef {import("../core/types.js").Plain} Plain */
-/** @typedef {import("../core/types.js").Box} Box */
 /** @typedef {import("../core/types.js").Change} Change */
 
 /** So far beyond the window an item may still be seen, by its stroke. */

@@ -5,10 +5,7 @@ import { counted, isFree, moveLines } from "./acts.js";
 import { copyLines } from "./making.js";
 import { snapper } from "./snap.js";
 
-/** @typedef {import("../core/types.js").Ed} Ed */
-/** @typedef {import("../core/types.js").Item} Item */
 /** @typedef {import("../core/types.js").Change} Change */
-/** @typedef {import("../core/types.js").Place} Place */
 /** @typedef {import("../core/types.js").Ends} Ends */
 /** @typedef {import("./acts.js").Act} Act */
 /** @typedef {import("./gestures.js").Gestures} Gestures */

@@ -6,9 +6,6 @@ import { Flashes } from "./flashes.js";
 import { paint } from "./paint.js";
 import { Pen } from "./pen.js";
 
-/** @typedef {import("../core/types.js").Ed} Ed */
-/** @typedef {import("../core/types.js").Item} Item */
-/** @typedef {import("../core/types.js").Box} Box */
 /** @typedef {import("../core/types.js").Guide} Guide */
 /** @typedef {"nw" | "n" | "ne" | "e" | "se" | "s" | "sw" | "w"} Handle */
 

@@ -3,7 +3,6 @@
 import { inkOn, shownColour } from "./colours.js";
 import { fontOf, lay, LEADING, roomOf } from "./text.js";
 
-/** @typedef {import("../core/types.js").Item} Item */
 /** @typedef {{dark: boolean, paper: string, skip: string | null}} Look the theme, and whose label isn't painted */
 
 /** In pixels: shapes below are left out, below are blocks, below have no round corners. */

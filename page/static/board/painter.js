@@ -4,8 +4,6 @@ import { grown, meet } from "./boxes.js";
 import { Ground } from "./ground.js";
 import { paint } from "./paint.js";
 
-/** @typedef {import("../core/types.js").Item} Item */
-/** @typedef {import("../core/types.js").Box} Box */
 /** @typedef {import("./model.js").Model} Model */
 /** @typedef {{box: Box, zoom: number, lift?: Set<string> | null}} View what a canvas shows; what is lifted isn't on it */
 

@@ -1,6 +1,5 @@
 // Moving the view: by hand, by two fingers, and along with a drag that comes to the window's edge.
 
-/** @typedef {import("../core/types.js").Place} Place */
 /** @typedef {import("./acts.js").Act} Act */
 /** @typedef {import("./gestures.js").Gestures} Gestures */
 

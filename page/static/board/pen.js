@@ -2,9 +2,6 @@
 
 import { FAMILY } from "./text.js";
 
-/** @typedef {import("../core/types.js").Ed} Ed */
-/** @typedef {import("../core/types.js").Item} Item */
-/** @typedef {import("../core/types.js").Box} Box */
 /** @typedef {import("../core/types.js").Guide} Guide */
 
 const TAG_FONT = `600 11px ${FAMILY}`;

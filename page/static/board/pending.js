@@ -1,6 +1,5 @@
 // What was typed and isn't shown by the node yet. It is shown at once, over the node's picture, and goes when a picture has it.
 
-/** @typedef {import("../core/types.js").Plain} Plain */
 /** @typedef {import("../core/types.js").Change} Change */
 /** @typedef {import("../core/picture.js").Picture} Picture */
 /** @typedef {import("../core/picture.js").Difference} Difference */

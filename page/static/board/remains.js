@@ -3,8 +3,6 @@
 
 import { copyLines } from "./making.js";
 
-/** @typedef {import("../core/types.js").Box} Box */
-/** @typedef {import("../core/types.js").Plain} Plain */
 /** @typedef {import("./edits.js").Edits} Edits */
 /** @typedef {import("./edits.js").Step} Step */
 /** @typedef {import("./effects.js").Foresight} Foresight */

@@ -5,9 +5,6 @@ import { HANDLES } from "./overlay.js";
 import { snapper } from "./snap.js";
 import { lay } from "./text.js";
 
-/** @typedef {import("../core/types.js").Box} Box */
-/** @typedef {import("../core/types.js").Item} Item */
-/** @typedef {import("../core/types.js").Place} Place */
 /** @typedef {import("./acts.js").Act} Act */
 /** @typedef {import("./gestures.js").Gestures} Gestures */
 /** @typedef {import("./overlay.js").Handle} Handle */

@@ -4,8 +4,6 @@
 import { grown } from "./boxes.js";
 import { Painter } from "./painter.js";
 
-/** @typedef {import("../core/types.js").Item} Item */
-/** @typedef {import("../core/types.js").Box} Box */
 /** @typedef {import("./model.js").Model} Model */
 /** @typedef {import("./camera.js").Camera} Camera */
 /**

@@ -9,10 +9,6 @@ import { itemAt } from "./hit.js";
 import { dragging } from "./moving.js";
 import { resizing } from "./resizing.js";
 
-/** @typedef {import("../core/types.js").Ed} Ed */
-/** @typedef {import("../core/types.js").Item} Item */
-/** @typedef {import("../core/types.js").Box} Box */
-/** @typedef {import("../core/types.js").Place} Place */
 /** @typedef {import("./acts.js").Act} Act */
 /** @typedef {import("./gestures.js").Gestures} Gestures */
 

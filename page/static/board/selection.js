@@ -1,7 +1,6 @@
 // Which objects are selected, and which group was entered.
 
 /** @typedef {import("./model.js").Model} Model */
-/** @typedef {import("../core/types.js").Item} Item */
 
 export class Selection {
   /** @param {Model} model */

@@ -2,7 +2,6 @@
 
 import { meet } from "./boxes.js";
 
-/** @typedef {import("../core/types.js").Box} Box */
 /** @typedef {import("../core/types.js").Guide} Guide */
 /** @typedef {"x0" | "x1" | "y0" | "y1"} Side */
 /** @typedef {Side | "mid"} Line what of a box snaps */

@@ -5,7 +5,6 @@ import { counted } from "./acts.js";
 import { wordsOf } from "./effects.js";
 import { anew, backOf, differenceOf } from "./remains.js";
 
-/** @typedef {import("../core/types.js").Ed} Ed */
 /** @typedef {import("../core/types.js").Refusal} Refusal */
 /** @typedef {import("./edits.js").Edits} Edits */
 /** @typedef {import("./edits.js").Gesture} Gesture */

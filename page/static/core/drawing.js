@@ -3,7 +3,6 @@
 
 /** @typedef {import("./types.js").Event} Event */
 /** @typedef {import("./types.js").Kind} Kind */
-/** @typedef {import("./types.js").Plain} Plain */
 /** @typedef {{parent: string, dx: number, dy: number}} Link */
 /**
  * @typedef {object} Body

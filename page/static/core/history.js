@@ -6,7 +6,6 @@ import { closure, covers } from "./relations.js";
 
 /** @typedef {import("./types.js").Event} Event */
 /** @typedef {import("./types.js").Late} Late */
-/** @typedef {import("./types.js").Plain} Plain */
 /** @typedef {import("./drawing.js").Before} Before */
 /** @typedef {import("./drawing.js").Board} Board */
 

@@ -1,8 +1,6 @@
 // Lines: what printed lines of a drawing say, for the clipboard and for files, and how long a label may be.
 // docs/LINES.md has them all.
 
-/** @typedef {import("./types.js").Plain} Plain */
-
 export const MOST_LABEL = 200;
 /** As many lines as one batch takes. */
 export const MOST_LINES = 10_000;

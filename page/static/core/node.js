@@ -38,6 +38,10 @@ export class Node {
     this.session = 0;
     this.desk = desk ?? 1;
     this.demo = false;
+    /** Whether the network between this page and the bridge can read along. */
+    this.isOpenly = false;
+    /** Whether this page only looks on. */
+    this.watcher = false;
     this.journal = "";
     /** @type {number[]} */
     this.desks = [];
@@ -157,11 +161,20 @@ export class Node {
   }
 
   /**
+   * Has the link made for those who only look on.
+   * @returns {Promise<{link: string, code: string[] | null}>}
+   */
+  letWatch() {
+    return this.ask(/** @type {any} */ ({ do: "carried", what: "watch" }));
+  }
+
+  /**
    * Tells the others of a session over a broker where this page points, and what is selected here. Nobody waits for an answer.
    * @param {[number, number] | null} point
    * @param {string[]} selection
    */
   point(point, selection) {
+    if (this.watcher) return;
     this.counted += 1;
     this.wire.send({ do: "carried", what: "point", point, selection, desk: this.desk, id: this.counted });
   }
@@ -246,8 +259,10 @@ export class Node {
 
   /** @param {any} hello */
   greet(hello) {
-    const { desk, site, sites, session, demo, journal, desks, names } = hello;
-    Object.assign(this, { desk, site, sites, session, demo, journal, desks, names: names ?? {}, ended: null, gestures: [] });
+    const { desk, site, sites, session, demo, journal, desks, names, gestures } = hello;
+    Object.assign(this, { desk, site, sites, session, demo, journal, desks, gestures, names: names ?? {}, ended: null });
+    this.watcher = Boolean(hello.watcher);
+    this.isOpenly = Boolean(hello.openly);
   }
 
   /**

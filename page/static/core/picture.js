@@ -1,7 +1,6 @@
 // The drawing as the node shows it. The bridge tells what is different, and here it is put together.
 
 /** @typedef {import("./types.js").Shown} Shown */
-/** @typedef {import("./types.js").Plain} Plain */
 /** @typedef {{id: string, plain: Plain, under: Place | null, over: Place | null}} Place an object in the stack, and its neighbours */
 /**
  * What a picture has that is different.

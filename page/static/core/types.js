@@ -83,7 +83,7 @@
 
 /**
  * What is known of a session over a broker: its name, the other seats that somebody has, whether the broker is reached and why
- * not, and how many more people can be invited here. Of a seat: whether it is there, how many seconds ago it was heard, how many of
+ * not, how many more people can be invited here, whether a link for those who only look on can be made here, and whether there is one. Of a seat: whether it is there, how many seconds ago it was heard, how many of
  * its edits are known of and aren't here, and whether it has told two stories.
  * @typedef {object} Carried
  * @property {string} name
@@ -92,6 +92,8 @@
  * @property {string} fault
  * @property {string} broker
  * @property {number} invites
+ * @property {boolean} watches
+ * @property {boolean} watched
  */
 
 /** @typedef {{site: number, name: string, me: boolean, here: boolean, away: string | null, selection: Set<string>}} Seat */
@@ -127,7 +129,7 @@
  * @property {Ghost[] | null} ghosts
  * @property {string | null} editing the object whose text is being edited
  * @property {string | null} readOnly why nothing can be drawn now, or null
- * @property {boolean} watcher always false so far
+ * @property {boolean} watcher whether this page only looks on
  * @property {Place | null} pointer where the pointer is
  * @property {{stroke: string, fill: string | null, width: number}} style what the next shape gets
  * @property {{draws: number[]}} stats

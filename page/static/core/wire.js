@@ -2,8 +2,9 @@
 
 const FIRST_WAIT = 250;
 const LONGEST_WAIT = 5000;
-/** The bridge closes the socket with this code when it ends. */
+/** The bridge closes the socket with one of these codes when it ends, and where another page has the seat. */
 const BRIDGE_ENDED = 4001;
+const SEAT_TAKEN = 4002;
 
 /** @typedef {"open" | "message" | "lost"} What */
 /** @typedef {{hear: (what: What, message: any) => void}} Ear */
@@ -19,8 +20,8 @@ export class Wire {
     this.ear = ear;
     this.wait = FIRST_WAIT;
     this.isOpen = false;
-    /** Why it isn't open, where that is known: the bridge has ended, or another one answers at its address. */
-    this.why = /** @type {"ended" | "replaced" | null} */ (null);
+    /** Why it isn't open, where that is known: the bridge has ended, another one answers at its address, or another page has the seat. */
+    this.why = /** @type {"ended" | "replaced" | "taken" | null} */ (null);
     this.timer = 0;
     addEventListener("online", () => this.again());
   }
@@ -28,18 +29,22 @@ export class Wire {
   open() {
     const socket = new WebSocket(this.address);
     this.socket = socket;
-    socket.addEventListener("open", () => {
-      this.isOpen = true;
-      this.why = null;
-      this.wait = FIRST_WAIT;
-      this.ear.hear("open", null);
-    });
     socket.addEventListener("message", ({ data }) => {
-      if (socket === this.socket) this.ear.hear("message", JSON.parse(data));
+      if (socket !== this.socket) return;
+      if (!this.isOpen) this.opened();
+      this.ear.hear("message", JSON.parse(data));
     });
     socket.addEventListener("close", ({ code }) => {
       if (socket === this.socket) this.lost(code);
     });
+  }
+
+  /** The bridge said something: one whose seat another page has only closes the socket. */
+  opened() {
+    this.isOpen = true;
+    this.why = null;
+    this.wait = FIRST_WAIT;
+    this.ear.hear("open", null);
   }
 
   /** @param {number} code */
@@ -47,6 +52,7 @@ export class Wire {
     const was = this.isOpen;
     this.isOpen = false;
     if (code === BRIDGE_ENDED) this.why = "ended";
+    if (code === SEAT_TAKEN) this.why = "taken";
     if (was) this.ear.hear("lost", null);
     this.timer = setTimeout(() => this.look(), this.wait);
     this.wait = Math.min(LONGEST_WAIT, this.wait * 2);

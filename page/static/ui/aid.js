@@ -3,8 +3,6 @@
 import { commandOf, run } from "./commands.js";
 import { button, h, keyText, roving } from "./h.js";
 
-/** @typedef {import("../core/types.js").Ed} Ed */
-
 /**
  * A button that does a command.
  * @param {Ed} ed

@@ -4,9 +4,6 @@ import { copyLines } from "../board/edits.js";
 import { objectName } from "./deeds.js";
 import { count } from "./words.js";
 
-/** @typedef {import("../core/types.js").Ed} Ed */
-/** @typedef {import("../core/types.js").Item} Item */
-/** @typedef {import("../core/types.js").Box} Box */
 /** @typedef {"x0" | "y0"} Low */
 
 /** As many objects as a group takes. */

@@ -3,7 +3,6 @@
 import { isRepaired, lossAmong } from "./deeds.js";
 import { count } from "./words.js";
 
-/** @typedef {import("../core/types.js").Ed} Ed */
 /** @typedef {import("../core/types.js").Event} Event */
 
 /** Events that come within so many milliseconds of each other are told in one banner. */

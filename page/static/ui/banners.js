@@ -4,7 +4,6 @@ import { h, keyText } from "./h.js";
 import { icon } from "./icons.js";
 import { plainWords } from "./words.js";
 
-/** @typedef {import("../core/types.js").Ed} Ed */
 /**
  * @typedef {object} Banner
  * @property {string} text

@@ -6,7 +6,6 @@ import { button, h, keyText } from "./h.js";
 import { icon } from "./icons.js";
 import { putBack, takenBy } from "./putting.js";
 
-/** @typedef {import("../core/types.js").Ed} Ed */
 /** @typedef {import("../core/types.js").Event} Event */
 /** @typedef {{events: Event[], step: (by: 1 | -1) => void, toNow: () => void}} Walk what goes through the events */
 

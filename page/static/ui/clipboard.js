@@ -10,8 +10,6 @@ import { readDrawing } from "./reading.js";
 import { labelsOf } from "./splitting.js";
 import { count } from "./words.js";
 
-/** @typedef {import("../core/types.js").Ed} Ed */
-
 const TEXT_WIDTH = 480;
 const GAP = 8;
 

@@ -3,7 +3,6 @@
 
 import { align, duplicate, enter, group, remove, selectAll, spread, ungroup } from "./arrange.js";
 
-/** @typedef {import("../core/types.js").Ed} Ed */
 /**
  * @typedef {object} Command
  * @property {string} id
@@ -157,7 +156,7 @@ const FILE = commandsOf("File", [
 
 const PEOPLE = commandsOf("People", [
   ["roster", "Who is here", "people", [], always, (ed) => ed.roster.open()],
-  ["rename", "Your name", "edit", [], always, (ed) => ed.roster.rename()],
+  ["rename", "Your name", "edit", [], (ed) => !ed.watcher, (ed) => ed.roster.rename()],
 ]);
 
 const HELP = commandsOf("Help", [

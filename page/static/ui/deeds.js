@@ -2,7 +2,6 @@
 
 import { count, oneLine, shortened } from "./words.js";
 
-/** @typedef {import("../core/types.js").Ed} Ed */
 /** @typedef {import("../core/types.js").Event} Event */
 
 const DEEDS = /** @type {Record<string, string>} */ ({

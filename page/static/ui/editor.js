@@ -8,10 +8,6 @@ import { bytesOf, MOST_LABEL } from "../core/lines.js";
 import { h } from "./h.js";
 import { count, oneLine, shortened } from "./words.js";
 
-/** @typedef {import("../core/types.js").Ed} Ed */
-/** @typedef {import("../core/types.js").Item} Item */
-/** @typedef {import("../core/types.js").Box} Box */
-
 /** As wide as a text grows before it wraps, and as the label of a line may be. */
 const WIDEST = 480;
 const LINE_ROOM = 260;

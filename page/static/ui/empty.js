@@ -2,8 +2,6 @@
 
 import { h, keyText } from "./h.js";
 
-/** @typedef {import("../core/types.js").Ed} Ed */
-
 /** @param {...string} keys */
 const keys = (...keys) => keys.map((key) => h("kbd", {}, keyText(key)));
 
@@ -24,8 +22,8 @@ export function makeEmpty(ed, host) {
     h("div", { class: "empty-acts" }, open),
   );
   const update = () => {
-    const isEmpty = ed.model.items.length === 0 && ed.history.at === null;
-    host.hidden = !isEmpty || Boolean(ed.busy) || Boolean(ed.editing);
+    const isEmpty = ed.node.isReady && ed.model.items.length === 0 && ed.history.at === null;
+    host.hidden = !isEmpty || Boolean(ed.busy) || Boolean(ed.editing) || ed.watcher;
   };
   return { update };
 }

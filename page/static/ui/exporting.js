@@ -6,8 +6,6 @@ import { pdfOf } from "./pdf.js";
 import { pictureBox, svgOf } from "./svg.js";
 import { withMembers } from "./arrange.js";
 
-/** @typedef {import("../core/types.js").Ed} Ed */
-
 const PAPER = "#FFFFFF";
 /** A picture has so many pixels for a unit, and no side has more than the other number. */
 const PNG = { scale: 2, most: 8000 };

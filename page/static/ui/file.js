@@ -2,8 +2,6 @@
 
 import { button, h } from "./h.js";
 
-/** @typedef {import("../core/types.js").Ed} Ed */
-
 const PICTURES = ["saveSvg", "savePng", "savePdf"];
 const COPIES = ["saveLog", "saveJson", "saveText", "saveEvents"];
 const SAVES = [PICTURES, COPIES];

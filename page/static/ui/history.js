@@ -12,9 +12,7 @@ import { Lane } from "./lane.js";
 import { under } from "./putting.js";
 import { stepAt, stepFrom } from "./steps.js";
 
-/** @typedef {import("../core/types.js").Ed} Ed */
 /** @typedef {import("../core/types.js").Event} Event */
-/** @typedef {import("../core/types.js").Box} Box */
 
 const IN_PAST = "you look at the past, go back to now to draw";
 /** How long playing takes in all, a step at least and at most, and how many times longer it stays at a late event. */

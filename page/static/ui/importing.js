@@ -3,8 +3,6 @@
 import { h } from "./h.js";
 import { readDrawing } from "./reading.js";
 
-/** @typedef {import("../core/types.js").Ed} Ed */
-
 const MOST_BYTES = 8_000_000;
 const TAKEN = ".txt,.json,.svg,text/plain,application/json,image/svg+xml";
 

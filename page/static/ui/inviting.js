@@ -1,9 +1,9 @@
 // Inviting: a button beside the faces that has a link made for one more person, and shows it as a text and as a code for a camera.
 
+import { CALLED } from "../core/called.js";
 import { button, h } from "./h.js";
 import { count } from "./words.js";
 
-/** @typedef {import("../core/types.js").Ed} Ed */
 /** @typedef {import("../core/types.js").Carried} Carried */
 /** @typedef {import("./h.js").Child} Child */
 
@@ -13,11 +13,12 @@ const MODULE = 4;
 /**
  * What is said of the broker where it isn't reached.
  * @param {Carried | null} carried
+ * @param {boolean} [watcher] whether this page only looks on
  */
-export function faultOf(carried) {
+export function faultOf(carried, watcher = false) {
   if (!carried || carried.up) return null;
   const why = carried.fault ? `: ${carried.fault}` : "";
-  return `The broker at ${carried.broker} isn’t reached${why}. You can draw all the same.`;
+  return `The broker at ${carried.broker} isn’t reached${why}. ${watcher ? "What is drawn now comes later." : "You can draw all the same."}`;
 }
 
 /**
@@ -67,9 +68,9 @@ export class Inviting {
 
   /** Shows the button where somebody can be invited, and says where the broker isn't reached. */
   update() {
-    const { carried } = this.ed.node;
-    this.button.hidden = !carried?.invites && !this.made;
-    const fault = faultOf(carried);
+    const { carried, watcher } = this.ed.node;
+    this.button.hidden = !carried?.invites && !carried?.watches && !this.made;
+    const fault = faultOf(carried, watcher);
     if (fault === this.fault) return;
     this.fault = fault;
     this.banner?.remove();
@@ -87,14 +88,47 @@ export class Inviting {
   fill(...parts) {
     const left = this.ed.node.carried?.invites ?? 0;
     const rest = h("p", { class: "fine" }, `${count(left, "seat is", "seats are")} free.`);
-    this.pop.replaceChildren(h("div", {}, h("h2", {}, "Invite one person"), parts, rest));
+    const watch = h("button", { type: "button", class: "quiet watch", onclick: () => this.letWatch(watch) }, "A link to look on");
+    this.pop.replaceChildren(h("div", {}, h("h2", {}, "Invite one person"), parts, rest, this.ed.node.carried?.watches ? watch : null));
     this.pop.hidden = false;
   }
 
   offer() {
     const make = h("button", { type: "button", class: "primary", onclick: () => this.make(make) }, "Make a link");
-    this.fill(h("p", { class: "fine" }, "A link gives one seat of this session to one person, for good."), make);
-    make.focus();
+    const isLeft = Boolean(this.ed.node.carried?.invites);
+    this.fill(h("p", { class: "fine" }, "A link gives one seat of this session to one person, for good."), isLeft ? make : null);
+    if (isLeft) make.focus();
+  }
+
+  /**
+   * Has the link made for those who only look on, and shows it.
+   * @param {HTMLButtonElement} pressed
+   */
+  async letWatch(pressed) {
+    pressed.disabled = true;
+    try {
+      const { link, code } = await this.ed.node.letWatch();
+      const note = h("p", { class: "fine", role: "status" },
+        `For all who only look on: they see the drawing and draw nothing. It is used by ${CALLED} --watch LINK, and can’t be taken back.`);
+      this.pop.replaceChildren(h("div", {}, h("h2", {}, "A link to look on"), this.parts(link, code, note)));
+    } catch (why) {
+      this.close();
+      this.ed.refuse([{ why: /** @type {Error} */ (why).message }]);
+    }
+  }
+
+  /**
+   * A link as a text with a button that copies it, as a code, and what is said of it.
+   * @param {string} link
+   * @param {string[] | null} code
+   * @param {HTMLElement} note
+   * @returns {Child[]}
+   */
+  parts(link, code, note) {
+    const field = h("input", { class: "field", readonly: true, "aria-label": "The link", spellcheck: "false" });
+    field.value = link;
+    const copy = h("button", { type: "button", class: "primary", onclick: () => this.copy(link, field, note) }, "Copy the link");
+    return [field, copy, code && pictureOf(code), note];
   }
 
   /**
@@ -114,13 +148,11 @@ export class Inviting {
 
   /** @param {{link: string, code: string[] | null}} made */
   show({ link, code }) {
-    const field = h("input", { class: "field", readonly: true, "aria-label": "The link", spellcheck: "false" });
-    field.value = link;
     const note = h("p", { class: "fine", role: "status" },
-      "For one person, once. Who has it can draw, so hand it over in a way that nobody else reads. It is used by ./draw --join LINK --journal FILE.");
-    const copy = h("button", { type: "button", class: "primary", onclick: () => this.copy(link, field, note) }, "Copy the link");
+      `For one person, once. Who has it can draw, so hand it over in a way that nobody else reads. It is used by ${CALLED} --join LINK --journal FILE.`);
     const another = h("button", { type: "button", class: "quiet", onclick: () => this.make(another) }, "Make another link");
-    this.fill(field, copy, code && pictureOf(code), note, this.ed.node.carried?.invites ? another : null);
+    this.fill(...this.parts(link, code, note), this.ed.node.carried?.invites ? another : null);
+    const field = /** @type {HTMLInputElement} */ (this.pop.querySelector(".field"));
     field.focus();
     field.select();
   }

@@ -27,8 +27,6 @@ import { makeTheme } from "./theme.js";
 import { makeTools } from "./tools.js";
 import { makeView } from "./view.js";
 
-/** @typedef {import("../core/types.js").Ed} Ed */
-
 /** @param {string} id */
 const find = (id) => /** @type {HTMLElement} */ (document.getElementById(id));
 

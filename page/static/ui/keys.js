@@ -4,8 +4,6 @@ import { COMMANDS, run } from "./commands.js";
 import { makeHere } from "./tools.js";
 import { count } from "./words.js";
 
-/** @typedef {import("../core/types.js").Ed} Ed */
-
 const LATIN = /^[a-z]$/i;
 const FIELDS = "input:not([type=range]), textarea, [contenteditable], select, dialog";
 const PRESSED = "button, a, [role=option], [role=treeitem], [role=menuitem]";

@@ -5,7 +5,6 @@ import { personColour } from "../board/colours.js";
 import { h } from "./h.js";
 import { isRepaired } from "./deeds.js";
 
-/** @typedef {import("../core/types.js").Ed} Ed */
 /** @typedef {import("../core/types.js").Event} Event */
 
 const SIDE = 8;

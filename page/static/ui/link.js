@@ -2,7 +2,6 @@
 
 import { h } from "./h.js";
 
-/** @typedef {import("../core/types.js").Ed} Ed */
 /** @typedef {import("../core/types.js").LinkSettings} LinkSettings */
 
 const SLIDERS = /** @type {const} */ ([

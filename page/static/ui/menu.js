@@ -4,8 +4,6 @@ import { commandOf, run } from "./commands.js";
 import { h, keyText } from "./h.js";
 import { icon } from "./icons.js";
 
-/** @typedef {import("../core/types.js").Ed} Ed */
-
 const MARGIN = 8;
 /** For so many milliseconds behind the finger that opened a menu by a long press nothing is chosen by it. */
 const DEAF_BEHIND = 100;
@@ -26,11 +24,16 @@ export class Menu {
     /** @type {HTMLElement | null} */
     this.opener = null;
     this.isDeaf = false;
+    /** The place of the board where it was opened, where there is one. @type {Place | null} */
+    this.place = null;
     document.body.append(this.el);
     document.addEventListener("pointerdown", (event) => this.closeUnlessIn(/** @type {Node} */ (event.target)));
     this.el.addEventListener("keydown", (event) => this.key(event));
     ed.closePopups = () => this.close();
-    ed.openMenu = (x, y) => this.open(x, y, ed.selection.ids.size ? ON_SELECTION : ON_PAPER);
+    ed.openMenu = (x, y, place = null) => {
+      this.open(x, y, ed.selection.ids.size ? ON_SELECTION : ON_PAPER);
+      this.place = place;
+    };
   }
 
   get isOpen() {
@@ -67,6 +70,7 @@ export class Menu {
   open(x, y, parts, opener = null, note = "") {
     const { ed } = this;
     this.opener = opener;
+    this.place = null;
     this.el.replaceChildren(...(note ? [h("p", { class: "fine", role: "presentation" }, note)] : []));
     for (const ids of parts) {
       const rows = ids.map(commandOf).filter((command) => opener || command.when(ed));
@@ -97,6 +101,8 @@ export class Menu {
       if (this.isDeaf) return;
       this.close();
       ed.focusBoard();
+      // What is pasted from the menu comes where that was opened.
+      if (this.place) ed.pointer = this.place;
       run(ed, command.id);
     };
     const props = { type: "button", role: "menuitem", tabIndex: -1, disabled: !command.when(ed), onclick: act };

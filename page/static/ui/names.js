@@ -2,9 +2,6 @@
 
 import { count, oneLine } from "./words.js";
 
-/** @typedef {import("../core/types.js").Ed} Ed */
-/** @typedef {import("../core/types.js").Item} Item */
-
 const KINDS = /** @type {Record<string, string>} */ ({
   rect: "Rectangle", ellipse: "Ellipse", line: "Line", text: "Text", group: "Group",
 });

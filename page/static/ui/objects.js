@@ -6,8 +6,6 @@ import { button, h } from "./h.js";
 import { icon } from "./icons.js";
 import { count, oneLine } from "./words.js";
 
-/** @typedef {import("../core/types.js").Ed} Ed */
-/** @typedef {import("../core/types.js").Item} Item */
 /** @typedef {{item: Item, level: number, size: number, place: number}} Row */
 
 /** How many rows are in the document, and how near the end of these the chosen one may come. */

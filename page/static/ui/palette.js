@@ -5,7 +5,6 @@ import { h, keyText } from "./h.js";
 import { icon } from "./icons.js";
 import { oneLine } from "./words.js";
 
-/** @typedef {import("../core/types.js").Ed} Ed */
 /** @typedef {{title: string, hint: string, icon: string, key?: string, isOff?: boolean, run: () => void}} Found */
 
 const MOST = 60;

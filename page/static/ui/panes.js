@@ -1,5 +1,6 @@
 // The page of a demonstration: a pane for each site, with a page of its own, and the controls of the link between them.
 
+import { CALLED } from "../core/called.js";
 import { Wire } from "../core/wire.js";
 import { h } from "./h.js";
 import { cutSwitch, linkControls } from "./link.js";
@@ -16,7 +17,7 @@ const switches = new Map();
 /** @type {LinkSettings} */
 let link = { loss: 0, twice: 0, delay: 0, cut: [] };
 
-const LOST = "No connection to ./draw. If it has ended, start it again and open the address that it prints.";
+const LOST = `No connection to ${CALLED}. If it has ended, start it again and open the address that it prints.`;
 
 const wire = new Wire("socket", { hear });
 const controls = linkControls((settings) => send(settings));

@@ -8,8 +8,6 @@ import { numberText, PdfFile, textObject } from "./pdf_file.js";
 import { encoded, fontObject } from "./pdf_text.js";
 import { pictureBox } from "./svg.js";
 
-/** @typedef {import("../core/types.js").Item} Item */
-/** @typedef {import("../core/types.js").Box} Box */
 /** @typedef {{out: string[], file: PdfFile, pictures: string[]}} Sheet */
 
 const POINTS = 0.75;

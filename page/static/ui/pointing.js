@@ -3,8 +3,6 @@
 import { personColour } from "../board/colours.js";
 import { h } from "./h.js";
 
-/** @typedef {import("../core/types.js").Ed} Ed */
-
 /** In milliseconds: how often is told where this one points, at most. */
 const EACH = 50;
 const MOST_IDS = 64;

@@ -3,9 +3,7 @@
 import { copyLines } from "../board/making.js";
 import { count } from "./words.js";
 
-/** @typedef {import("../core/types.js").Ed} Ed */
 /** @typedef {import("../core/types.js").Event} Event */
-/** @typedef {import("../core/types.js").Plain} Plain */
 
 /**
  * These objects and all that is in them, in their order.

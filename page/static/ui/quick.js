@@ -4,8 +4,6 @@ import { commandButton } from "./aid.js";
 import { commandOf } from "./commands.js";
 import { button, roving } from "./h.js";
 
-/** @typedef {import("../core/types.js").Ed} Ed */
-
 const WIDEST = 900;
 const ACTS = ["duplicate", "front", "group", "ungroup", "delete"];
 const GAP = { side: 8, above: 68, below: 16 };

@@ -2,8 +2,6 @@
 
 import { isLabel } from "../core/lines.js";
 
-/** @typedef {import("../core/types.js").Plain} Plain */
-
 const SHAPES = new Set(["rect", "ellipse", "line", "text"]);
 const COLOUR = /^[0-9A-F]{6}$/;
 

@@ -8,7 +8,6 @@ import { labelOf } from "./editor.js";
 import { labelsOf } from "./splitting.js";
 import { asHex, chain, IDENTITY, moved, parseTransform } from "./svg_values.js";
 
-/** @typedef {import("../core/types.js").Plain} Plain */
 /** @typedef {import("./svg_values.js").Transform} Transform */
 /** @typedef {{stroke: string | null, fill: string | null, width: number, font: number, anchor: string}} Look */
 

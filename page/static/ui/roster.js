@@ -2,10 +2,9 @@
 
 import { personColour } from "../board/colours.js";
 import { h } from "./h.js";
-import { seatWords, whatToCheck } from "./seating.js";
+import { seatWords, watchedWords, whatToCheck } from "./seating.js";
 import { count, initialOf } from "./words.js";
 
-/** @typedef {import("../core/types.js").Ed} Ed */
 /** @typedef {import("../core/types.js").Seat} Seat */
 
 /** As many bytes as a name has at most. */
@@ -123,7 +122,9 @@ export class Roster {
   /** Fills the list, where it isn't filled with just that: who presses one of its buttons has to meet it again. */
   fill() {
     const { seats } = this.ed.people;
-    const words = `${this.ed.standing.inWords()} ${whatToCheck(this.ed.node.carried)}`.trim();
+    const { carried, watcher, isOpenly } = this.ed.node;
+    const more = watcher ? [] : [whatToCheck(carried), watchedWords(carried), isOpenly ? "The page isn’t encrypted." : ""];
+    const words = [this.ed.standing.inWords(), ...more].filter(Boolean).join(" ");
     const looks = seats.map((seat) => [this.shown, this.looksAt(seat) ?? "", this.stateWords(seat)]);
     const key = JSON.stringify([words, looks]);
     if (key === this.listed) return;

@@ -1,5 +1,6 @@
 // What is known of the seats of a session over a broker, in words.
 
+import { CALLED } from "../core/called.js";
 import { count } from "./words.js";
 
 /** @typedef {import("../core/types.js").Carried} Carried */
@@ -30,6 +31,12 @@ export function seatWords(carried, site) {
 }
 
 /**
+ * What the members are told where others may look on.
+ * @param {Carried | null} carried
+ */
+export const watchedWords = (carried) => (carried?.watched ? "Others may look on: the founder made a link for that." : "");
+
+/**
  * What to check where nobody else is heard, or nothing.
  * @param {Carried | null} carried
  */
@@ -37,5 +44,5 @@ export function whatToCheck(carried) {
   if (!carried || carried.seats.some((seat) => seat.here)) return "";
   if (!carried.up) return `Is the broker at ${carried.broker} running, and does this machine reach it?`;
   if (!carried.seats.length) return "Nobody else has a seat yet: invite somebody.";
-  return "The broker is reached, and nobody else is connected to it. Does ./draw run at the others?";
+  return `The broker is reached, and nobody else is connected to it. Does ${CALLED} run at the others?`;
 }

@@ -1,15 +1,15 @@
 // Where the node stands, in words: in the island of the file always, and in a banner where someone has to know it.
 
+import { CALLED } from "../core/called.js";
 import { count } from "./words.js";
 
-/** @typedef {import("../core/types.js").Ed} Ed */
 /** @typedef {import("./file.js").FileIsland} FileIsland */
 
 /**
  * What is known of the node and its peers.
  * @typedef {object} Facts
  * @property {boolean} connected whether the page is connected to the bridge
- * @property {"ended" | "replaced" | null} why why it isn't, where that is known
+ * @property {"ended" | "replaced" | "taken" | null} why why it isn't, where that is known
  * @property {import("../core/types.js").End | null} ended
  * @property {boolean} silent whether the node has answered nothing for a while
  * @property {boolean} quiet whether nothing came from others for a moment
@@ -17,20 +17,22 @@ import { count } from "./words.js";
  * @property {number} others how many other sites there are
  * @property {number} here how many of these are here
  * @property {boolean} wasHere whether one of these was here before
+ * @property {boolean} [watcher] whether this page only looks on
  */
 
 /**
  * A state of the node: its kind, how it is said in a few words, and the banner that says it where there is one.
  * @typedef {object} State
- * @property {"on" | "waits" | "quiet" | "alone" | "off" | "silent" | "ended" | "lost"} kind
+ * @property {"on" | "waits" | "quiet" | "alone" | "off" | "silent" | "ended" | "lost" | "watches"} kind
  * @property {string} words
  * @property {string | null} banner
  */
 
 const LOST = {
-  ended: "./draw has ended. Start it again, and open the address that it prints.",
-  replaced: "Another ./draw runs here now. Open the address that it printed.",
-  unknown: "No connection to ./draw. If it has ended, start it again and open the address that it prints.",
+  ended: `${CALLED} has ended. Start it again, and open the address that it prints.`,
+  replaced: `Another ${CALLED} runs here now. Open the address that it printed.`,
+  taken: "Somebody else has this seat open. A link is for one person at a time: it opens here once they are gone.",
+  unknown: `No connection to ${CALLED}. If it has ended, start it again and open the address that it prints.`,
 };
 
 /** @param {number} waiting */
@@ -41,10 +43,12 @@ const waits = (waiting) => `${count(waiting, "edit")} ${waiting === 1 ? "waits" 
  * @param {Facts} facts
  * @returns {State}
  */
-export function stateOf({ connected, why, ended, silent, quiet, waiting, others, here, wasHere }) {
+export function stateOf({ connected, why, ended, silent, quiet, waiting, others, here, wasHere, watcher }) {
   if (!connected) {
-    return { kind: "lost", words: "No connection", banner: `${LOST[why ?? "unknown"]} All accepted edits are in the journal.` };
+    const kept = watcher || why === "taken" ? "" : " All accepted edits are in the journal.";
+    return { kind: "lost", words: why === "taken" ? "Taken" : "No connection", banner: `${LOST[why ?? "unknown"]}${kept}` };
   }
+  if (watcher) return { kind: "watches", words: "You look on", banner: null };
   if (ended) {
     const meaning = ended.meaning ? `: ${ended.meaning}` : "";
     const banner = `The node has ended${meaning}. All accepted edits are in its journal.`;
@@ -64,12 +68,14 @@ export function stateOf({ connected, why, ended, silent, quiet, waiting, others,
   return { kind: "off", words: waiting ? `Offline, ${waits(waiting)}` : "Offline", banner };
 }
 
+const OPENLY = "This page isn’t encrypted: the network between here and the host can read along, and draw in your place.";
 /** In milliseconds. */
 const NEWS_EACH = 2000;
 const TONES = /** @type {const} */ ({ lost: "warn", ended: "warn", silent: "warn", off: "calm" });
 const WHY_NOT = /** @type {Record<string, string>} */ ({
-  lost: "there is no connection to ./draw",
+  lost: `there is no connection to ${CALLED}`,
   ended: "the node has ended, start it again",
+  watches: "this page only looks on",
 });
 
 /** Shows the state, and whether one can draw. `update` is called when anything of it has changed. */
@@ -115,6 +121,13 @@ export class StandingIsland {
     ed.roster.update();
     this.link.update();
     ed.history.arrivals.standing(next.kind);
+  }
+
+  /** Says once that the network can read along, where it can. */
+  warn() {
+    if (!this.ed.node.isOpenly || this.told.has(OPENLY)) return;
+    this.told.add(OPENLY);
+    this.ed.banner({ text: OPENLY, tone: "warn" });
   }
 
   show() {
@@ -190,10 +203,10 @@ export const nameOf = (journal) => (journal.split("/").at(-1) ?? "").replace(/\.
  * @returns {Facts}
  */
 function factsOf({ node }) {
-  const { connected, why, ended, silent, quiet, waiting, peers, link, site } = node;
+  const { connected, why, ended, silent, quiet, waiting, peers, link, site, watcher } = node;
   // In a demonstration it is known at once who is cut off.
   const cut = new Set(link?.cut);
   const here = cut.has(site) ? 0 : peers.filter((peer) => !peer.away && !cut.has(peer.site)).length;
   const wasHere = peers.some((peer) => peer.heard !== null);
-  return { connected, why, ended, silent, quiet, waiting, others: peers.length, here, wasHere };
+  return { connected, why, ended, silent, quiet, waiting, others: peers.length, here, wasHere, watcher };
 }

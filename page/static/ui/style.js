@@ -9,8 +9,6 @@ import { icon } from "./icons.js";
 import { Recent } from "./recent.js";
 import { count } from "./words.js";
 
-/** @typedef {import("../core/types.js").Ed} Ed */
-/** @typedef {import("../core/types.js").Item} Item */
 /** @typedef {"stroke" | "fill" | "width"} Part */
 /** @typedef {string | number | null} Value */
 /**

@@ -5,9 +5,6 @@ import { inkOn, shownColour } from "../board/colours.js";
 import { radiusOf, textBox } from "../board/paint.js";
 import { FAMILY, LEADING } from "../board/text.js";
 
-/** @typedef {import("../core/types.js").Item} Item */
-/** @typedef {import("../core/types.js").Box} Box */
-
 const SPACE = "http://www.w3.org/2000/svg";
 const MARGIN = 16;
 /** Readers of XML take 256 levels; groups that are deeper stand in the one at this level. */

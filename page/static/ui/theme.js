@@ -1,7 +1,5 @@
 // Light and dark: as the system says, until one is chosen here. The choice is kept by the browser.
 
-/** @typedef {import("../core/types.js").Ed} Ed */
-
 const KEY = "groupdesign.theme";
 const system = matchMedia("(prefers-color-scheme: dark)");
 

@@ -3,8 +3,8 @@
 import { createLines } from "../board/edits.js";
 import { COMMANDS } from "./commands.js";
 import { button, h, roving } from "./h.js";
+import { Sheet } from "./sheet.js";
 
-/** @typedef {import("../core/types.js").Ed} Ed */
 /** @typedef {import("../core/types.js").Tool} Tool */
 /** @typedef {import("../core/types.js").Style} Style */
 
@@ -20,7 +20,8 @@ const NAMES = /** @type {Record<string, string>} */ ({ rect: "rectangle", ellips
 export function makeTools(ed, bar) {
   const tools = COMMANDS.filter((command) => command.tool);
   const buttons = new Map(tools.map((command) => [command.id, toolButton(ed, command)]));
-  const style = button("style", "Style", () => ed.sheet(document.body.dataset.sheet !== "1"), { class: "slim" });
+  const style = button("style", "Style", () => sheet.turn(!sheet.isOpen), { class: "slim" });
+  const sheet = new Sheet(ed, style);
   for (const [id, made] of buttons) {
     bar.append(made);
     if (id === "hand") bar.append(h("span", { class: "rule", role: "separator" }));
@@ -45,12 +46,11 @@ export function makeTools(ed, bar) {
     ed.touch("overlay");
   };
   ed.styleFor = (kind) => styleFor(ed, kind);
-  ed.sheet = (on) => sheet(ed, on);
+  ed.sheet = (on) => sheet.turn(on);
   return {
     update: () => {
       for (const command of tools) /** @type {HTMLElement} */ (buttons.get(command.id)).ariaDisabled = String(!command.when(ed));
-      if (!ed.selection.ids.size && !MAKING.has(ed.tool)) document.body.dataset.sheet = "";
-      style.setAttribute("aria-pressed", String(document.body.dataset.sheet === "1"));
+      sheet.update();
     },
   };
 }
@@ -113,19 +113,4 @@ export function makeHere(ed) {
   const shape = { ...ed.styleFor(kind), kind, x: x - w / 2, y: y - h / 2, w, h, label: "" };
   ed.edits.do(`Made ${tool === "ellipse" ? "an" : "a"} ${NAMES[tool]}`, createLines(1, shape), (ids) => [ids[0]]);
   return true;
-}
-
-/**
- * Opens or closes the panel of styles where it is a sheet.
- * @param {Ed} ed
- * @param {boolean} on
- */
-function sheet(ed, on) {
-  const isUseful = MAKING.has(ed.tool) || ed.selection.ids.size > 0;
-  document.body.dataset.sheet = on && isUseful ? "1" : "";
-  ed.rested();
-  if (on && !isUseful) ed.banner({ text: "Choose a shape, or a tool that makes one", lasts: 3000 });
-  // Who presses keys goes on in the sheet.
-  if (on && isUseful && document.body.dataset.keys === "1") ed.stylePanel.focus();
-  if (!on) ed.focusBoard();
 }

@@ -4,9 +4,6 @@ import { count } from "./words.js";
 import { around } from "../board/boxes.js";
 import { LEAST } from "../board/camera.js";
 
-/** @typedef {import("../core/types.js").Ed} Ed */
-/** @typedef {import("../core/types.js").Item} Item */
-
 const SLIM = 720;
 const MEDIUM = 900;
 const CARD = 118;
@@ -38,9 +35,12 @@ export function makeView(ed) {
 function padOf(ed) {
   const { dataset } = document.body;
   const isSlim = innerWidth < SLIM;
-  const panel = innerWidth > MEDIUM && dataset.styled === "1" ? 232 : 24;
+  const isSheet = innerWidth <= MEDIUM && dataset.sheet === "1";
+  const { offsetWidth, offsetHeight } = ed.stylePanel.host;
+  const panel = innerWidth > MEDIUM && dataset.styled === "1" ? 232 : isSheet && !isSlim ? offsetWidth + 24 : 24;
   const drawer = dataset.drawer === "1" && !isSlim ? 276 : 24;
-  return [isSlim ? 76 : 84, panel, (isSlim ? 132 : 92) + (ed.history.at !== null ? CARD : 0), drawer];
+  const bottom = isSlim && isSheet ? offsetHeight + 16 : (isSlim ? 132 : 92) + (ed.history.at !== null ? CARD : 0);
+  return [isSlim ? 76 : 84, panel, bottom, drawer];
 }
 
 /**

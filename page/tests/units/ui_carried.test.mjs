@@ -5,7 +5,7 @@ import "./ui_stub.mjs";
 import { test } from "node:test";
 
 const { People } = await import("../../static/core/people.js");
-const { ago, seatWords, whatToCheck } = await import("../../static/ui/seating.js");
+const { ago, seatWords, watchedWords, whatToCheck } = await import("../../static/ui/seating.js");
 const { faultOf } = await import("../../static/ui/inviting.js");
 
 /** A node of site 2 of 16, of which nothing is known but these. */
@@ -43,6 +43,12 @@ test("a broker that isn't reached is said, with the reason where one is known", 
   assert.equal(faultOf(carried), null);
   assert.match(String(faultOf({ ...carried, up: false })), /^The broker at h:1 isn’t reached\. You can/);
   assert.match(String(faultOf({ ...carried, up: false, fault: "it has expired" })), /isn’t reached: it has expired\. You can/);
+  assert.match(String(faultOf({ ...carried, up: false }, true)), /^The broker at h:1 isn’t reached\. What is drawn now comes/);
+});
+
+test("members are told where others may look on", () => {
+  assert.deepEqual([null, { ...carried, watched: false }].map(watchedWords), ["", ""]);
+  assert.match(watchedWords({ ...carried, watched: true }), /may look on/);
 });
 
 test("what is said of a seat, and what to check where nobody is heard", () => {

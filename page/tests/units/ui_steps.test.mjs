@@ -44,3 +44,21 @@ test("what the deletes of a step took away, with all that was in it, as it was b
   assert.deepEqual(asked, [17]);
   assert.deepEqual(takenBy(ed, [step[1]], 20), []);
 });
+
+test("a page that lost its connection knows the gestures with the first word of the bridge", async () => {
+  await import("./ui_stub.mjs");
+  globalThis.location = { href: "http://127.0.0.1:1/token/" };
+  const { Node } = await import("../../static/core/node.js");
+  const node = new Node(1);
+  const hello = { is: "hello", desk: 1, site: 1, sites: 2, session: 7, demo: false, journal: "a.log", desks: [1], names: {} };
+  const made = [1, 2, 3].map((clock) => ({ id: `${clock}.1`, clock, site: 1, op: "create", kind: "rect", x: 0, y: 0, w: 1, h: 1, label: "", seen: null }));
+  node.take({ ...hello, gestures: [] });
+  node.take({ is: "gestures", desk: 1, gestures: [[1, 3]] });
+  node.take({ is: "history", desk: 1, from: 0, events: made });
+  assert.deepEqual([stepFrom(node, 3, -1), stepFrom(node, 0, 1)], [0, 3]);
+  // What else the bridge tells a page that comes again may take long.
+  node.hear("lost", null);
+  node.hear("open", null);
+  node.take({ ...hello, gestures: [[1, 3]] });
+  assert.deepEqual([stepFrom(node, 3, -1), stepFrom(node, 0, 1)], [0, 3]);
+});

@@ -58,6 +58,8 @@ test("where the node stands, in words", () => {
     [{ here: 0, wasHere: false }, "alone", "Nobody else is here", null],
   ];
   for (const [other, kind, words, banner] of rows) assert.deepEqual(stateOf({ ...fine, ...other }), { kind, words, banner });
+  assert.equal(stateOf({ ...fine, others: 0, here: 0, watcher: true }).kind, "watches");
+  assert.doesNotMatch(String(stateOf({ ...fine, connected: false, watcher: true }).banner), /journal/);
   const lost = stateOf({ ...fine, connected: false, ended: { status: 5, meaning: "its journal failed", said: "" } });
   assert.equal(lost.kind, "lost");
   const whys = { ended: /^.\/draw has ended/, replaced: /^Another .\/draw/ };

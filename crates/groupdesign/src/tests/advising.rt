@@ -26,19 +26,52 @@ const NODE: [&str; 9] = [
 
 #[test]
 fn help_and_version_are_no_runs(rt: HostRuntime) -> Result<(), Fail> {
-    let rows: [(&[&str], Option<Question>); 8] = [
+    let rows: [(&[&str], Option<Question>); 19] = [
         (&["--help"], Some(Question::Help(Topic::Program))),
+        (&["-h"], Some(Question::Help(Topic::Program))),
         (&["help"], Some(Question::Help(Topic::Program))),
         (&["node", "-h"], Some(Question::Help(Topic::Node))),
         (&["help", "board"], Some(Question::Help(Topic::Board))),
+        (&["--help", "view"], Some(Question::Help(Topic::View))),
         (&["-V"], Some(Question::Version)),
+        (
+            &["replay", "--counts", "--help"],
+            Some(Question::Help(Topic::Replay)),
+        ),
+        (
+            &["replay", "--paint", "-h", "x"],
+            Some(Question::Help(Topic::Replay)),
+        ),
+        (
+            &["node", "--journal", "--help"],
+            Some(Question::Help(Topic::Node)),
+        ),
+        (&["churn", "--", "--help"], None),
+        (
+            &[
+                "node",
+                "--session",
+                "7",
+                "--site",
+                "1",
+                "--journal",
+                "j",
+                "--",
+                "-h",
+            ],
+            None,
+        ),
         (&["nod", "--help"], None),
-        (&["replay", "--counts", "--help"], None),
+        (&["help", "paint"], None),
+        (&["help", "view", "board"], None),
+        (&["--version", "view"], None),
+        (&["replay"], None),
+        (&["replay", "--counts"], None),
         (&[], None),
     ];
     for (texts, wanted) in rows {
         let words = words_of(rt.alloc(), texts)?;
-        assert_eq!(rt; question_of(words.as_slice()), wanted, "{texts:?}");
+        assert_eq!(rt; question_of(rt.alloc(), &words), wanted, "{texts:?}");
     }
     Ok(())
 }
@@ -95,9 +128,21 @@ fn an_end_is_explained(rt: HostRuntime) -> Result<(), Fail> {
 }
 
 #[test]
-fn a_near_word_is_a_hint(rt: HostRuntime) -> Result<(), Fail> {
-    let words = words_of(rt.alloc(), &["relpay"])?;
-    let text = advice_on_words(rt.alloc(), words.as_slice())?;
-    assert!(rt; text.as_str().contains("is replay meant?"), "{text}");
+fn words_that_ask_for_no_command_are_explained(rt: HostRuntime) -> Result<(), Fail> {
+    let rows: [(&[&str], &str); 8] = [
+        (&[], "a command is missing"),
+        (&["help", "a", "b"], "there is no command a"),
+        (&["relpay"], "is replay meant?"),
+        (&["darw"], "is draw meant?"),
+        (&["draw", "--demo", "2"], "a checkout as ./draw"),
+        (&["paint"], "there is no command paint: groupdesign --help"),
+        (&["view", "x"], "groupdesign view --help"),
+        (&["help", "view", "x"], "groupdesign view --help"),
+    ];
+    for (texts, wanted) in rows {
+        let words = words_of(rt.alloc(), texts)?;
+        let text = advice_on_words(rt.alloc(), words.as_slice())?;
+        assert!(rt; text.as_str().contains(wanted), "{text}");
+    }
     Ok(())
 }

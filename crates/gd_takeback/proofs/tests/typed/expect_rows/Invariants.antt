@@ -1,5 +1,0 @@
-use Rattle.gd_takeback.proofs.tests.typed.expect_rows.Given as goal
-
--- the ledger is that of the blank
-abbrev pub ghosts-expect_counted : goal.ghosts-expect_counted
-ghosts-expect_counted g a = record { name = a.blank.name; parts = a.blank.parts }

@@ -1,4 +1,0 @@
-use Rattle.gd_watch.proofs.tests.snapshots.ran.Given as goal
-
-abbrev pub ghosts-with_ledger : goal.ghosts-with_ledger
-ghosts-with_ledger a = record { name = a.blank.name; parts = a.blank.parts }

@@ -1,0 +1,202 @@
+"""What one site answers and sends: dialogues, frames that come to it, its limits, its notes, and what it goes on with."""
+
+from tests.nodes import answered, started
+from tests.program import DONE, Case
+from tests.spelled import GREATEST_CLOCK, changed, frame, log, square
+from tests.tables import dialogues
+from tests.test_rehearsals import rehearse
+from tests.worked import FRAME, RECT
+
+MOST = 65_535
+SQUARE = square((1, 2), 1)
+SECOND, THIRD, FOURTH = (((clock, 2), clock, ("move", (1, 2), clock - 1, clock - 1)) for clock in (2, 3, 4))
+
+# The frames of site 2 that have come to site 1, what is typed then, and what is printed.
+FRAMES = [
+    (
+        [FRAME] * 3,
+        "poll\nstatus\n",
+        "echo 1.2 applied\npolled 3\nheld 1 kept 0 line 1 clock 1\n",
+    ),
+    (
+        [frame([SQUARE]), frame([THIRD, FOURTH]), frame([SECOND, THIRD, FOURTH])],
+        "poll\nstatus\nshow\n",
+        "echo 1.2 applied\necho 2.2 applied\necho 3.2 applied\necho 4.2 applied\npolled 3\n"
+        f"held 4 kept 0 line 4 clock 4\n{RECT.format('1.2', '3 3')}end 1\n",
+    ),
+    # The first frame promises that nothing up to clock 8 is to come.
+    (
+        [frame([SQUARE, SECOND], clock=8), frame([((9, 2), 3, ("raise", (1, 2)))])],
+        "poll\nstatus\n",
+        "echo 1.2 applied\necho 2.2 applied\necho 9.2 applied\npolled 2\nheld 3 kept 0 line 9 clock 9\n",
+    ),
+    # No edit follows the greatest clock.
+    (
+        [frame([square((GREATEST_CLOCK, 2), 1)])],
+        "poll\ncreate rect 0 0 1 1\nraise 9.1\nraise 9.17\nstatus\n",
+        "echo 281474976710655.2 applied\npolled 1\nrefused: ClockEnd\nrefused: ClockEnd\nrefused: BadId\n"
+        "held 1 kept 0 line 281474976710655 clock 281474976710655\n",
+    ),
+    # The last edit has it.
+    (
+        [frame([square((GREATEST_CLOCK - 1, 2), 1)])],
+        "poll\nraise 281474976710654.2\ncreate rect 0 0 1 1\nstatus\n",
+        "echo 281474976710654.2 applied\npolled 1\nok 281474976710655.1\nrefused: ClockEnd\n"
+        "held 2 kept 1 line 281474976710654 clock 281474976710655\n",
+    ),
+]
+
+# Bytes of the worked frame that are changed, and the first fault that it has then: the session, the site that it is for, the
+# sender and the site of its event, and what it acknowledges.
+FAULTS = [
+    ([(8, 8)], "Session"),
+    ([(8, 8), (10, 2), (12, 1)], "Session"),
+    ([(10, 2), (12, 1)], "NotForMe"),
+    ([(9, 1), (38, 1), (12, 1)], "FromMe"),
+    ([(9, 3), (38, 3), (12, 1)], "NoSuchSite"),
+    ([(12, 1)], "OverAck 1 0"),
+]
+
+# A note's number, its name and the clock of its focus at site 1, which come in this order; and what is kept then.
+NOTES = [
+    ((0, "Zoe", 9), None),
+    ((1, "Ada", 0), ("Ada", 0)),
+    ((1, "Bob", 3), ("Ada", 0)),
+    ((2, "Ada", 1), ("Ada", 1)),
+    ((1, "Ada", 0), ("Ada", 1)),
+    ((2, "", 0), ("Ada", 1)),
+    ((7, "", 0), ("", 0)),
+    ((65_535, "Eve", 2), ("Eve", 2)),
+    ((65_535, "Ada", 1), ("Eve", 2)),
+]
+
+
+def who(site, name, clock):
+    return f"who {site} {name or '-'} focus {f'{clock}.1' if clock else '-'}"
+
+
+def noted(site, number, name, clock):
+    """A frame of that site with a note, and nothing else."""
+    return frame(sender=site, note=number, name=name.encode(), focus=(clock, 1) if clock else (0, 0))
+
+
+class Sites(Case):
+    def test_dialogues(self):
+        self.expect_all([
+            (rehearse(sites), typed.encode(), DONE, printed) for _, sites, typed, printed in dialogues("sites.txt")
+        ])
+
+    def expect_node(self, seat, datagrams, typed, printed):
+        node = answered(seat, typed, datagrams)
+        self.assertEqual((node.text, node.status), (f"ready {seat[0]} of {seat[1]}\n{printed}", DONE), typed)
+        return node
+
+    def test_frames_of_another_site(self):
+        for datagrams, typed, printed in FRAMES:
+            self.expect_node((1, 2), datagrams, typed, printed)
+
+    def test_the_first_fault_of_a_frame_is_given(self):
+        datagrams = [changed(FRAME, changes) for changes, _ in FAULTS]
+        refused = "".join(f"frame refused: {why}\n" for _, why in FAULTS)
+        self.expect_node((1, 2), datagrams, "poll\nstatus\n", f"{refused}polled 6\nheld 0 kept 0 line 0 clock 0\n")
+
+    # The own place of a moved member is less by its group's, and the members of a group rise.
+    def test_an_edit_is_journalled_as_it_was_judged(self):
+        typed = ["create rect 5 6 20 10"] * 2 + ["group 2.1 1.1", "move 3.1 10 20", "create rect 5 6 20 10"]
+        typed += ["move 1.1 12 23", "group 5.1 3.1"]
+        shape = ("create", "rect", 5, 6, 20, 10, "")
+        ops = [shape, shape, ("group", ((1, 1), 0, 0), ((2, 1), 0, 0)), ("move", (3, 1), 10, 20), shape]
+        ops += [("move", (1, 1), 2, 3), ("group", ((3, 1), 0, 0), ((5, 1), 0, 0))]
+        answers = "".join(f"ok {clock}.1\n" for clock in range(1, 8))
+        node = self.expect_node((1, 1), [], "".join(f"{line}\n" for line in typed), answers)
+        self.assertEqual(node.journal, log([((at, 1), at, op) for at, op in enumerate(ops, 1)], sites=1))
+
+
+class Limits(Case):
+    def expect_lines(self, sites, rows):
+        """What site 1 of so many answers to each line."""
+        typed = "".join(f"at 1 {line}\n" for line, _ in rows)
+        self.expect(rehearse(sites), typed.encode(), DONE, "".join(f"{answer}\n" for _, answer in rows))
+
+    def test_a_session_is_full(self):
+        rows = [("create rect 0 0 10 10", "ok 1.1")]
+        rows += [("move 1.1 5 5", f"ok {clock}.1") for clock in range(2, MOST + 1)]
+        rows += [(line, "refused: SessionFull") for line in ("raise 1.1", "raise 9.1", "undo")]
+        self.expect_lines(1, [*rows, ("status", "held 65535 kept 0 line 65535 clock 65535")])
+
+    def test_notes_end(self):
+        rows = [("name Ada", f"noted {number}") for number in range(1, MOST + 1)]
+        rows += [("name Bob", "refused: NoteEnd"), ("focus -", "refused: NoteEnd"), ("focus x", "refused: BadId")]
+        self.expect_lines(2, [*rows, ("who", "who 1 Ada focus -\nend 1"), ("create rect 0 0 1 1", "ok 1.1")])
+
+    # Of 33 edits the first one stays.
+    def test_the_last_32_edits_are_taken_back(self):
+        rows = [("create rect 0 0 10 10", "ok 1.1")]
+        rows += [(f"move 1.1 {place} 0", f"ok {place + 1}.1") for place in range(1, 33)]
+        for turn in range(1, 33):
+            rows += [("undo", f"ok {turn + 33}.1"), ("show", RECT.format("1.1", f"{32 - turn} 0") + "end 1")]
+        self.expect_lines(1, [*rows, ("undo", "refused: NothingBack")])
+
+
+class Notes(Case):
+    def test_the_first_of_the_greatest_number_is_kept(self):
+        with started((1, 2)) as (node, peers):
+            self.assertTrue(node.is_ready())
+            for put, kept in NOTES:
+                peers[2].send(node, noted(2, *put))
+                self.assertEqual(node.ask("poll"), ["polled 1"])
+                self.assertEqual(node.ask("who"), [who(2, *kept), "end 1"] if kept else ["end 0"], put)
+
+    def test_each_site_has_a_note_of_its_own(self):
+        with started((16, 16)) as (node, peers):
+            self.assertTrue(node.is_ready())
+            for site, peer in peers.items():
+                note = frame(sender=site, to=16, note=site + 1, name=b"Ada", focus=(site, 1))
+                peer.send(node, note)
+            self.assertEqual(node.ask("poll"), ["polled 15"])
+            self.assertEqual(node.ask("name Ada"), ["noted 1"])
+            self.assertEqual(node.ask("focus 16.1"), ["noted 2"])
+            self.assertEqual(node.ask("who"), [*(who(site, "Ada", site) for site in range(1, 17)), "end 16"])
+
+
+class Told(Case):
+    # A clock of a site counts once all of its events are here.
+    def test_the_line_is_the_least_clock(self):
+        gap, next, late = ((11, 1), 2, ("raise", (1, 2))), square((10, 1), 1), ((10, 1), 2, ("raise", (1, 2)))
+        rows = [
+            (1, frame(count=0, clock=9, sender=1, to=2), [], 0, "held 0 kept 0 line 0 clock 0"),
+            (1, frame(count=1, clock=20, sender=1, to=2), [], 4, "held 4 kept 4 line 0 clock 4"),
+            (3, frame(count=0, clock=12, sender=3, to=2), [], 0, "held 4 kept 0 line 4 clock 4"),
+            (3, frame(count=0, clock=12, sender=3, to=2), [], 6, "held 10 kept 1 line 9 clock 10"),
+            (1, frame([gap], sender=1, to=2), [], 0, "held 10 kept 1 line 9 clock 10"),
+            (1, frame([next], sender=1, to=2), ["echo 10.1 applied"], 0, "held 11 kept 0 line 10 clock 10"),
+            (1, frame([next], sender=1, to=2), [], 0, "held 11 kept 0 line 10 clock 10"),
+            (1, frame([late], sender=1, to=2), ["event 10.1 refused: Backdated 10 10"], 0, "held 11 kept 0 line 10 clock 10"),
+        ]
+        with started((2, 3)) as (node, peers):
+            self.assertTrue(node.is_ready())
+            clock = 0
+            for sender, datagram, echoes, edits, status in rows:
+                peers[sender].send(node, datagram)
+                self.assertEqual(node.ask("poll"), [*echoes, "polled 1"])
+                for clock in range(clock + 1, clock + 1 + edits):
+                    self.assertEqual(node.ask("create rect 0 0 10 10"), [f"ok {clock}.2"])
+                self.assertEqual(node.ask("status"), [status])
+
+    # Of its 12 events each other site gets the first eight that it hasn't got, whatever it said before.
+    def test_each_site_is_sent_what_it_lacks(self):
+        events = [square((clock, 1), clock) for clock in range(1, 13)]
+        rows = [(2, 2, 2), (2, 5, 5), (3, 1, 1), (2, 3, 5), (3, 9, 9), (2, 12, 12)]
+        with started((1, 3)) as (node, peers):
+            self.assertTrue(node.is_ready())
+            for clock in range(1, 13):
+                self.assertEqual(node.ask("create rect 0 0 10 10"), [f"ok {clock}.1"])
+            for site, said, known in rows:
+                node.ask("status")
+                peers[site].received()
+                peers[site].send(node, frame(sender=site, held=said))
+                self.assertEqual(node.ask("poll"), ["polled 1"])
+                told = frame(events[known : known + 8], sender=1, to=site, count=12, clock=12)
+                self.assertEqual(peers[site].received()[-1], told, (site, said))
+            peers[2].send(node, frame(held=13))
+            self.assertEqual(node.ask("poll"), ["frame refused: OverAck 13 12", "polled 1"])
