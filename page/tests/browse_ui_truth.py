@@ -7,7 +7,7 @@ import subprocess
 
 from selenium.webdriver.common.keys import Keys
 
-from page.tests.browser import WithTwoPages
+from page.tests.browser import UNHURRIED, WithTwoPages
 from page.tests.places import wait_for
 
 
@@ -280,6 +280,17 @@ class Truth(WithTwoPages):
         self.assertIn("Ada Byron", self.faces(page))
         wait_for(lambda: "Ada" in self.faces(self.two))
         self.wait_until_same()
+
+    def test_80_what_is_said_for_a_while_goes_by_itself(self):
+        page = self.one
+        told = """
+        ed.patience = 0.05;
+        ed.banner({ text: "For a while", lasts: 6000 });
+        ed.refuse([{ line: "clear", why: "NotVisible" }]);
+        return ["#banners", "#bubbles"].map((each) => document.querySelector(each).textContent !== "")"""
+        self.assertEqual(page.do(told), [True, True])
+        wait_for(lambda: page.banners() == page.bubble() == "")
+        page.do(UNHURRIED)
 
     def test_81_frames_of_another_session_are_said_once(self):
         page = self.one

@@ -35,8 +35,9 @@ FLAGS = """--headless=new --no-sandbox --disable-dev-shm-usage --window-size=144
 --disable-hang-monitor --disable-extensions --disable-sync --disable-background-networking --disable-component-update
 --disable-default-apps --no-first-run --disable-breakpad --disable-background-timer-throttling
 --disable-backgrounding-occluded-windows --disable-renderer-backgrounding""".split()
-# On a slow machine a finger may seem to rest where it only comes to its next place late, so that is no long press.
-UNHURRIED = "window.holdAfter ??= ed.gestures.holdAfter; ed.gestures.holdAfter = 3_600_000"
+# On a slow machine a finger may seem to rest where it only comes to its next place late, so that is no long press; and what
+# is said for a while may be read late.
+UNHURRIED = "window.holdAfter ??= ed.gestures.holdAfter; ed.gestures.holdAfter = 3_600_000; ed.patience = 300"
 # What the board shows of each object, from bottom to top, as `show` prints it.
 SHOWN = """
 return ed.model.items.map((i) => i.kind === 'group' ? `group ${i.id} in ${i.parent ?? '-'} at ${i.x} ${i.y}` :

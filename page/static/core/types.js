@@ -139,6 +139,7 @@
  * @property {(dx: number, dy: number) => void} nudge moves what is selected, typed once the keys rest
  * @property {(text: string) => void} say
  * @property {(banner: any) => HTMLElement | null} banner
+ * @property {number} patience how many times as long as usual what is said stays there
  * @property {(refusals: Refusal[]) => void} refuse
  * @property {(item: Item) => string} kindName
  * @property {(item: Item) => string} describe

@@ -19,13 +19,15 @@ import { plainWords } from "./words.js";
 const BUBBLE_LASTS = 4200;
 
 /**
- * Puts `say`, `banner` and `refuse` on `ed`.
+ * Puts `say`, `banner`, `refuse` and `patience` on `ed`.
  * @param {Ed} ed
  * @param {HTMLElement} said
  * @param {HTMLElement} banners
  * @param {HTMLElement} bubbles
  */
 export function makeBanners(ed, said, banners, bubbles) {
+  ed.patience = 1;
+  const goes = (/** @type {HTMLElement} */ made, /** @type {number} */ after) => setTimeout(() => made.remove(), after * ed.patience);
   ed.say = (text) => {
     // The same words are only said again where they went away in between.
     said.textContent = "";
@@ -41,14 +43,14 @@ export function makeBanners(ed, said, banners, bubbles) {
     const made = bannerOf(banner);
     if (banner.stays) banners.prepend(made);
     else banners.append(made);
-    if (banner.lasts) setTimeout(() => made.remove(), banner.lasts);
+    if (banner.lasts) goes(made, banner.lasts);
     return made;
   };
   ed.refuse = (refusals) => {
     if (!refusals.length) return;
     const made = bubbleOf(ed, refusals);
     bubbles.replaceChildren(made);
-    setTimeout(() => made.remove(), BUBBLE_LASTS);
+    goes(made, BUBBLE_LASTS);
   };
 }
 
