@@ -12,8 +12,6 @@ mod pieces;
 mod reader;
 mod reading;
 mod snapshot;
-#[cfg(test)]
-mod tests;
 mod writing;
 
 pub use ahead::Ahead;

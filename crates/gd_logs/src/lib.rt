@@ -8,8 +8,6 @@ mod pieces;
 mod reader;
 mod record;
 mod stopped;
-#[cfg(test)]
-mod tests;
 mod turns;
 mod writer;
 

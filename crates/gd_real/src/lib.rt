@@ -9,8 +9,6 @@ mod look;
 mod output;
 mod socket;
 mod synced;
-#[cfg(test)]
-mod tests;
 
 pub use file::FileJournal;
 pub use input::StandardInput;

@@ -1,4 +1,6 @@
-use crate::{Call, Fail, Link, MemoryLink, Received, Sent, SureLink, Word, WordList};
+//! That links in memory are made, and take what they keep, where memory is ample.
+
+use gd_outside::{Call, Fail, Link, MemoryLink, Received, Sent, SureLink, Word, WordList};
 use std::alloc::{AllocError, Global};
 use std::process::Abort;
 use std::rt::HostRuntime;

@@ -1,4 +1,6 @@
-use crate::{Call, Fail, Failed, Journal, MemoryJournal};
+//! That a journal in memory is made, and takes what it keeps, where memory is ample.
+
+use gd_outside::{Call, Fail, Failed, Journal, MemoryJournal};
 use std::alloc::{AllocError, Global};
 use std::process::Abort;
 use std::rt::HostRuntime;

@@ -1,7 +1,7 @@
 //! A send that fails is no fault of a run, so nobody sees from outside that it was one.
 
-use crate::SocketLink;
 use gd_outside::{Link, Received, Sent, Word, WordList};
+use gd_real::SocketLink;
 use std::fs::File;
 use std::io::{Error, ErrorKind, Result as IoResult};
 use std::net::{Net, SocketAddr, TcpListener, TcpStream, UdpSocket};
