@@ -195,7 +195,7 @@ async def run(given, room):
             await serve(server, given)
         return status
     except OSError as fault:
-        say(f"port {given.port} can't be served: {fault.strerror}. Take another --port, or 0 for any free one")
+        say(f"port {given.port} can't be served: {os.strerror(fault.errno)}. Take another --port, or 0 for any free one")
         return FAILED
     finally:
         await asyncio.gather(*(desk.stop() for desk in desks if desk.node))

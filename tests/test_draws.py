@@ -98,7 +98,7 @@ class Draws(Case):
                 ([*node, "none.log", other, own], BAD_LOG, "Is none.log another file?"),
                 (["--demo", "2", "--port", str(port)], PAGE_FAULT, f"port {port} can't be served: Address already in use. Take another"),
                 (["--demo", "2", "--program", "/no/program"], PAGE_FAULT, "the program /no/program wasn't started: No such file"),
-                (["--demo", "17"], USAGE, "2 to 16"),
+                (["--demo", "17"], USAGE, "17 is no number from 1 to 4"),
                 ([*node, "mine.log"], USAGE, "For a first look: ./draw --demo 2 --open"),
             ]
             for words, status, said in rows:
