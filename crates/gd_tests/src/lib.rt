@@ -10,6 +10,4 @@ mod lines;
 #[cfg(test)]
 mod links;
 #[cfg(test)]
-mod registers;
-#[cfg(test)]
 mod sockets;
