@@ -446,8 +446,10 @@ class Undoing(WithBoard):
         one, two = self.make(self.one, "create rect 300 200 100 60", "create rect 500 200 100 60", select=True)
         self.one.do("ed.selection.set([arguments[0]], null)", one)
         self.typed_by(self.one, lambda: self.one.press(Keys.BACKSPACE))
+        self.assertIn("Put backCtrl+Z", self.one.banners())
         self.one.do("ed.selection.set([arguments[0]], null)", two)
         self.typed_by(self.one, lambda: self.one.press(Keys.ARROW_RIGHT))
+        self.assertNotIn("Ctrl+Z", self.one.banners())
         self.assert_typed(self.one, self.one.find(".banner .quiet").click, "create rect 300 200 100 60")
         self.assert_typed(self.one, lambda: self.one.press("z", hold=["ctrl"]), f"move {two} 500 200")
 

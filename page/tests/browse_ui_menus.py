@@ -25,6 +25,17 @@ class Menus(WithOnePage):
         self.assertIn("Nothing has these words", page.text("#palette-list"))
         page.write(Keys.ESCAPE)
 
+    def test_who_would_invite_somebody_is_told_how(self):
+        page = self.page
+        told = "Who draws here was named when the session began. For one to which a link invites people: ./draw --found"
+        page.find(".faces").click()
+        self.assertIn(told, page.text(".pop"))
+        page.press(Keys.ESCAPE)
+        page.press("k", hold=["ctrl"])
+        page.write("invite")
+        page.write(Keys.ENTER)
+        self.assertEqual(page.banners(), told)
+
     def test_a_right_click_opens_a_menu_of_what_can_be_done(self):
         page = self.page
         (one,) = self.made("create rect 300 300 120 80", "fill @1 FFF2AE")
@@ -75,7 +86,7 @@ class Menus(WithOnePage):
     def test_what_the_program_lacks_is_no_button(self):
         page = self.page
         titles = page.ask("[...document.querySelectorAll('button:not([hidden])')].map((each) => each.ariaLabel ?? each.textContent)")
-        for word in ("Arrow", "Dash", "Opacity", "Invite", "forward", "backward", "Restore", "Watch"):
+        for word in ("Arrow", "Dash", "Opacity", "forward", "backward", "Restore", "Watch"):
             self.assertEqual([each for each in titles if word.lower() in each.lower()], [], word)
 
     def test_the_list_of_objects(self):

@@ -185,7 +185,12 @@ class Text(WithOnePage):
         page.picture("text-of-what-went")
         page.find("#banners .quiet").click()
         (made,) = wait_for(lambda: page.ids("text"))
-        self.assertEqual(self.item(made)["label"], "Precious")
+        # It stands where the shape stood, as high as a text is and no higher.
+        text = self.item(made)
+        self.assertEqual(text["label"], "Precious")
+        self.assertLess(text["h"], 30)
+        self.assertAlmostEqual(text["x"] + text["w"] / 2, 400, delta=2)
+        self.assertAlmostEqual(text["y"] + text["h"] / 2, 340, delta=2)
 
 
 class Clipboard(WithOnePage):

@@ -1,23 +1,15 @@
 //! Each call of each device failing in turn, through `run` over objects in memory: of the commands that read an input, of nodes,
-//! and of nodes that go on from a journal; standard input and output over readers and writers of their own; late events on the
-//! history of a drawing; and how each two operations bear on each other. What the built program does of words, logs, lines,
-//! frames and journals is tested from outside, in the folder tests/ of the repository.
+//! and of nodes that go on from a journal; and standard input and output over readers and writers of their own. What the built
+//! program does of words, logs, lines, frames and journals is tested from outside, in the folder tests/ of the repository.
 
 ghost use Rattle.std.specs.Prelude.{◌≡◌, ◌<◌};
 
-mod advising;
-mod counting;
 mod devices;
-mod documents;
 mod faults;
 mod frames;
-mod ids;
 mod nodes;
-mod pairs;
-mod refusing;
 mod rejoins;
 mod standard;
-mod texts;
 
 use crate::running::run;
 use gd_base::Steps;

@@ -30,7 +30,10 @@ export { copyLines, createLines, fitLabel } from "./making.js";
  * @property {Step | null} source the step that took away what this one makes anew
  * @property {string | null} was the name of what this one makes anew
  */
-/** @typedef {{name: string, steps: Step[], turned?: () => void}} Gesture `turned` hears that it is taken back or done again */
+/**
+ * @typedef {{name: string, steps: Step[], turned?: () => void, passed?: () => void}} Gesture `turned` hears that it is taken back or
+ *   done again, and `passed` that another one came behind it
+ */
 
 const MOST_GESTURES = 500;
 
@@ -70,6 +73,7 @@ export class Edits {
       return false;
     }
     const gesture = this.begin(name, lines);
+    this.done.at(-1)?.passed?.();
     this.done.push(gesture);
     if (this.done.length > MOST_GESTURES) this.done.shift();
     this.undone = [];

@@ -144,6 +144,8 @@ export async function remove(ed) {
     text, icon: "trash", action: "Put back", key: "Mod+Z", run: () => (ed.readOnly ? ed.refuse([{ why: ed.readOnly }]) : edits.undo(gesture)), lasts: PUT_BACK_LASTS,
   });
   gesture.turned = () => banner?.remove();
+  // The button still puts it back then; the key takes back what was done last.
+  gesture.passed = () => banner?.querySelector("kbd")?.remove();
   await sent;
   if (!edits.done.includes(gesture)) banner?.remove();
 }

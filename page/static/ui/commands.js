@@ -157,6 +157,7 @@ const FILE = commandsOf("File", [
 const PEOPLE = commandsOf("People", [
   ["roster", "Who is here", "people", [], always, (ed) => ed.roster.open()],
   ["rename", "Your name", "edit", [], (ed) => !ed.watcher, (ed) => ed.roster.rename()],
+  ["invite", "Invite somebody", "plus", [], (ed) => !ed.watcher, (ed) => ed.inviting.ask()],
 ]);
 
 const HELP = commandsOf("Help", [

@@ -272,6 +272,19 @@ export class Editor {
   offer(label, box, why) {
     const { ed } = this;
     const text = `${why}. Yours is kept: “${shortened(oneLine(label), 60)}”`;
-    ed.banner({ tone: "warn", text, action: "Put it on the board", run: () => this.make(label, box) });
+    const place = this.item.kind === "text" ? box : this.asText(label, box);
+    ed.banner({ tone: "warn", text, action: "Put it on the board", run: () => this.make(label, place) });
+  }
+
+  /**
+   * Where what was written in a shape stands as a text: around the same middle, as high as a text is.
+   * @param {string} label
+   * @param {Box} box
+   * @returns {Box}
+   */
+  asText(label, box) {
+    const laid = lay(label, this.ed.styleFor("text").font, WIDEST);
+    const [x0, y0] = [Math.round((box.x0 + box.x1 - laid.w) / 2), Math.round((box.y0 + box.y1 - laid.h) / 2)];
+    return { x0, y0, x1: x0 + Math.ceil(laid.w) + 1, y1: y0 + laid.h };
   }
 }

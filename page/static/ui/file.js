@@ -9,7 +9,7 @@ const MENU = [
   ["palette", "objects"],
   ["open", ...PICTURES, "print", "copySvg", "copyPng"],
   COPIES,
-  ["roster", "rename"],
+  ["roster", "invite", "rename"],
   ["theme", "help"],
 ];
 

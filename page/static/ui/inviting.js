@@ -2,6 +2,7 @@
 
 import { CALLED } from "../core/called.js";
 import { button, h } from "./h.js";
+import { howToInvite } from "./seating.js";
 import { count } from "./words.js";
 
 /** @typedef {import("../core/types.js").Carried} Carried */
@@ -9,6 +10,8 @@ import { count } from "./words.js";
 
 /** The width of a module of the code, in CSS pixels. */
 const MODULE = 4;
+/** So many milliseconds it is said how people come here. */
+const HOW_LASTS = 12_000;
 
 /**
  * What is said of the broker where it isn't reached.
@@ -75,6 +78,12 @@ export class Inviting {
     this.fault = fault;
     this.banner?.remove();
     this.banner = fault ? this.ed.banner({ text: fault, tone: "calm", stays: true }) : null;
+  }
+
+  /** Opens the dialog where somebody can be invited, and says else how people come here. */
+  ask() {
+    if (!this.button.hidden) this.toggle();
+    else this.ed.banner({ icon: "people", text: howToInvite(this.ed.node.carried), lasts: HOW_LASTS });
   }
 
   /** Opens or closes the dialog. A link that was made is shown again, since it takes a seat. */

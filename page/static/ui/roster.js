@@ -2,7 +2,7 @@
 
 import { personColour } from "../board/colours.js";
 import { h } from "./h.js";
-import { seatWords, watchedWords, whatToCheck } from "./seating.js";
+import { howToInvite, seatWords, watchedWords, whatToCheck } from "./seating.js";
 import { count, initialOf } from "./words.js";
 
 /** @typedef {import("../core/types.js").Seat} Seat */
@@ -124,6 +124,7 @@ export class Roster {
     const { seats } = this.ed.people;
     const { carried, watcher, isOpenly } = this.ed.node;
     const more = watcher ? [] : [whatToCheck(carried), watchedWords(carried), isOpenly ? "The page isn’t encrypted." : ""];
+    if (!watcher && !carried) more.push(howToInvite(carried));
     const words = [this.ed.standing.inWords(), ...more].filter(Boolean).join(" ");
     const looks = seats.map((seat) => [this.shown, this.looksAt(seat) ?? "", this.stateWords(seat)]);
     const key = JSON.stringify([words, looks]);

@@ -37,6 +37,15 @@ export function seatWords(carried, site) {
 export const watchedWords = (carried) => (carried?.watched ? "Others may look on: the founder made a link for that." : "");
 
 /**
+ * How people come to this session, where nobody can be invited from here.
+ * @param {Carried | null} carried
+ */
+export function howToInvite(carried) {
+  if (carried) return "Who founded this session can invite others, as long as seats are free.";
+  return `Who draws here was named when the session began. For one to which a link invites people: ${CALLED} --found`;
+}
+
+/**
  * What to check where nobody else is heard, or nothing.
  * @param {Carried | null} carried
  */

@@ -1,6 +1,5 @@
 //! Frames of site 2 for site 1, in session 7 and without a note, put together from tables; and the entries of a link.
 
-use super::ids::Id;
 use gd_outside::{Fail, MemoryLink};
 use std::alloc::{AllocError, Global};
 
@@ -13,6 +12,9 @@ const FRAME: [u8; 60] = [
     0, 0, 0, 1, 0, 0, 0, 0, 0, 1, 2, 0, 1, 1, 1, 0, 0, 0, 0, 0, 0, 0, 0, 0, 0, 0, 10, 0, 0, 0, 10,
     0,
 ];
+
+/// The clock and the site of a stamp.
+pub type Id = (u64, u8);
 
 /// What an event does.
 #[derive(Clone, Copy)]
