@@ -86,6 +86,7 @@ NOT_HERE = {
     "./check": "it runs these tests",
     "./draw --keep 'LINK' --journal copy.log": "it has no page; carrier/tests/live_together.py runs it",
     "./draw --watch 'LINK'": "it needs a session that is drawn; carrier/tests/live_watch.py runs it",
+    "./draw --host 3": "it opens a port to the network; page/tests/test_hosting.py runs it at one of this machine",
     "./draw --host 3 --at 192.168.1.20:8080 [--cert FILE --key FILE] [--journal PATH]": "page/tests/test_hosting.py runs it, with TLS",
     "./draw --host 3 --journal mine.log": "it asks for two links more; carrier/tests/live_host.py runs it",
 }
