@@ -164,7 +164,9 @@ class Truth(WithTwoPages):
         # What has the lower stamp goes first: the delete, so that the move behind it is on an object that is gone.
         self.make(two, f"delete {name}")
         self.make(one, "create rect 500 300 10 10", "delete @1", f"move {name} 310 320")
+        # Each side has to know that it is cut off: who doesn't isn't together again.
         wait_for(lambda: "away" in one.ask("document.querySelectorAll('.face')[1].className"))
+        wait_for(lambda: two.banners().startswith("Offline: 1 edit waits here"))
         self.cut()
         words = "deleted “Start” while you moved it: the move was not applied"
         wait_for(lambda: words in one.banners())
