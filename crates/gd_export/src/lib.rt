@@ -3,10 +3,8 @@
 
 mod array;
 mod events;
-mod parts;
 mod picture;
 mod texts;
-mod values;
 
 pub use array::JsonText;
 pub use events::events_json;

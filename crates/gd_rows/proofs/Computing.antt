@@ -8,8 +8,6 @@ use Rattle.rand_core.specs.Steps.{u32_at, word_bytes}
 use Rattle.gd_base.specs.Stamps.{stamp_cmp}
 use Rattle.gd_base.specs.Insertions.{inserted_by}
 use Rattle.gd_grammar.specs.EventBytes as bytes
-use Rattle.gd_grammar.specs.OpBytes as operations
-use Rattle.gd_grammar.specs.Readers.{steps}
 use Rattle.gd_grammar.specs.Fields as fields
 use Rattle.gd_grammar.specs.Reading.{many_at}
 use Rattle.gd_grammar.specs.FieldBytes.{each_bytes}
@@ -52,7 +50,7 @@ use Rattle.gd_worlds.specs.Rehearsal.{rehearsal_lines}
 
 -- events, logs and frames
 unfoldable pub bytes_compute : ⊤
-unfolding chars is_utf8 fields.byte_at fields.clock_at bytes.colour_at operations.create_at kinds.event_at bytes.fill_at operations.group_at bytes.label_at fields.id_at fields.label_within operations.member_at bytes.member_count_at bytes.member_id_at fields.number_at operations.look_at operations.op_at operations.place_at operations.set_at operations.size_at bytes.shape_at fields.signed_at fields.site_at fields.stamp_at bytes.width_at fields.word_at event_count_at each_bytes focus_at frame frame_at many_at steps frame_magic_at frame_version_at half_at head_at name_at name_text_at next_event_at note_at six_at events_at gated_bytes header_at log magic_at record_at sites_at step_at turn_fault version_at
+unfolding chars is_utf8 fields.byte_at fields.clock_at bytes.colour_at bytes.create_at bytes.lone_at kinds.event_at bytes.fill_at bytes.fill_style_at bytes.group_at bytes.label_at fields.id_at fields.label_within bytes.member_at bytes.member_count_at bytes.member_id_at bytes.move_at fields.number_at bytes.op_at bytes.resize_at bytes.restyle_at bytes.retext_at bytes.shape_at fields.signed_at fields.site_at fields.stamp_at bytes.stroke_style_at bytes.style_at bytes.width_at bytes.width_style_at fields.word_at event_count_at each_bytes focus_at frame frame_at many_at frame_magic_at frame_version_at half_at head_at name_at name_text_at next_event_at note_at six_at events_at gated_bytes header_at log magic_at record_at sites_at step_at turn_fault version_at
 bytes_compute = tt
 
 -- lines that are typed, and lines that are printed
@@ -72,7 +70,7 @@ worlds_compute = tt
 
 -- snapshots and viewers
 unfoldable pub snapshots_compute : ⊤
-unfolding flag_at kind_at link_at object_at object_bytes rank_at some_link_at steps thin_at snapshots.head_at kept_at known_at number_within placed_at snapshot_at snapshot_bytes least_sure known_behind snapshot_of opened viewer_all_arrived viewer_taken of_viewer_events end_behind item_at items_of shown_behind whole_behind
+unfolding flag_at kind_at link_at object_at object_bytes rank_at some_link_at thin_at snapshots.head_at kept_at known_at number_within placed_at snapshot_at snapshot_bytes least_sure known_behind snapshot_of opened viewer_all_arrived viewer_taken of_viewer_events end_behind item_at items_of shown_behind whole_behind
 snapshots_compute = tt
 
 unfoldable pub computing : ⊤
