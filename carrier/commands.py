@@ -102,31 +102,35 @@ def founders_journal(journal):
     return Path(str(here[0]).removesuffix(".founder"))
 
 
-def invited(journal):
-    """A link for a seat that nobody was handed yet. Raises `Wrong`."""
+def founded(journal, may, take):
+    """The founder's seat, and what `take` gives of the founder's file. `may` says what only they do. Raises `Wrong`."""
     try:
-        seat, taken = Seat.read(journal), Founder.take(journal)
+        return Seat.read(journal), take(journal)
     except FileNotFoundError:
-        raise Wrong(f"who founded the session invites: there is no {Founder.path(journal)}") from None
+        raise Wrong(f"who founded the session {may}: there is no {Founder.path(journal)}") from None
     except (BadFile, OSError) as why:
         raise Wrong(str(why)) from None
+
+
+def link_to(seat, number, seed):
+    """A link into the session of a seat."""
+    return Link(number, seat.roster.session, seed, seat.roster.digest, seat.trust, seat.broker, seat.account)
+
+
+def invited(journal):
+    """A link for a seat that nobody was handed yet. Raises `Wrong`."""
+    seat, taken = founded(journal, "invites", Founder.take)
     if taken is None:
         raise Wrong(f"all {SEATS} seats were handed out")
-    number, seed = taken
-    return Link(number, seat.roster.session, seed, seat.roster.digest, seat.trust, seat.broker, seat.account)
+    return link_to(seat, *taken)
 
 
 def watching(journal):
     """The link for those who only look on. Raises `Wrong`."""
-    try:
-        seat, seed = Seat.read(journal), Founder.let_watch(journal)
-    except FileNotFoundError:
-        raise Wrong(f"who founded the session lets others look on: there is no {Founder.path(journal)}") from None
-    except (BadFile, OSError) as why:
-        raise Wrong(str(why)) from None
+    seat, seed = founded(journal, "lets others look on", Founder.let_watch)
     if not seed:
         raise Wrong("this session was founded before there were links for those who only look on")
-    return Link(WATCHERS, seat.roster.session, seed, seat.roster.digest, seat.trust, seat.broker, seat.account)
+    return link_to(seat, WATCHERS, seed)
 
 
 def free_seats(journal):

@@ -20,7 +20,7 @@ from carrier.watched import Watched
 from carrier.words import asked, without_link
 from page.audience import Audience
 from page.desk import Desk
-from page.draw import BROKEN, FAILED, PROGRAM, ROOT, USAGE, check_journal, node_command, say, serve, start
+from page.draw import ANOTHER_PORT, BROKEN, FAILED, PROGRAM, ROOT, USAGE, check_journal, node_command, say, say_unserved, serve, start
 from page.placed import CALLED
 from page.server import Server
 
@@ -203,7 +203,7 @@ async def show(desk, given):
     try:
         await server.start(given.port)
     except OSError as fault:
-        say(f"port {given.port} can't be served: {fault.strerror}. Take another --port, or 0 for any free one")
+        say_unserved(f"port {given.port}", fault, ANOTHER_PORT)
         return FAILED
     await serve(server, given)
     return 0

@@ -22,7 +22,7 @@ from carrier.viewing import NoView, Viewing, empty_log
 from carrier.watched import key_of, piece_of
 from page.addresses import parts_of
 from page.audience import Audience, message
-from page.draw import BROKEN, FAILED, ROOT, USAGE, say, serve
+from page.draw import ANOTHER_PORT, BROKEN, FAILED, ROOT, USAGE, say, say_unserved, serve
 from page.history import History
 from page.news import News
 from page.picture import Picture
@@ -257,7 +257,7 @@ async def watch(given, link, roster, certificate, room):
         say(str(why))
         return FAILED
     except OSError as fault:
-        say(f"port {given.port} can't be served: {fault.strerror}. Take another --port, or 0 for any free one")
+        say_unserved(f"port {given.port}", fault, ANOTHER_PORT)
         return FAILED
     finally:
         if running:

@@ -25,6 +25,7 @@ from page.server import Server
 DEMO_SESSION = 7
 MOST_SESSION = 2**32 - 1
 USAGE, FAILED, BROKEN = 2, 1, 130
+ANOTHER_PORT = "--port, or 0 for any free one"
 HOSTING = """for guests who have a browser alone (page/README.md):
   --host N [--at ADDR:PORT] [--cert FILE --key FILE] [--journal PATH]
                                  runs N seats on this machine, and prints a link for each"""
@@ -74,6 +75,11 @@ def node_command(program, session, site, journal, addresses):
 
 def say(text):
     print(f"draw: {text}", file=sys.stderr, flush=True)
+
+
+def say_unserved(place, fault, instead):
+    """Says why a page can't be served at a place, and what to do."""
+    say(f"{place} can't be served: {os.strerror(fault.errno) if fault.errno else fault}. Take another {instead}")
 
 
 def check_journal(path):
@@ -195,7 +201,7 @@ async def run(given, room):
             await serve(server, given)
         return status
     except OSError as fault:
-        say(f"port {given.port} can't be served: {os.strerror(fault.errno)}. Take another --port, or 0 for any free one")
+        say_unserved(f"port {given.port}", fault, ANOTHER_PORT)
         return FAILED
     finally:
         await asyncio.gather(*(desk.stop() for desk in desks if desk.node))

@@ -13,7 +13,7 @@ from carrier.showing import show_code
 from page.addresses import BadAddress, parts_of
 from page.audience import Audience
 from page.desk import Desk
-from page.draw import BROKEN, FAILED, USAGE, check_journal, node_command, number_in, open_later, say, serve, start
+from page.draw import BROKEN, FAILED, USAGE, check_journal, node_command, number_in, open_later, say, say_unserved, serve, start
 from page.placed import CALLED, PROGRAM
 from page.server import HERE, Place, Server
 
@@ -172,7 +172,7 @@ async def served(desks, audience, place, port, given):
     try:
         await server.start(port)
     except OSError as fault:
-        say(f"{place.names[0]}:{port} can't be served: {fault.strerror}. Take another --at")
+        say_unserved(f"{place.names[0]}:{port}", fault, "--at")
         return FAILED
     await serve(server, given, tell_links)
     return 0
