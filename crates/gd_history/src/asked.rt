@@ -1,6 +1,7 @@
 //! The keys that a search has asked for so far.
 
-ghost use Rattle.std.specs.Prelude.{◌≡◌, ◌≢◌, ℕ, [], IsTrue, OnOk};
+ghost use Rattle.std.specs.Prelude.{◌≡◌, ◌≢◌, ℕ, [], IsTrue, IfOk, OnOk};
+ghost use Rattle.std.specs.Bool.{OnFalse};
 ghost use Rattle.gd_history.specs.Waits.{is_asked};
 
 use std::alloc::{AllocError, Global};
@@ -31,22 +32,16 @@ impl Asked {
         }
     }
 
-    /// Whether the key is one of them.
-    pub(crate) fn has(&self, key: u64) -> bool
-        ensures { result ≡ is_asked self.now key }
-    {
-        self.keys.contains(&key)
-    }
-
-    /// Puts the key among them.
-    pub(crate) fn put(&mut self, key: u64) -> Result<(), AllocError>
+    /// Puts the key among them, and returns whether it is new.
+    pub(crate) fn put(&mut self, key: u64) -> Result<bool, AllocError>
         ensures put { OnOk result (IsTrue (is_asked self.new key)) }
         ensures kept { OnOk result ((k : ℕ)
             → IsTrue (is_asked self.old k) → IsTrue (is_asked self.new k)) }
         ensures others { OnOk result ((k : ℕ)
             → k ≢ key → IsTrue (is_asked self.new k) → IsTrue (is_asked self.old k)) }
+        ensures known { IfOk result (λ is_new. OnFalse is_new (IsTrue (is_asked self.old key))) }
+        ensures unchanged { IfOk result (λ is_new. OnFalse is_new (self.new ≡ self.old)) }
     {
-        self.keys.insert(key)?;
-        Ok(())
+        Ok(self.keys.insert(key)?)
     }
 }
