@@ -40,6 +40,16 @@ export const meet = (a, b) => a.x0 <= b.x1 && b.x0 <= a.x1 && a.y0 <= b.y1 && b.
 export const within = (a, b) => a.x0 >= b.x0 && a.x1 <= b.x1 && a.y0 >= b.y0 && a.y1 <= b.y1;
 
 /**
+ * How much of the first box lies in the second, from 0 to 1.
+ * @param {Box} a
+ * @param {Box} b
+ */
+export function partOf(a, b) {
+  const [w, h] = [Math.min(a.x1, b.x1) - Math.max(a.x0, b.x0), Math.min(a.y1, b.y1) - Math.max(a.y0, b.y0)];
+  return (Math.max(0, w) * Math.max(0, h)) / ((a.x1 - a.x0) * (a.y1 - a.y0));
+}
+
+/**
  * Whether the first box lies in the second, and reaches none of its edges.
  * @param {Box} a
  * @param {Box} b

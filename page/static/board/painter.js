@@ -11,12 +11,21 @@ import { paint } from "./paint.js";
 const REACH = 34;
 
 export class Painter {
-  /** @param {Model} model */
-  constructor(model) {
+  /**
+   * @param {Model} model
+   * @param {import("./paint.js").Look} [look] that of another painter, which is shared
+   */
+  constructor(model, look = { dark: false, paper: "", skip: null }) {
     this.model = model;
     this.ground = new Ground();
     this.ratio = 1;
-    this.look = { dark: false, paper: "", skip: /** @type {string | null} */ (null) };
+    this.look = look;
+  }
+
+  /** What is previewed, and so is painted over a sheet that is without it; null where that is nothing. */
+  lifted() {
+    const { shadow } = this.model;
+    return shadow.size ? new Set(shadow.keys()) : null;
   }
 
   theme() {
