@@ -273,8 +273,10 @@ class Desk:
         yield message("standing", desk=self.number, standing=self.standing)
         silence = self.node.silence() if self.node else 0
         yield message("peers", desk=self.number, **self.peers.told(self.called(), silence))
-        whole = self.picture.whole()
-        yield message("picture", desk=self.number, edits=self.shown, others=False, polled_at=None, whole=True, **whole)
+        # Before the node has shown the drawing there is none, which isn't the same as an empty one: a page would show that.
+        if self.shown >= 0 or self.end:
+            whole = self.picture.whole()
+            yield message("picture", desk=self.number, edits=self.shown, others=False, polled_at=None, whole=True, **whole)
         yield from self.history.messages(self.number, 0, self.told_events)
         if self.end:
             yield message("end", desk=self.number, end=self.end)

@@ -37,6 +37,12 @@ class Asking(WithDesk):
         self.assertEqual(verbs.index("show"), 500)
         self.assertEqual({verb: verbs.count(verb) for verb in ("raise", "show", "poll")}, {"raise": 500, "show": 1, "poll": 1})
 
+    async def test_a_page_that_comes_before_the_first_drawing_is_told_of_none(self):
+        desk = await self.desk(poll_every=1000, show=[ROW])
+        self.assertNotIn("picture", self.opened(desk))
+        await until(lambda: self.heard("picture"))
+        self.assertEqual([item["id"] for item in self.opened(desk)["picture"]["items"]], ["1.1"])
+
     async def test_notes_and_datagrams_ask_for_no_drawing(self):
         desk = await self.desk(polls=[["polled 1"]] * 200)
         self.assertEqual((await desk.batch(["focus 1.1"]))["answers"][0][:5], "noted")

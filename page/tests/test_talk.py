@@ -17,6 +17,7 @@ from page.tests.serving import TOKEN, WithServer
 
 class Sockets(WithServer):
     async def test_a_page_is_told_all_there_is_and_then_what_changes(self):
+        await until(lambda: self.desk.shown >= 0)
         page = await self.open()
         await page.kind("history")
         kinds = [each["is"] for each in page.told]
