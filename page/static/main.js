@@ -57,6 +57,7 @@ listenToKeys(ed);
 
 ed.model.hear = (/** @type {import("./core/types.js").Box[]} */ boxes) => {
   ed.scene.damage.push(...boxes);
+  ed.editor.follow();
   frames.again();
 };
 ed.camera.hear = () => {

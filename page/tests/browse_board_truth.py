@@ -5,6 +5,8 @@ import os
 import signal
 import subprocess
 
+from selenium.webdriver.common.keys import Keys
+
 from page.tests.browse_board import WithBoard
 from page.tests.browser import replayed
 from page.tests.places import wait_for
@@ -79,6 +81,56 @@ class Meanwhile(WithBoard):
         self.assert_typed(self.one, self.one.release, f"resize {rect} 120 80")
         self.one.let_go("ctrl")
         self.assert_seen(rect, w=120, fill="FFF2AE")
+
+    def begin_text(self, *lines, words):
+        (name,) = self.make(self.one, *lines, select=True)
+        self.one.press(Keys.ENTER)
+        wait_for(lambda: self.one.ask("!document.querySelector('.label-field').hidden"))
+        if words:
+            self.one.write(words)
+        return name
+
+    def test_a_field_goes_along_with_a_shape_that_the_other_one_moves_and_resizes(self):
+        rect = self.begin_text("create rect 300 200 160 80", words="While you")
+        self.two.do("ed.edits.do('m', ['move', 'resize'].map((op, at) => `${op} ${arguments[0]} ${arguments[1][at]}`))", rect, ["600 400", "240 120"])
+        middle = """(({left, width, top, height}) => [left + width / 2, top + height / 2].map(Math.round))(
+            document.querySelector('.label-field').getBoundingClientRect())"""
+        wait_for(lambda: all(abs(found - wanted) <= 2 for found, wanted in zip(self.one.ask(middle), (720, 460))))
+        # One goes on writing, and the shape has the place and size that the other one gave it.
+        self.one.write(" moved it")
+        self.one.picture("board-text-moved")
+        self.assert_typed(self.one, lambda: self.one.press(Keys.ENTER, hold=["ctrl"]), f"text {rect} While you moved it")
+        self.assert_seen(rect, x=600, y=400, w=240, h=120, label="While you moved it")
+
+    def test_words_in_a_shape_that_the_other_one_deletes_are_told_of_at_once_and_stay(self):
+        rect = self.begin_text("create rect 300 200 160 80 Old", words="New words")
+        self.two.do("ed.edits.do('d', [`delete ${arguments[0]}`])", rect)
+        wait_for(lambda: self.one.find(".label-note").is_displayed())
+        self.assertIn("Site 2 deleted “Old”. Your words become a text of their own", self.one.text(".label-note"))
+        self.one.picture("board-text-deleted")
+        self.assertEqual(self.one.ask("document.activeElement.className"), "label-field")
+        (create, *_) = self.typed_by(self.one, lambda: self.one.press(Keys.ESCAPE))
+        self.assertRegex(create, r"^create text \d+ \d+ \d+ \d+ New words$")
+        self.assertFalse(self.one.ask("document.querySelector('.label-note').checkVisibility()"))
+
+    def test_a_field_without_new_words_closes_where_the_other_one_deletes_its_shape(self):
+        rect = self.begin_text("create rect 300 200 160 80 Old", words="")
+        self.two.do("ed.edits.do('d', [`delete ${arguments[0]}`])", rect)
+        wait_for(lambda: self.one.ask("document.querySelector('.label-field').hidden"))
+        self.assertEqual(self.one.bubble(), "Site 2 deleted “Old”")
+        self.assertEqual(self.one.ask("document.activeElement.id"), "board")
+
+    def test_words_that_the_other_one_writes_meanwhile_are_seen_or_told_of(self):
+        rect = self.begin_text("create rect 300 200 160 80 Old", words="")
+        self.two.do("ed.edits.do('t', [`text ${arguments[0]} Theirs`])", rect)
+        wait_for(lambda: self.one.ask("document.querySelector('.label-field').value") == "Theirs")
+        self.one.press(Keys.END)
+        self.one.write(" and mine")
+        self.two.do("ed.edits.do('t', [`text ${arguments[0]} Again theirs`])", rect)
+        wait_for(lambda: self.one.find(".label-note").is_displayed())
+        self.assertEqual(self.one.text(".label-note"), "Site 2 wrote something else here meanwhile: yours replaces it")
+        (text, *_) = self.typed_by(self.one, lambda: self.one.press(Keys.ESCAPE))
+        self.assertEqual(text, f"text {rect} Theirs and mine")
 
     def test_a_selection_loses_what_the_other_one_deletes(self):
         first, second = self.make(self.one, "create rect 300 200 100 60", "create rect 500 200 100 60", select=True)

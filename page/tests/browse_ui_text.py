@@ -171,26 +171,42 @@ class Text(WithOnePage):
         page.click((900, 600))
         wait_for(lambda: page.ids("text"))
 
+    def begin_in(self, *lines):
+        """Makes a shape, opens its field, and gives its name."""
+        (name,) = self.made(*lines)
+        self.choose(name)
+        self.page.press(Keys.ENTER)
+        return name
+
     def test_what_is_written_into_a_shape_that_went_is_kept(self):
         page = self.page
-        (name,) = self.made("create rect 300 300 200 80")
-        self.choose(name)
-        page.press(Keys.ENTER)
+        name = self.begin_in("create rect 300 300 200 80")
         page.write("Precious")
         page.do("ed.edits.do('gone', ['delete ' + arguments[0]])", name)
         wait_for(lambda: not page.ids())
-        self.assertTrue(page.ask(OPEN))
-        page.click((900, 600))
-        self.assertIn("Precious", page.banners())
+        # It is said where one writes, and one can go on.
+        wait_for(lambda: page.find(".label-note").is_displayed())
+        self.assertIn("deleted a rectangle. Your words become a text of their own", page.text(".label-note"))
+        page.write("!")
         page.picture("text-of-what-went")
-        page.find("#banners .quiet").click()
+        page.click((900, 600))
         (made,) = wait_for(lambda: page.ids("text"))
         # It stands where the shape stood, as high as a text is and no higher.
         text = self.item(made)
-        self.assertEqual(text["label"], "Precious")
+        self.assertEqual(text["label"], "Precious!")
         self.assertLess(text["h"], 30)
-        self.assertAlmostEqual(text["x"] + text["w"] / 2, 400, delta=2)
+        self.assertAlmostEqual(text["x"] + text["w"] / 2, 400, delta=8)
         self.assertAlmostEqual(text["y"] + text["h"] / 2, 340, delta=2)
+
+    def test_what_is_written_into_a_shape_that_went_can_be_left_out(self):
+        page = self.page
+        name = self.begin_in("create rect 300 300 200 80")
+        page.write("Unwanted")
+        page.do("ed.edits.do('gone', ['delete ' + arguments[0]])", name)
+        wait_for(lambda: page.find(".label-note").is_displayed())
+        page.find(".label-note .quiet").click()
+        self.assertFalse(page.ask(OPEN))
+        self.assertEqual(page.ids(), [])
 
 
 class Clipboard(WithOnePage):

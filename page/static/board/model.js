@@ -246,6 +246,16 @@ export class Model {
   }
 
   /**
+   * The groups in which an object is, from the inner one on.
+   * @param {Item} item
+   */
+  groupsOf(item) {
+    const groups = [];
+    for (let at = this.byId.get(item.parent); at; at = this.byId.get(at.parent)) groups.push(at.id);
+    return groups;
+  }
+
+  /**
    * Whether an object is one of these, or in one of them.
    * @param {Item} item
    * @param {Set<string>} ids

@@ -140,7 +140,7 @@
  * @property {(text: string) => void} say
  * @property {(banner: any) => HTMLElement | null} banner
  * @property {number} patience how many times as long as usual what is said stays there
- * @property {(refusals: Refusal[]) => void} refuse
+ * @property {(refusals: Refusal[], at?: [number, number]) => void} refuse
  * @property {(item: Item) => string} kindName
  * @property {(item: Item) => string} describe
  * @property {(id: string) => string} short

@@ -46,9 +46,9 @@ export function makeBanners(ed, said, banners, bubbles) {
     if (banner.lasts) goes(made, banner.lasts);
     return made;
   };
-  ed.refuse = (refusals) => {
+  ed.refuse = (refusals, at) => {
     if (!refusals.length) return;
-    const made = bubbleOf(ed, refusals);
+    const made = bubbleOf(ed, refusals, at);
     bubbles.replaceChildren(made);
     goes(made, BUBBLE_LASTS);
   };
@@ -77,14 +77,17 @@ function bannerOf(banner) {
 const keyOf = (key) => h("kbd", { class: "for-keys", "aria-hidden": "true" }, keyText(key));
 
 /**
- * A bubble at the object of the first refusal, at the selection, or at the pointer.
+ * A bubble at the object of the first refusal, at the selection, or at the pointer. One that is said at a place of its own is no
+ * refusal of an edit.
  * @param {Ed} ed
  * @param {{line?: string, why: string}[]} refusals
+ * @param {[number, number]} [at] a place of the window
  */
-function bubbleOf(ed, refusals) {
-  const words = deleterOf(ed, refusals[0]) ?? plainWords(refusals[0].why);
-  const text = refusals.length > 1 ? `${refusals.length} edits weren’t done: ${words}` : `Not done: ${words}`;
-  const [x, y] = placeOf(ed, refusals[0].line);
+function bubbleOf(ed, refusals, at) {
+  const words = deletedBy(ed, refusals[0]) ?? plainWords(refusals[0].why);
+  const isMany = refusals.length > 1;
+  const text = at ? words : isMany ? `${refusals.length} edits weren’t done: ${words}` : `Not done: ${words}`;
+  const [x, y] = at ?? placeOf(ed, refusals[0].line);
   const vars = { "--x": `${clamp(x, 120, innerWidth - 120)}px`, "--y": `${clamp(y - 14, 90, innerHeight)}px` };
   return h("div", { class: "bubble", vars }, icon("info", 16), text);
 }
@@ -94,7 +97,7 @@ function bubbleOf(ed, refusals) {
  * @param {Ed} ed
  * @param {import("../core/types.js").Refusal} refusal
  */
-function deleterOf(ed, { line, why }) {
+function deletedBy(ed, { line, why }) {
   const id = why.endsWith("NoObject") ? line?.split(" ")[1] : null;
   if (!id) return null;
   const gone = ed.node.events.find((event) => event.op === "delete" && event.id === id);

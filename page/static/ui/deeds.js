@@ -47,6 +47,34 @@ export function objectName(ed, id) {
 }
 
 /**
+ * Who did the last event of a kind with one of these objects, as the beginning of a sentence.
+ * @param {Ed} ed
+ * @param {string} op
+ * @param {string[]} ids
+ */
+function doerOf({ node, people }, op, ids) {
+  const { events } = node;
+  for (let at = events.length - 1; at >= 0; at -= 1) {
+    if (events[at].op === op && ids.includes(events[at].id)) return people.name(events[at].site);
+  }
+  return "Someone";
+}
+
+/**
+ * Who deleted an object.
+ * @param {Ed} ed
+ * @param {string[]} ids its own, and those of the groups that it was in
+ */
+export const deleterOf = (ed, ids) => doerOf(ed, "delete", ids);
+
+/**
+ * Who wrote the text of an object.
+ * @param {Ed} ed
+ * @param {string} id
+ */
+export const writerOf = (ed, id) => doerOf(ed, "text", [id]);
+
+/**
  * Who did what.
  * @param {Ed} ed
  * @param {Event} event

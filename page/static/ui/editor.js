@@ -1,18 +1,17 @@
 // Text is edited in place: a field lies over the shape with the board's own font, wraps where the board wraps, and grows.
-// What was typed is never lost: one that is too long keeps its field, and one whose shape is gone can be put elsewhere.
+// What was typed is never lost: one that is too long keeps its field, and one whose shape another one deletes goes on as a text of
+// its own. The field goes along where another one moves the shape.
 
 import { inkOn } from "../board/colours.js";
-import { createLines } from "../board/edits.js";
-import { BREAK, lay, PAD, roomOf } from "../board/text.js";
+import { BREAK, lay } from "../board/text.js";
 import { bytesOf, MOST_LABEL } from "../core/lines.js";
+import { Aside } from "./aside.js";
+import { deleterOf, objectName, writerOf } from "./deeds.js";
+import { asTextBox, fittedBox, roomIn, WIDEST } from "./fitting.js";
 import { h } from "./h.js";
-import { count, oneLine, shortened } from "./words.js";
+import { count } from "./words.js";
+import { changeText, makeText } from "./writing.js";
 
-/** As wide as a text grows before it wraps, and as the label of a line may be. */
-const WIDEST = 480;
-const LINE_ROOM = 260;
-const ELLIPSE_ROOM = 0.72;
-const TOLD_FROM = 40;
 const CONTROLS = /[\u0000-\u001f\u007f-\u009f]/g;
 
 /**
@@ -31,12 +30,17 @@ export class Editor {
     this.field = h("textarea", {
       class: "label-field", hidden: true, dir: "auto", rows: 1, spellcheck: "false", "aria-label": "Text",
     });
-    this.count = h("div", { class: "label-count", hidden: true, role: "status" });
     /** @type {Item} */
     this.item = /** @type {any} */ (null);
+    /** What the node says of the item, and the text that the field began with. @type {Plain | undefined} */
+    this.plain = undefined;
+    this.began = "";
+    /** @type {string[]} the groups in which the item is, from the inner one on */
+    this.groups = [];
     this.isNew = false;
     this.isAuto = false;
-    host.append(this.field, this.count);
+    host.append(this.field);
+    this.aside = new Aside(host);
     this.field.addEventListener("input", () => this.grow());
     this.field.addEventListener("keydown", (event) => this.key(event));
     this.field.addEventListener("blur", () => setTimeout(() => this.left()));
@@ -110,14 +114,13 @@ export class Editor {
   begin(item, isNew, isFixed) {
     const { ed, field } = this;
     if (ed.editing && !this.commit()) return;
-    this.item = item;
     this.isNew = isNew;
     // A text that its words fill goes on growing; one that was made narrower wraps.
     this.isAuto = item.kind === "text" && !isFixed && (isNew || Math.abs(lay(item.label, item.font).w - item.w) < 3);
-    ed.editing = item.id;
-    ed.scene.skip = item.id;
+    this.take(item);
+    this.groups = ed.model.groupsOf(item);
     field.hidden = false;
-    field.value = item.label.replaceAll(BREAK, "\n");
+    this.fill(item.label);
     this.grow();
     ed.touch("scene");
     ed.touch("overlay");
@@ -126,24 +129,77 @@ export class Editor {
     ed.rested();
   }
 
-  /**
-   * The box of the item with the text as it is now.
-   * @returns {Box}
-   */
-  fitted() {
-    const { item } = this;
-    const text = this.text || " ";
-    if (item.kind === "line") return item.box;
-    if (item.kind === "text") {
-      const laid = lay(text, item.font, this.isAuto ? WIDEST : Math.max(8, item.w));
-      const width = this.isAuto ? Math.ceil(laid.w) + 1 : item.w;
-      return { x0: item.x, y0: item.y, x1: item.x + width, y1: item.y + Math.round(laid.h) };
+  /** @param {Item} item whose text is edited now */
+  take(item) {
+    const { ed } = this;
+    this.item = item;
+    this.plain = ed.model.plains.get(item.id);
+    ed.editing = item.id;
+    ed.scene.skip = item.id;
+  }
+
+  /** @param {string} label */
+  fill(label) {
+    this.began = label;
+    this.field.value = label.replaceAll(BREAK, "\n");
+  }
+
+  /** Looks what became of the item since it was looked at, and goes along. */
+  follow() {
+    const { ed } = this;
+    if (!ed.editing || this.isNew || ed.history.at !== null) return;
+    const item = ed.model.byId.get(this.item.id);
+    if (!item) {
+      this.lose();
+      return;
     }
-    const { h: high } = lay(text, item.font, roomOf(item.kind, item.w));
-    const need = Math.ceil(item.kind === "ellipse" ? high / ELLIPSE_ROOM + PAD : high + 2 * PAD);
-    const box = { ...item.box };
-    if (this.text && need > box.y1 - box.y0) box.y1 = box.y0 + need;
-    return box;
+    if (ed.model.plains.get(item.id) === this.plain) return;
+    this.take(item);
+    if (item.label !== this.began) this.meet(item);
+    this.grow();
+  }
+
+  /**
+   * Another one has written something else. It is in the field where nothing was written here.
+   * @param {Item} item
+   */
+  meet({ id, label }) {
+    if (this.text === this.began) this.fill(label);
+    else this.aside.say(`${writerOf(this.ed, id)} wrote something else here meanwhile: yours replaces it`);
+    this.began = label;
+  }
+
+  /** The item is gone. What was written stays in its field, and is a text of its own then. */
+  lose() {
+    const { ed, item } = this;
+    const why = `${deleterOf(ed, [item.id, ...this.groups])} deleted ${objectName(ed, item.id)}`;
+    const { text } = this;
+    if (text === this.began || !text.replaceAll(BREAK, "").trim()) {
+      const at = ed.camera.toWindow((item.box.x0 + item.box.x1) / 2, item.box.y0);
+      this.close();
+      ed.focusBoard();
+      ed.refuse([{ why }], at);
+      return;
+    }
+    const style = ed.styleFor("text");
+    const isText = item.kind === "text";
+    const box = isText ? this.fitted() : asTextBox(text, style.font, item.box);
+    const size = { x: box.x0, y: box.y0, w: box.x1 - box.x0, h: box.y1 - box.y0 };
+    this.isNew = true;
+    this.isAuto ||= !isText;
+    this.take({ ...item, ...style, ...size, font: isText ? item.font : style.font, id: "~new", kind: "text", parent: null, box, fill: null, ends: null });
+    this.aside.say(`${why}. Your words become a text of their own`, "Leave them out", () => this.leaveOut());
+    this.grow();
+  }
+
+  leaveOut() {
+    this.close();
+    this.ed.focusBoard();
+  }
+
+  /** The box of the item with the text as it is now. */
+  fitted() {
+    return fittedBox(this.item, this.text || " ", this.isAuto);
   }
 
   grow() {
@@ -161,9 +217,7 @@ export class Editor {
   /** Says how many bytes are left, or too many. */
   tell() {
     const left = MOST_LABEL - bytesOf(this.text);
-    this.count.hidden = left > TOLD_FROM;
-    this.count.textContent = left < 0 ? `${count(-left, "byte")} too many` : `${count(left, "byte")} left`;
-    this.count.dataset.over = left < 0 ? "1" : "";
+    this.aside.tell(left);
     this.field.setAttribute("aria-invalid", String(left < 0));
   }
 
@@ -176,7 +230,7 @@ export class Editor {
     if (!ed.editing) return;
     const box = given ?? this.fitted();
     const isText = item.kind === "text";
-    const room = this.room(box);
+    const room = roomIn(item, box);
     const laid = lay(this.text || " ", item.font, isText && this.isAuto ? WIDEST : room);
     const wide = item.kind === "line" ? Math.max(60, laid.w + 8) : Math.max(isText ? 24 : 8, room + (isText ? 4 : 0));
     const x = isText ? box.x0 : (box.x0 + box.x1 - wide) / 2;
@@ -189,13 +243,7 @@ export class Editor {
       whiteSpace: this.isAuto && laid.lines.length === 1 ? "pre" : "pre-wrap",
     });
     field.dataset.kind = item.kind;
-    this.count.style.transform = `translate(${left}px, ${top + laid.h * ed.camera.zoom + 14}px)`;
-  }
-
-  /** @param {Box} box */
-  room(box) {
-    if (this.item.kind === "line") return LINE_ROOM;
-    return this.item.kind === "text" ? box.x1 - box.x0 : roomOf(this.item.kind, box.x1 - box.x0);
+    this.aside.place(left, top + laid.h * ed.camera.zoom + 14);
   }
 
   close() {
@@ -203,7 +251,7 @@ export class Editor {
     ed.editing = null;
     ed.scene.skip = null;
     this.field.hidden = true;
-    this.count.hidden = true;
+    this.aside.hide();
     ed.model.preview(new Map());
     ed.touch("scene");
     ed.touch("overlay");
@@ -228,63 +276,10 @@ export class Editor {
     const isBlank = !text.replaceAll(BREAK, "").trim();
     this.close();
     if (this.isNew) {
-      if (!isBlank) this.make(text, box);
-    } else if (!ed.model.byId.has(item.id)) {
-      if (!isBlank && text !== item.label) this.offer(text, box, "The shape was deleted meanwhile");
-    } else if (isBlank && item.kind === "text") ed.edits.do("Deleted an empty text", [`delete ${item.id}`]);
-    else if (text !== item.label) this.change(isBlank ? "" : text, box);
+      if (!isBlank) makeText(ed, text, box);
+    } else if (text === this.began) return true;
+    else if (isBlank && item.kind === "text") ed.edits.do("Deleted an empty text", [`delete ${item.id}`]);
+    else changeText(ed, item, isBlank ? "" : text, box);
     return true;
-  }
-
-  /**
-   * @param {string} label
-   * @param {Box} box
-   */
-  async make(label, box) {
-    const size = { x: box.x0, y: box.y0, w: box.x1 - box.x0, h: box.y1 - box.y0 };
-    const style = this.ed.styleFor("text");
-    const lines = createLines(1, { ...style, ...size, kind: "text", label });
-    if (!(await this.ed.edits.do("Wrote a text", lines, (ids) => [ids[0]]))) this.offer(label, box, "The text wasn’t made");
-  }
-
-  /**
-   * @param {string} label
-   * @param {Box} box
-   */
-  async change(label, box) {
-    const { item } = this;
-    const lines = [`text ${item.id} ${label}`];
-    const [w, height] = [Math.round(box.x1 - box.x0), Math.round(box.y1 - box.y0)];
-    const isSized = item.kind !== "line" && (w !== Math.abs(item.w) || height !== Math.abs(item.h));
-    if (isSized) lines.push(`resize ${item.id} ${w} ${height}`);
-    const [x, y] = [Math.round(box.x0), Math.round(box.y0)];
-    if (isSized && (x !== item.x || y !== item.y)) lines.push(`move ${item.id} ${x} ${y}`);
-    const isDone = await this.ed.edits.do("Changed a text", lines);
-    if (!isDone && label) this.offer(label, box, "The text wasn’t changed");
-  }
-
-  /**
-   * Says that a text isn't where it was meant to be, with a button that puts it on the board.
-   * @param {string} label
-   * @param {Box} box
-   * @param {string} why
-   */
-  offer(label, box, why) {
-    const { ed } = this;
-    const text = `${why}. Yours is kept: “${shortened(oneLine(label), 60)}”`;
-    const place = this.item.kind === "text" ? box : this.asText(label, box);
-    ed.banner({ tone: "warn", text, action: "Put it on the board", run: () => this.make(label, place) });
-  }
-
-  /**
-   * Where what was written in a shape stands as a text: around the same middle, as high as a text is.
-   * @param {string} label
-   * @param {Box} box
-   * @returns {Box}
-   */
-  asText(label, box) {
-    const laid = lay(label, this.ed.styleFor("text").font, WIDEST);
-    const [x0, y0] = [Math.round((box.x0 + box.x1 - laid.w) / 2), Math.round((box.y0 + box.y1 - laid.h) / 2)];
-    return { x0, y0, x1: x0 + Math.ceil(laid.w) + 1, y1: y0 + laid.h };
   }
 }
