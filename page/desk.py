@@ -151,7 +151,7 @@ class Desk:
             try:
                 self.type([b"name " + word_of(name).encode()])
             except lines.Refused:
-                raise BadName("the node is silent: give the name again when it answers") from None
+                raise BadName("the program that keeps the drawing doesn't answer: give the name again when it does") from None
             self.rounds.expect(lines.NOTES)
         self.name = name
         self.who = self.with_own_name(self.who)
@@ -224,7 +224,7 @@ class Desk:
         self.history.go_on()
         if self.history.fault and not self.is_fault_told:
             self.is_fault_told = True
-            self.tell_news([{"what": "said", "line": f"the journal isn't read for the history: {self.history.fault}"}])
+            self.tell_news([{"what": "said", "line": f"the drawing's file isn't read for the history: {self.history.fault}"}])
         first, self.told_events = self.told_events, self.gestures.told(len(self.history.events))
         if first < self.told_events:
             for text in self.history.messages(self.number, first, self.told_events):

@@ -22,7 +22,7 @@ async def replayed(program, journal, form):
     except OSError as fault:
         raise NoReplay(str(fault)) from None
     if replay.returncode:
-        raise NoReplay(f"the replay of the journal ended with status {replay.returncode}")
+        raise NoReplay(f"reading the drawing’s file ended with status {replay.returncode}")
     return printed
 
 

@@ -132,9 +132,9 @@ class Talk:
         try:
             await self.desk(asked).start_again()
         except Busy:
-            raise Wrong("the node runs: none is started beside it") from None
+            raise Wrong("it runs already") from None
         except Ended as said:
-            raise Wrong(f"the node ended at once{f': {said}' if str(said) else ''}") from None
+            raise Wrong(f"it ended at once{f': {said}' if str(said) else ''}") from None
         return message("reply", id=asked.get("id"), result=True)
 
     async def name(self, asked):
@@ -153,7 +153,7 @@ class Talk:
         """Something of a session over a broker."""
         desk = self.desk(asked)
         if desk.carried is None:
-            raise Wrong("this session isn't over a broker")
+            raise Wrong("nobody can be invited to this drawing")
         try:
             return message("reply", id=asked.get("id"), result=await desk.carried(asked))
         except ValueError as fault:

@@ -69,7 +69,7 @@ class Pages(WithFolder):
         self.seen(ben, "ed.model.items.map((each) => each.label).join()", "by Ana")
         ben.do("ed.node.type(() => ['create ellipse 300 100 80 60 by Ben'])")
         self.seen(ana, "ed.model.items.map((each) => each.label).join()", "by Ana,by Ben")
-        self.seen(ana, "ed.people.seats.map((seat) => seat.name).join()", f"Site 1,{name}")
+        self.seen(ana, "ed.people.seats.map((seat) => seat.name).join()", f"Person 1,{name}")
         self.seen(ana, "ed.people.seats.map((seat) => seat.here).join()", "true,true")
         self.seen(ana, "ed.node.carried.invites", 14)
         self.points_and_selections(ana, ben)

@@ -461,6 +461,6 @@ class Undoing(WithBoard):
         self.cut()
         wait_for(lambda: self.one.ask("ed.node.events.some((each) => each.site === 2 && each.id === arguments[0])", name))
         self.one.press("z", hold=["ctrl"])
-        wait_for(lambda: "It is a new one: without what Site 2 changed since" in self.one.banners())
+        wait_for(lambda: "It is a new one: without what Person 2 changed since" in self.one.banners())
         (again,) = self.wait_until_same()
         self.assertIn("at 300 200 size 100 60", again)

@@ -57,7 +57,7 @@ class Meanwhile(WithBoard):
         self.two.do("ed.edits.do('d', [`delete ${arguments[0]}`])", rect)
         wait_for(lambda: not self.one.ids())
         self.assert_typed(self.one, self.one.release)
-        wait_for(lambda: self.one.bubble() in ("Not done: Site 2 deleted it", "Not done: it is gone, someone deleted it"))
+        wait_for(lambda: self.one.bubble() in ("Not done: Person 2 deleted it", "Not done: it is gone, someone deleted it"))
         self.assertEqual(self.one.ask("[ed.model.over.size, ed.model.shadow.size, ed.selection.ids.size]"), [0, 0, 0])
 
     def test_what_is_dragged_and_moved_by_the_other_one_goes_where_it_is_dropped(self):
@@ -106,7 +106,7 @@ class Meanwhile(WithBoard):
         rect = self.begin_text("create rect 300 200 160 80 Old", words="New words")
         self.two.do("ed.edits.do('d', [`delete ${arguments[0]}`])", rect)
         wait_for(lambda: self.one.find(".label-note").is_displayed())
-        self.assertIn("Site 2 deleted “Old”. Your words become a text of their own", self.one.text(".label-note"))
+        self.assertIn("Person 2 deleted “Old”. Your words become a text of their own", self.one.text(".label-note"))
         self.one.picture("board-text-deleted")
         self.assertEqual(self.one.ask("document.activeElement.className"), "label-field")
         (create, *_) = self.typed_by(self.one, lambda: self.one.press(Keys.ESCAPE))
@@ -117,7 +117,7 @@ class Meanwhile(WithBoard):
         rect = self.begin_text("create rect 300 200 160 80 Old", words="")
         self.two.do("ed.edits.do('d', [`delete ${arguments[0]}`])", rect)
         wait_for(lambda: self.one.ask("document.querySelector('.label-field').hidden"))
-        self.assertEqual(self.one.bubble(), "Site 2 deleted “Old”")
+        self.assertEqual(self.one.bubble(), "Person 2 deleted “Old”")
         self.assertEqual(self.one.ask("document.activeElement.id"), "board")
 
     def test_words_that_the_other_one_writes_meanwhile_are_seen_or_told_of(self):
@@ -128,7 +128,7 @@ class Meanwhile(WithBoard):
         self.one.write(" and mine")
         self.two.do("ed.edits.do('t', [`text ${arguments[0]} Again theirs`])", rect)
         wait_for(lambda: self.one.find(".label-note").is_displayed())
-        self.assertEqual(self.one.text(".label-note"), "Site 2 wrote something else here meanwhile: yours replaces it")
+        self.assertEqual(self.one.text(".label-note"), "Person 2 wrote something else here meanwhile: yours replaces it")
         (text, *_) = self.typed_by(self.one, lambda: self.one.press(Keys.ESCAPE))
         self.assertEqual(text, f"text {rect} Theirs and mine")
 

@@ -138,7 +138,7 @@ class Files(WithOnePage):
         self.assertEqual(text.split("\n")[:-2], self.page.shown())
         drawing = json.loads(self.saved("Save as JSON", ".json"))
         self.assertEqual([each["id"] for each in drawing], names)
-        self.assertTrue(self.saved("Save the journal", ".log").startswith(b"GDOL"))
+        self.assertTrue(self.saved("Save the whole file with its history (journal)", ".log").startswith(b"GDOL"))
         self.assertEqual(len(json.loads(self.saved("list of events", ".events.jsonl"))), self.page.ask("ed.node.events.length"))
         for given, name in ((text, "drawing.txt"), (json.dumps(drawing), "drawing.json")):
             self.assertEqual(self.bare_of(self.imported(given, name)), self.bare_of(names))

@@ -27,7 +27,7 @@ class Menus(WithOnePage):
 
     def test_who_would_invite_somebody_is_told_how(self):
         page = self.page
-        told = "Who draws here was named when the session began. For one to which a link invites people: ./draw --found"
+        told = "Who draws here was set when this drawing was started. For one to which a link invites people, start it with: ./draw --found"
         page.find(".faces").click()
         self.assertIn(told, page.text(".pop"))
         page.press(Keys.ESCAPE)
@@ -59,7 +59,7 @@ class Menus(WithOnePage):
         page.find("#file button").click()
         self.assertEqual(page.find("#file button").get_attribute("aria-expanded"), "true")
         titles = page.ask("[...document.querySelectorAll('.menu [role=menuitem] span')].map((each) => each.textContent)")
-        for title in ("Import a file", "Export as SVG", "Export as PNG", "Export as PDF", "Print", "Save as lines", "Save as JSON", "Save the journal", "Your name"):
+        for title in ("Import a file", "Export as SVG", "Export as PNG", "Export as PDF", "Print", "Save as lines", "Save as JSON", "Save the whole file with its history (journal)", "Your name"):
             self.assertIn(title, titles)
         page.picture("menu")
         page.press(Keys.ESCAPE)
@@ -76,7 +76,7 @@ class Menus(WithOnePage):
         page.press("s", hold=["ctrl"])
         titles = page.ask("[...document.querySelectorAll('.menu [role=menuitem] span')].map((each) => each.textContent)")
         pictures = ["Export as SVG", "Export as PNG", "Export as PDF"]
-        self.assertEqual(titles, [*pictures, "Save the journal", "Save as JSON", "Save as lines", "Save the list of events"])
+        self.assertEqual(titles, [*pictures, "Save the whole file with its history (journal)", "Save as JSON", "Save as lines", "Save the list of all edits (events)"])
         self.assertEqual(page.text(".menu .fine"), "All is kept already, in site-1.log")
         self.assertEqual(page.ask("document.activeElement.textContent"), "Export as SVG")
         page.picture("save")

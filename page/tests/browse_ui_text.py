@@ -255,3 +255,25 @@ class Clipboard(WithOnePage):
         wait_for(lambda: page.is_settled() and len(page.ids("text")) == 4)
         labels = [page.item(each)["label"] for each in page.ids("text")[1:]]
         self.assertEqual(" ".join(labels).split(), ["word"] * 100)
+
+    def test_what_is_pasted_again_at_one_place_stands_beside_the_last_one(self):
+        page = self.page
+        (one,) = self.made("create rect 100 100 80 60 Twin")
+        self.choose(one)
+        page.press("c", hold=["ctrl"])
+        page.move_to((600, 400))
+
+        def pasted():
+            count = len(page.ids())
+            page.press("v", hold=["ctrl"])
+            wait_for(lambda: len(page.ids()) == count + 1 and page.is_settled())
+            return tuple(page.item(page.ids()[-1])[part] for part in "xy")
+
+        self.assertEqual([pasted() for _ in range(3)], [(560, 370), (580, 390), (600, 410)])
+        page.picture("ui-pasted-thrice")
+        # At another place, and where the last one was taken back, it stands at the pointer.
+        page.move_to((300, 500))
+        self.assertEqual(pasted(), (260, 470))
+        page.press("z", hold=["ctrl"])
+        wait_for(lambda: len(page.ids()) == 4 and page.is_settled())
+        self.assertEqual(pasted(), (260, 470))

@@ -141,7 +141,7 @@ class Telling(WithDesk):
             await desk.batch(["undo"])
             await self.wait_for_polls(2)
         said = [entry for each in self.heard("news") for entry in each["news"] if entry["what"] == "said"]
-        self.assertEqual([entry["line"] for entry in said], ["the journal isn't read for the history: it is no log"])
+        self.assertEqual([entry["line"] for entry in said], ["the drawing's file isn't read for the history: it is no log"])
 
     async def test_a_page_that_comes_later_is_told_all(self):
         desk = await self.desk(show=[ROW])

@@ -108,7 +108,7 @@ class Sockets(WithServer):
 
     async def test_again_is_refused_while_the_node_runs(self):
         page = await self.open()
-        self.assertIn("the node runs", (await page.ask("again"))["error"])
+        self.assertIn("it runs already", (await page.ask("again"))["error"])
 
     async def test_again_says_why_it_failed_and_then_works(self):
         page = await self.open()
@@ -116,7 +116,7 @@ class Sockets(WithServer):
         await page.kind("end")
         self.assertEqual(await page.batch("undo"), ["refused: Ended"])
         self.script(first="other journal\n", status=11)
-        self.assertEqual((await page.ask("again"))["error"], "the node ended at once: other journal")
+        self.assertEqual((await page.ask("again"))["error"], "it ended at once: other journal")
         self.assertEqual(await page.batch("undo"), ["refused: Ended"])
         self.script()
         self.assertEqual((await page.ask("again")).get("error"), None)

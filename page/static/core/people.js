@@ -3,6 +3,12 @@
 /** @typedef {import("./types.js").Seat} Seat */
 /** @typedef {import("./node.js").Node} Node */
 
+/**
+ * What someone is called who has given no name.
+ * @param {number} site
+ */
+export const calledOf = (site) => `Person ${site}`;
+
 export class People {
   /** @param {Node} node */
   constructor(node) {
@@ -40,7 +46,7 @@ export class People {
       const looksAt = node.selections.get(site) ?? (focus ? [focus] : []);
       return {
         site, me,
-        name: peer?.name ?? notes.get(site)?.name ?? node.names[String(site)] ?? `Site ${site}`,
+        name: peer?.name ?? notes.get(site)?.name ?? node.names[String(site)] ?? calledOf(site),
         here: me || (!isAway && (peer === undefined || peer.heard !== null)),
         away: isAway ? "away" : null,
         selection: new Set(me || isAway ? [] : looksAt),
@@ -63,6 +69,6 @@ export class People {
    */
   name(site) {
     const seat = this.seats.find((each) => each.site === site);
-    return seat?.me ? "You" : seat?.name ?? `Site ${site}`;
+    return seat?.me ? "You" : seat?.name ?? calledOf(site);
   }
 }

@@ -97,7 +97,7 @@ export class Arrivals {
     const { ed } = this;
     const isLate = isRepaired(event);
     const redone = event.late?.redone.length ?? 0;
-    const text = isLate ? `${ed.people.name(event.site)}, late${redone ? ` · ${redone} redone` : ""}` : null;
+    const text = isLate ? `${ed.people.name(event.site)}, came late${redone ? ` · ${count(redone, "edit")} redone` : ""}` : null;
     ed.overlay.flash([event.id], event.late?.what ?? "applied", text, isLate ? FLASH.late : FLASH.plain, null);
   }
 

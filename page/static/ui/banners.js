@@ -1,4 +1,5 @@
-// What the page says: banners under the top, bubbles beside an object, and words for assistive technology alone.
+// What the page says: banners under the top, bubbles beside an object, and words for assistive technology alone. Banners stand
+// where the pointer isn't, let a gesture see through, and one that stays is soon a few words alone.
 
 import { h, keyText } from "./h.js";
 import { icon } from "./icons.js";
@@ -10,6 +11,7 @@ import { plainWords } from "./words.js";
  * @property {"calm" | "late" | "warn"} [tone]
  * @property {string} [icon]
  * @property {boolean} [stays] whether it stays until it is taken away by who made it
+ * @property {string} [short] what it says in a few words, once it has stayed for a while
  * @property {string} [action] the words of its button
  * @property {string} [key] the key that does the same
  * @property {() => void} [run] what its button does
@@ -17,6 +19,9 @@ import { plainWords } from "./words.js";
  */
 
 const BUBBLE_LASTS = 4200;
+const SHRINKS_AFTER = 6000;
+/** In pixels: a pointer or a text that is so near to the top middle has what is said at the bottom. */
+const NEAR = { x: 360, y: 190 };
 
 /**
  * Puts `say`, `banner`, `refuse` and `patience` on `ed`.
@@ -41,6 +46,8 @@ export function makeBanners(ed, said, banners, bubbles) {
     if (!banner?.stays) for (const each of old) each.remove();
     if (!banner) return null;
     const made = bannerOf(banner);
+    if (!banners.children.length) banners.dataset.low = isTopInUse(ed) ? "1" : "";
+    if (banner.short) setTimeout(() => shrink(made), SHRINKS_AFTER * ed.patience);
     if (banner.stays) banners.prepend(made);
     else banners.append(made);
     if (banner.lasts) goes(made, banner.lasts);
@@ -54,10 +61,40 @@ export function makeBanners(ed, said, banners, bubbles) {
   };
 }
 
+/**
+ * Whether one draws or writes where banners stand else.
+ * @param {Ed} ed
+ */
+function isTopInUse(ed) {
+  if (ed.history.at !== null) return false;
+  const { x, y } = ed.editing ? ed.editor.field.getBoundingClientRect() : { x: ed.pointer?.px ?? 0, y: ed.pointer?.py ?? innerHeight };
+  return Math.abs(x - innerWidth / 2) < NEAR.x && y < NEAR.y;
+}
+
+/** @param {HTMLElement} made */
+const wordsOf = (made) => /** @type {HTMLElement} */ (made.querySelector("span"));
+
+/** @param {HTMLElement} made */
+function shrink(made) {
+  made.dataset.small = "1";
+  wordsOf(made).textContent = made.dataset.short ?? "";
+}
+
+/**
+ * Says another thing in a banner that is there.
+ * @param {HTMLElement} made
+ * @param {string} text
+ * @param {string} short
+ */
+export function retell(made, text, short) {
+  made.dataset.short = short;
+  wordsOf(made).textContent = made.dataset.small ? short : text;
+}
+
 /** @param {Banner} banner */
 function bannerOf(banner) {
   const tone = banner.tone ?? "calm";
-  const made = h("div", { class: `banner island ${tone}`, "data-stays": banner.stays ? "1" : null });
+  const made = h("div", { class: `banner island ${tone}`, "data-stays": banner.stays ? "1" : null, "data-short": banner.short });
   const act = () => {
     if (!banner.stays) made.remove();
     banner.run?.();

@@ -1,7 +1,7 @@
 // The card of the step that is looked at: who did what, when, and how a late event was repaired.
 
 import { personColour } from "../board/colours.js";
-import { isRepaired, repairOf, stepDeedOf, timeOf, voidOf } from "./deeds.js";
+import { isRepaired, ordinalOf, repairOf, stepDeedOf, timeOf, voidOf } from "./deeds.js";
 import { button, h, keyText } from "./h.js";
 import { icon } from "./icons.js";
 import { putBack, takenBy } from "./putting.js";
@@ -10,13 +10,13 @@ import { putBack, takenBy } from "./putting.js";
 /** @typedef {{events: Event[], step: (by: 1 | -1) => void, toNow: () => void}} Walk what goes through the events */
 
 /**
- * Which events of how many a step has, in words.
+ * Which edits of how many a step has, in words.
  * @param {Event[]} step
  * @param {number} at how many events are shown
  * @param {number} all
  */
 export const placeOf = (step, at, all) =>
-  step.length > 1 ? `Events ${at - step.length + 1} to ${at} of ${all}` : `Event ${at} of ${all}`;
+  step.length > 1 ? `Edits ${at - step.length + 1} to ${at} of ${all}` : `Edit ${at} of ${all}`;
 
 export class Card {
   /**
@@ -26,7 +26,7 @@ export class Card {
   constructor(ed, walk) {
     this.ed = ed;
     this.walk = walk;
-    this.el = h("div", { class: "hist-card island", role: "group", "aria-label": "Event", hidden: true });
+    this.el = h("div", { class: "hist-card island", role: "group", "aria-label": "Edit", hidden: true });
     document.body.append(this.el);
   }
 
@@ -35,7 +35,7 @@ export class Card {
    * @param {number} at how many events are shown
    */
   show(step, at) {
-    const first = h("div", { class: "hist-line" }, "Before the first event");
+    const first = h("div", { class: "hist-line" }, "Before the first edit");
     this.el.replaceChildren(...(step.length ? this.parts(step, at) : [first]), this.acts(at));
     this.el.hidden = false;
   }
@@ -53,7 +53,7 @@ export class Card {
     const event = step[step.length - 1];
     const { who, what } = stepDeedOf(ed, step);
     const dot = h("i", { class: "dot", vars: { "--who": personColour(event.site, ed.scene.dark) } });
-    const where = [placeOf(step, at, this.walk.events.length), timeOf(event), event.stamp].filter(Boolean).join(" · ");
+    const where = [placeOf(step, at, this.walk.events.length), timeOf(event), ordinalOf(ed, event)].filter(Boolean).join(" · ");
     const line = h("div", { class: "hist-line" }, dot, h("b", { dir: "auto" }, who), ` ${what}`);
     const more = isRepaired(event) ? repairOf(ed, event) : voidOf(ed, event);
     const taken = takenBy(ed, step, at);

@@ -12,6 +12,9 @@ import { count } from "./words.js";
 
 const TEXT_WIDTH = 480;
 const GAP = 8;
+/** In units: how far a further copy is from the last one where the pointer is still there; and so near it is, in pixels. */
+const STEP = 20;
+const NEAR = 4;
 
 /**
  * Whether an event of the clipboard is for the board.
@@ -23,6 +26,8 @@ export class Clipboard {
   /** @param {Ed} ed */
   constructor(ed) {
     this.ed = ed;
+    /** What was put last, where, how many times there, and the gesture that did. */
+    this.last = { text: "", x: 0, y: 0, times: 0, gesture: /** @type {import("../board/edits.js").Gesture | null | undefined} */ (null) };
     document.addEventListener("copy", (event) => isFree(event) && this.take(event, false));
     document.addEventListener("cut", (event) => isFree(event) && !ed.readOnly && this.take(event, true));
     document.addEventListener("paste", (event) => isFree(event) && this.pasted(event));
@@ -97,8 +102,10 @@ export class Clipboard {
       return false;
     }
     const drawing = readDrawing(text);
-    if (drawing) this.putItems(drawing.items, name);
-    else this.putText(text.trim(), name);
+    const at = this.placeFor(text);
+    if (drawing) this.putItems(drawing.items, name, at);
+    else this.putText(text.trim(), name, at);
+    this.last.gesture = ed.edits.done.at(-1);
     if (drawing?.left) ed.banner({ text: `${count(drawing.left, "part")} of it couldn’t be taken: turned ones, paths, pictures`, lasts: 8000 });
     return true;
   }
@@ -111,11 +118,25 @@ export class Clipboard {
   }
 
   /**
+   * The place for a text: where the same was put there already, and is there still, a little beside the last one.
+   * @param {string} text
+   */
+  placeFor(text) {
+    const { ed, last } = this;
+    const { x, y } = this.place();
+    const isThere = Math.hypot(x - last.x, y - last.y) * ed.camera.zoom < NEAR;
+    const isAgain = text === last.text && isThere && ed.edits.done.includes(last.gesture);
+    this.last = { text, x, y, times: isAgain ? last.times + 1 : 0, gesture: null };
+    const by = this.last.times * STEP;
+    return { x: x + by, y: y + by };
+  }
+
+  /**
    * @param {import("./reading.js").Drawn[]} items
    * @param {string} name
+   * @param {{x: number, y: number}} at
    */
-  putItems(items, name) {
-    const at = this.place();
+  putItems(items, name, at) {
     const shapes = items.filter((item) => item.kind !== "group");
     const box = around(shapes.map((item) => ({
       x0: Math.min(item.x, item.x + item.w), y0: Math.min(item.y, item.y + item.h),
@@ -133,11 +154,11 @@ export class Clipboard {
    * A text of more bytes than a label has becomes several, one below the other.
    * @param {string} text
    * @param {string} name
+   * @param {{x: number, y: number}} at
    */
-  putText(text, name) {
+  putText(text, name, { x, y }) {
     const { ed } = this;
     const style = ed.styleFor("text");
-    const { x, y } = this.place();
     let top = y;
     /** @type {string[]} */
     const lines = [];

@@ -135,7 +135,7 @@ const HISTORY = commandsOf("History", [
   ["histPrev", "One step back", "prev", ["Alt+ArrowLeft"], hasEvents, (ed) => ed.history.step(-1)],
   ["histNext", "One step on", "next", ["Alt+ArrowRight"], hasEvents, (ed) => ed.history.step(1)],
   ["histPlay", "Play the history", "play", ["Shift+P"], hasEvents, (ed) => ed.history.play()],
-  ["histLate", "Next late event", "late", ["Alt+L"], hasLate, (ed) => ed.history.lateStep()],
+  ["histLate", "Next late edit", "late", ["Alt+L"], hasLate, (ed) => ed.history.lateStep()],
   ["histNow", "Back to now", "now", ["Alt+N"], isPast, (ed) => ed.history.toNow()],
 ]);
 
@@ -148,10 +148,10 @@ const FILE = commandsOf("File", [
   ["print", "Print", "print", ["Mod+P"], hasItems, (ed) => ed.exporting.print()],
   ["copySvg", "Copy as SVG", "image", ["Mod+Shift+C"], hasItems, (ed) => ed.exporting.copySvg()],
   ["copyPng", "Copy as PNG", "image", ["Alt+Shift+C"], hasItems, (ed) => ed.exporting.copyPng()],
-  ["saveLog", "Save the journal", "history", [], always, (ed) => ed.exporting.saveFrom("log")],
+  ["saveLog", "Save the whole file with its history (journal)", "history", [], always, (ed) => ed.exporting.saveFrom("log")],
   ["saveJson", "Save as JSON", "save", [], always, (ed) => ed.exporting.saveFrom("json")],
   ["saveText", "Save as lines", "save", [], always, (ed) => ed.exporting.saveFrom("text")],
-  ["saveEvents", "Save the list of events", "history", [], always, (ed) => ed.exporting.saveFrom("events")],
+  ["saveEvents", "Save the list of all edits (events)", "history", [], always, (ed) => ed.exporting.saveFrom("events")],
 ]);
 
 const PEOPLE = commandsOf("People", [

@@ -136,7 +136,7 @@ const sentence = (text) => `${text[0].toUpperCase()}${text.slice(1)}`;
  * @param {string} [it] what was deleted
  */
 const lostWords = (ed, gone, change, it = "it") =>
-  sentence(`${didIt(ed, gone, it)} while ${didIt(ed, change)}: the ${NOUNS[change.op]} was not applied`);
+  sentence(`${didIt(ed, gone, it)} while ${didIt(ed, change)}, so the ${NOUNS[change.op]} changes nothing`);
 
 /**
  * What a delete that came late has made void, or nothing: the change of it.
@@ -157,15 +157,13 @@ function voidedBy(ed, event) {
 export function repairOf(ed, event) {
   const { late } = event;
   if (!late) return "";
-  const behind = count(late.behind, "later edit");
-  if (late.what === "applied") return `Came late, behind ${behind}, and touches none of them`;
+  if (late.what === "applied") return `Came late, behind ${count(late.behind, "later edit")}, and touches none of them`;
   if (late.what === "dropped") {
     const by = late.by ? ed.node.history.byStamp.get(late.by) : null;
-    if (!by) return `Came late, behind ${behind}: one of those overwrites it, so nothing had to be done`;
+    if (!by) return "Changed nothing: it came late, and a later edit covers it";
     // A third one may have deleted it because of this very edit.
     if (by.op === "delete" && by.site === ed.node.site) return lostWords(ed, by, event);
-    const [so, counts] = by.op === "delete" ? [`the ${NOUNS[event.op]}`, "shows nowhere"] : [`the later ${NOUNS[by.op]}`, "counts"];
-    return `Came late, behind ${behind}: ${didIt(ed, by)}, so ${so} ${counts}`;
+    return `Changed nothing: it came late, and later ${didIt(ed, by)}${by.op === "delete" ? "" : ", which counts"}`;
   }
   const change = voidedBy(ed, event);
   if (change) return lostWords(ed, event, change);
@@ -203,6 +201,28 @@ export function voidOf(ed, event) {
   const { events } = ed.node;
   const gone = events.slice(0, events.indexOf(event)).find((each) => each.op === "delete" && each.id === event.id);
   return gone ? lostWords(ed, gone, event) : "";
+}
+
+/** @param {number} number */
+function ordinal(number) {
+  const isTeen = number % 100 > 10 && number % 100 < 14;
+  return `${number.toLocaleString("en")}${(!isTeen && ["", "st", "nd", "rd"][number % 10]) || "th"}`;
+}
+
+/**
+ * Which of someone's edits an event is: `your 3rd edit`.
+ * @param {Ed} ed
+ * @param {Event} event
+ */
+export function ordinalOf(ed, event) {
+  const { events } = ed.node;
+  let number = 0;
+  for (const each of events) {
+    if (each.site === event.site) number += 1;
+    if (each === event) break;
+  }
+  const name = ed.people.name(event.site);
+  return `${name === "You" ? "your" : `${name}’s`} ${ordinal(number)} edit`;
 }
 
 /**

@@ -33,7 +33,7 @@ export function makeFile(ed, host) {
     const box = menu.getBoundingClientRect();
     ed.menu.open(box.left, box.bottom + 8, parts, menu, note);
   };
-  ed.openSaves = () => open(SAVES, `All is kept already, in ${ed.node.journal || "the journal"}`);
+  ed.openSaves = () => open(SAVES, `All is kept already, in ${ed.node.journal || "the drawing’s file"}`);
   const name = h("h1", { class: "board-name", title: "" });
   const dot = h("span", { class: "dot-state", "aria-hidden": "true" });
   const words = h("span", { class: "state-words" });

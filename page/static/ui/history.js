@@ -11,6 +11,7 @@ import { icon } from "./icons.js";
 import { Lane } from "./lane.js";
 import { under } from "./putting.js";
 import { stepAt, stepFrom } from "./steps.js";
+import { count } from "./words.js";
 
 /** @typedef {import("../core/types.js").Event} Event */
 
@@ -35,11 +36,11 @@ export class HistoryBar {
     this.frame = 0;
     this.lane = new Lane(ed);
     this.arrivals = new Arrivals(ed);
-    this.range = h("input", { type: "range", min: 0, step: 1, "aria-label": "History: the drawing behind this event" });
+    this.range = h("input", { type: "range", min: 0, step: 1, "aria-label": "History: the drawing after this edit" });
     this.tip = h("div", { class: "hist-tip", hidden: true });
     this.track = h("div", { class: "lane" }, this.lane.canvas, this.range, this.tip);
     this.playing = button("play", "Play the history", () => this.play(), { key: "Shift+P" });
-    const lateProps = { type: "button", class: "late-count", "data-tip": `Next late event · ${keyText("Alt+L")}` };
+    const lateProps = { type: "button", class: "late-count", "data-tip": `Next late edit · ${keyText("Alt+L")}` };
     this.late = h("button", lateProps, icon("late", 16), h("span"));
     this.now = h("button", { type: "button", class: "now" }, "Now");
     this.card = new Card(ed, this);
@@ -53,7 +54,8 @@ export class HistoryBar {
       this.go(Number(this.range.value));
     });
     this.track.addEventListener("pointermove", (event) => this.hover(event));
-    this.track.addEventListener("pointerleave", () => this.leave());
+    for (const each of ["pointerleave", "pointercancel"]) this.track.addEventListener(each, () => this.leave());
+    addEventListener("blur", () => this.leave());
     this.late.addEventListener("click", () => this.lateStep());
     this.now.addEventListener("click", () => this.toNow());
     new ResizeObserver(() => this.draw()).observe(this.track);
@@ -78,9 +80,9 @@ export class HistoryBar {
     const lates = this.lates().length;
     this.late.hidden = !lates;
     /** @type {HTMLElement} */ (this.late.lastElementChild).textContent = String(lates);
-    this.late.setAttribute("aria-label", `${lates} late ${lates === 1 ? "event" : "events"}: go to the next`);
+    this.late.setAttribute("aria-label", `${count(lates, "late edit")}: go to the next`);
     this.host.hidden = !events.length;
-    if (this.at === null) this.range.setAttribute("aria-valuetext", `Now, behind ${events.length} events`);
+    if (this.at === null) this.range.setAttribute("aria-valuetext", `Now, after ${count(events.length, "edit")}`);
     this.draw();
   }
 
@@ -102,12 +104,13 @@ export class HistoryBar {
       this.draw();
     }
     const seen = this.events[k];
-    if (!seen || event.pointerType === "touch") return;
+    // The card says it where there is one, and stands in its place.
+    this.tip.hidden = !seen || event.pointerType === "touch" || this.at !== null;
+    if (!seen || this.tip.hidden) return;
     const { who, what } = deedOf(this.ed, seen);
     const note = isRepaired(seen) && h("span", { class: "late-note" }, repairOf(this.ed, seen));
     const name = h("b", { vars: { "--who": personColour(seen.site, this.ed.scene.dark) } }, who);
     this.tip.replaceChildren(name, ` ${what}`, ...(note ? [note] : []));
-    this.tip.hidden = false;
     const left = Math.max(-60, Math.min(box.width - this.tip.offsetWidth + 60, this.lane.x(k) - this.tip.offsetWidth / 2));
     this.tip.style.transform = `translateX(${left}px)`;
   }
@@ -127,12 +130,13 @@ export class HistoryBar {
     const at = Math.max(0, Math.min(events.length, k));
     if (this.at === null && !this.enterPast()) return;
     this.at = at;
+    this.tip.hidden = true;
     ed.model.show(ed.node.itemsAt(at));
     ed.overlay.flashes = [];
     const step = stepAt(ed.node, at);
     if (step.length) this.light(step, at);
     this.range.value = String(at);
-    this.range.setAttribute("aria-valuetext", step.length ? this.words(step, at) : "Before the first event");
+    this.range.setAttribute("aria-valuetext", step.length ? this.words(step, at) : "Before the first edit");
     this.card.show(step, at);
     this.draw();
     ed.setReadOnly(IN_PAST);
@@ -162,7 +166,7 @@ export class HistoryBar {
     const ids = [...new Set(step.map((each) => each.id))].filter((id) => ed.model.byId.has(id));
     const place = ids.length ? null : this.placeBefore(step, at);
     const redone = event.late?.redone ?? [];
-    const came = event.late?.what === "dropped" ? "came late, overwritten" : `came late, ${redone.length} redone`;
+    const came = event.late?.what === "dropped" ? "came late, covered by a later edit" : `came late, ${count(redone.length, "edit")} redone`;
     const isLate = isRepaired(event);
     const text = isLate ? `${who}: ${came}` : `${who} ${what.split(" ")[0]}`;
     ed.overlay.flash(ids, event.late && isLate ? event.late.what : "applied", text, STAYS, place);
@@ -244,7 +248,9 @@ export class HistoryBar {
   /** @param {boolean} isOn */
   showPlaying(isOn) {
     this.playing.replaceChildren(icon(isOn ? "pause" : "play"));
-    this.playing.setAttribute("aria-label", isOn ? "Pause" : "Play the history");
+    const title = isOn ? "Pause" : "Play the history";
+    this.playing.setAttribute("aria-label", title);
+    this.playing.dataset.tip = `${title} · ${keyText("Shift+P")}`;
   }
 
   stop() {
@@ -260,6 +266,7 @@ export class HistoryBar {
     this.at = null;
     ed.overlay.flashes = [];
     this.card.hide();
+    this.leave();
     document.body.dataset.past = "";
     ed.setReadOnly(ed.standing.readOnly());
     ed.changed();

@@ -96,7 +96,7 @@ export class Inviting {
   /** @param {Child[]} parts */
   fill(...parts) {
     const left = this.ed.node.carried?.invites ?? 0;
-    const rest = h("p", { class: "fine" }, `${count(left, "seat is", "seats are")} free.`);
+    const rest = h("p", { class: "fine" }, `${count(left, "place is", "places are")} free.`);
     const watch = h("button", { type: "button", class: "quiet watch", onclick: () => this.letWatch(watch) }, "A link to look on");
     this.pop.replaceChildren(h("div", {}, h("h2", {}, "Invite one person"), parts, rest, this.ed.node.carried?.watches ? watch : null));
     this.pop.hidden = false;
@@ -105,7 +105,7 @@ export class Inviting {
   offer() {
     const make = h("button", { type: "button", class: "primary", onclick: () => this.make(make) }, "Make a link");
     const isLeft = Boolean(this.ed.node.carried?.invites);
-    this.fill(h("p", { class: "fine" }, "A link gives one seat of this session to one person, for good."), isLeft ? make : null);
+    this.fill(h("p", { class: "fine" }, "A link gives one person a place in this drawing, for good."), isLeft ? make : null);
     if (isLeft) make.focus();
   }
 
@@ -118,7 +118,7 @@ export class Inviting {
     try {
       const { link, code } = await this.ed.node.letWatch();
       const note = h("p", { class: "fine", role: "status" },
-        `For all who only look on: they see the drawing and draw nothing. It is used by ${CALLED} --watch LINK, and can’t be taken back.`);
+        `For all who only look on: they see the drawing and draw nothing. They start with it: ${CALLED} --watch LINK. It can’t be taken back.`);
       this.pop.replaceChildren(h("div", {}, h("h2", {}, "A link to look on"), this.parts(link, code, note)));
     } catch (why) {
       this.close();
@@ -158,7 +158,7 @@ export class Inviting {
   /** @param {{link: string, code: string[] | null}} made */
   show({ link, code }) {
     const note = h("p", { class: "fine", role: "status" },
-      `For one person, once. Who has it can draw, so hand it over in a way that nobody else reads. It is used by ${CALLED} --join LINK --journal FILE.`);
+      `For one person, once. Who has it can draw, so hand it over in a way that nobody else reads. They start with it: ${CALLED} --join LINK --journal FILE (FILE keeps the drawing there).`);
     const another = h("button", { type: "button", class: "quiet", onclick: () => this.make(another) }, "Make another link");
     this.fill(...this.parts(link, code, note), this.ed.node.carried?.invites ? another : null);
     const field = /** @type {HTMLInputElement} */ (this.pop.querySelector(".field"));

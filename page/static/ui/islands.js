@@ -42,6 +42,7 @@ const find = (id) => /** @type {HTMLElement} */ (document.getElementById(id));
  * @param {Ed} ed
  */
 export function makeIslands(ed) {
+  dropTips();
   makeBanners(ed, find("said"), find("banners"), find("bubbles"));
   const names = makeNames(ed);
   makeView(ed);
@@ -80,6 +81,21 @@ export function makeIslands(ed) {
     ed.editor.place();
     ed.pointing.place();
   };
+}
+
+/** A tip goes once its button was pressed, until the pointer comes again: it says nothing new, and covers what is behind it. */
+function dropTips() {
+  /** @type {HTMLElement | null} */
+  let pressed = null;
+  addEventListener("pointerdown", (event) => {
+    pressed = event.target instanceof Element ? event.target.closest("[data-tip]") : null;
+    if (pressed) pressed.dataset.pressed = "1";
+  }, true);
+  addEventListener("pointerover", (event) => {
+    if (!pressed || (event.target instanceof Node && pressed.contains(event.target))) return;
+    delete pressed.dataset.pressed;
+    pressed = null;
+  }, true);
 }
 
 /**

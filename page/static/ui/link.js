@@ -6,7 +6,7 @@ import { h } from "./h.js";
 
 const SLIDERS = /** @type {const} */ ([
   ["loss", "Lost", 90, " %"],
-  ["twice", "Doubled", 90, " %"],
+  ["twice", "Sent twice", 90, " %"],
   ["delay", "Delayed up to", 3000, " ms"],
 ]);
 
@@ -51,12 +51,12 @@ export function cutSwitch(title, toggle) {
  */
 export function makeLink(ed, host) {
   const { parts, show } = linkControls((settings) => ed.node.setLink(settings));
-  const cut = cutSwitch("Cut this site off", () => {
+  const cut = cutSwitch("Go offline, to try it", () => {
     const others = (ed.node.link?.cut ?? []).filter((site) => site !== ed.node.site);
     const isCut = ed.node.link?.cut.includes(ed.node.site);
     ed.node.setLink({ cut: isCut ? others : [...others, ed.node.site] });
   });
-  const sliders = h("details", {}, h("summary", {}, "Lose, double and delay"), ...parts);
+  const sliders = h("details", {}, h("summary", {}, "Make the network worse"), ...parts);
   host.append(cut, sliders);
   let shown = "";
   return {

@@ -1,6 +1,7 @@
 // The page of a demonstration: a pane for each site, with a page of its own, and the controls of the link between them.
 
 import { CALLED } from "../core/called.js";
+import { calledOf } from "../core/people.js";
 import { Wire } from "../core/wire.js";
 import { h } from "./h.js";
 import { cutSwitch, linkControls } from "./link.js";
@@ -29,15 +30,15 @@ const send = (settings) => wire.send({ do: "link", id: 0, ...settings });
 function makePanes(desks) {
   if (switches.size) return;
   for (const desk of desks) {
-    const cut = cutSwitch("cut off", () => {
+    const cut = cutSwitch("offline", () => {
       const others = link.cut.filter((site) => site !== desk);
       send({ cut: link.cut.includes(desk) ? others : [...others, desk] });
     });
-    cut.setAttribute("aria-label", `Site ${desk} is cut off`);
+    cut.setAttribute("aria-label", `Cut ${calledOf(desk)} off`);
     switches.set(desk, cut);
     const alone = h("a", { href: `./?desk=${desk}`, target: "_blank", rel: "noopener" }, "in a window of its own");
-    const head = h("div", { class: "pane-head" }, h("h2", {}, `Site ${desk}`), alone, cut);
-    host.append(h("section", { class: "pane" }, head, h("iframe", { src: `./?desk=${desk}`, title: `Site ${desk}` })));
+    const head = h("div", { class: "pane-head" }, h("h2", {}, calledOf(desk)), alone, cut);
+    host.append(h("section", { class: "pane" }, head, h("iframe", { src: `./?desk=${desk}`, title: calledOf(desk) })));
   }
 }
 

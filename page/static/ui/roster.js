@@ -1,5 +1,6 @@
 // People: their faces in the corner, and a list with who is here, who is away, what they look at, and one's own name.
 
+import { calledOf } from "../core/people.js";
 import { personColour } from "../board/colours.js";
 import { h } from "./h.js";
 import { howToInvite, seatWords, watchedWords, whatToCheck } from "./seating.js";
@@ -29,10 +30,10 @@ export function stateOf(seat, peer) {
 }
 
 /**
- * What stands for a person in a circle: the first letter of the name, or the number of the site while there is no name.
+ * What stands for a person in a circle: the first letter of the name, or a number while there is no name.
  * @param {Seat} seat
  */
-export const letterOf = ({ site, name }) => (name === `Site ${site}` ? String(site) : initialOf(name));
+export const letterOf = ({ site, name }) => (name === calledOf(site) ? String(site) : initialOf(name));
 
 export class Roster {
   /**
@@ -149,7 +150,7 @@ export class Roster {
   stateWords(seat) {
     const looks = this.looksAt(seat);
     const state = this.state(seat) + seatWords(this.ed.node.carried, seat.site);
-    return `site ${seat.site} · ${state}${looks ? `, looks at ${this.ed.short(looks)}` : ""}`;
+    return `${state}${looks ? `, looks at ${this.ed.short(looks)}` : ""}`;
   }
 
   /** @param {Seat} seat */
@@ -175,7 +176,7 @@ export class Roster {
   rename() {
     const me = this.ed.people.seats.find((seat) => seat.me);
     const field = h("input", { class: "field", "aria-label": "Your name", spellcheck: "false", autocomplete: "off", dir: "auto" });
-    field.value = me && me.name !== `Site ${me.site}` ? me.name : "";
+    field.value = me && me.name !== calledOf(me.site) ? me.name : "";
     const note = h("p", { class: "fine", role: "status" }, "All others see it beside what you select and draw.");
     const save = h("button", { type: "submit", class: "primary" }, "Save");
     const form = h("form", { class: "rename" }, h("h2", {}, "Your name"), field, save, note);

@@ -25,8 +25,8 @@ export function seatWords(carried, site) {
   if (!seat) return "";
   const words = [];
   if (!seat.here && seat.heard !== null) words.push(`last heard ${ago(seat.heard)}`);
-  if (seat.missing) words.push(`${count(seat.missing, "edit")} of it not here yet`);
-  if (seat.lies) words.push("has told two stories: what it drew differs from one to another");
+  if (seat.missing) words.push(`${count(seat.missing, "edit")} not here yet`);
+  if (seat.lies) words.push("has shown different drawings to different people: the same place is used twice");
   return words.map((each) => `, ${each}`).join("");
 }
 
@@ -34,15 +34,15 @@ export function seatWords(carried, site) {
  * What the members are told where others may look on.
  * @param {Carried | null} carried
  */
-export const watchedWords = (carried) => (carried?.watched ? "Others may look on: the founder made a link for that." : "");
+export const watchedWords = (carried) => (carried?.watched ? "Others may look on: there is a link for that." : "");
 
 /**
  * How people come to this session, where nobody can be invited from here.
  * @param {Carried | null} carried
  */
 export function howToInvite(carried) {
-  if (carried) return "Who founded this session can invite others, as long as seats are free.";
-  return `Who draws here was named when the session began. For one to which a link invites people: ${CALLED} --found`;
+  if (carried) return "Who began this drawing can invite others, as long as places are free.";
+  return `Who draws here was set when this drawing was started. For one to which a link invites people, start it with: ${CALLED} --found`;
 }
 
 /**
@@ -51,7 +51,7 @@ export function howToInvite(carried) {
  */
 export function whatToCheck(carried) {
   if (!carried || carried.seats.some((seat) => seat.here)) return "";
-  if (!carried.up) return `Is the broker at ${carried.broker} running, and does this machine reach it?`;
-  if (!carried.seats.length) return "Nobody else has a seat yet: invite somebody.";
-  return `The broker is reached, and nobody else is connected to it. Does ${CALLED} run at the others?`;
+  if (!carried.up) return `Is the broker (the server that passes edits on) at ${carried.broker} running, and does this machine reach it?`;
+  if (!carried.seats.length) return "Nobody else is in this drawing yet: invite somebody.";
+  return `The broker (the server that passes edits on) is reached, and nobody else is connected to it. Does ${CALLED} run at the others?`;
 }

@@ -1,6 +1,7 @@
 // Where the node stands, in words: in the island of the file always, and in a banner where someone has to know it.
 
 import { CALLED } from "../core/called.js";
+import { retell } from "./banners.js";
 import { count } from "./words.js";
 
 /** @typedef {import("./file.js").FileIsland} FileIsland */
@@ -45,18 +46,18 @@ const waits = (waiting) => `${count(waiting, "edit")} ${waiting === 1 ? "waits" 
  */
 export function stateOf({ connected, why, ended, silent, quiet, waiting, others, here, wasHere, watcher }) {
   if (!connected) {
-    const kept = watcher || why === "taken" ? "" : " All accepted edits are in the journal.";
+    const kept = watcher || why === "taken" ? "" : " All edits until now are safe in the drawing’s file.";
     return { kind: "lost", words: why === "taken" ? "Taken" : "No connection", banner: `${LOST[why ?? "unknown"]}${kept}` };
   }
   if (watcher) return { kind: "watches", words: "You look on", banner: null };
   if (ended) {
     const meaning = ended.meaning ? `: ${ended.meaning}` : "";
-    const banner = `The node has ended${meaning}. All accepted edits are in its journal.`;
-    return { kind: "ended", words: "The node has ended", banner };
+    const banner = `The program that keeps the drawing has ended${meaning}. All edits until now are safe in its file.`;
+    return { kind: "ended", words: "Ended", banner };
   }
   if (silent) {
-    const banner = "The node doesn’t answer. What you draw now waits until it does.";
-    return { kind: "silent", words: "The node is silent", banner };
+    const banner = "The program that keeps the drawing doesn’t answer. What you draw now waits until it does.";
+    return { kind: "silent", words: "No answer", banner };
   }
   if (!others) return { kind: "on", words: "You draw alone", banner: null };
   if (here && waiting) return { kind: "waits", words: `${waits(waiting)} for others`, banner: null };
@@ -74,7 +75,7 @@ const NEWS_EACH = 2000;
 const TONES = /** @type {const} */ ({ lost: "warn", ended: "warn", silent: "warn", off: "calm" });
 const WHY_NOT = /** @type {Record<string, string>} */ ({
   lost: `there is no connection to ${CALLED}`,
-  ended: "the node has ended, start it again",
+  ended: "the program that keeps the drawing has ended, start it again",
   watches: "this page only looks on",
 });
 
@@ -108,8 +109,7 @@ export class StandingIsland {
     this.state = next;
     if (isOther) {
       // A number that goes up is no new banner.
-      const words = isKind && next.banner ? this.banner?.querySelector("span") : null;
-      if (words?.isConnected) words.textContent = next.banner;
+      if (isKind && next.banner && this.banner?.isConnected) retell(this.banner, next.banner, next.words);
       else this.show();
       if (ed.history.at === null) ed.setReadOnly(this.readOnly());
     }
@@ -131,13 +131,15 @@ export class StandingIsland {
   }
 
   show() {
-    const { kind, banner: text } = this.state;
+    const { kind, words, banner: text } = this.state;
     this.banner?.remove();
     this.banner = null;
     if (!text) return;
     const action = { lost: "Try again", ended: "Start it again" }[/** @type {string} */ (kind)];
     const tone = TONES[/** @type {keyof typeof TONES} */ (kind)];
-    this.banner = this.ed.banner({ text, tone, icon: "offline", stays: true, action, run: () => this.again() });
+    // What has a button has to be done before one can draw on.
+    const short = action ? undefined : words;
+    this.banner = this.ed.banner({ text, tone, icon: "offline", stays: true, short, action, run: () => this.again() });
   }
 
   /** Tries the connection, or starts the node again. */
@@ -171,11 +173,11 @@ export class StandingIsland {
  */
 export function strangerWords(line) {
   const why = /^frame refused: (\w+)/.exec(line)?.[1];
-  if (why === "Session") return "Somebody sends frames of another session: is the session’s number the same at all sites?";
+  if (why === "Session") return "Somebody’s edits are of another drawing: did all start it with the same number behind --session?";
   if (why === "NotForMe" || why === "FromMe" || why === "NoSuchSite") {
-    return "Somebody sends frames for another site: are the addresses in the same order at all sites?";
+    return "Somebody’s edits are meant for another person: did all start it with the addresses in the same order?";
   }
-  return why ? "Something sends datagrams here that are no frames" : null;
+  return why ? "Something else on the network sends data to this drawing’s address. It is passed over" : null;
 }
 
 /**

@@ -87,7 +87,7 @@ function walk(ed, step) {
 }
 
 /**
- * Leaves off what is most in front: a gesture, a list of people, the past, a tool, a group, the selection.
+ * Leaves off what is most in front: a gesture, a list of people, the past, a tool, a group, the selection, what is said.
  * @param {Ed} ed
  */
 function escape(ed) {
@@ -98,7 +98,8 @@ function escape(ed) {
   else if (ed.history.at !== null) ed.history.toNow();
   else if (ed.tool !== "select") ed.setTool("select");
   else if (selection.scope) leaveGroup(ed, selection.scope);
-  else selection.clear();
+  else if (selection.ids.size) selection.clear();
+  else ed.banner(null);
 }
 
 /**

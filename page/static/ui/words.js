@@ -14,11 +14,11 @@ const REFUSALS = /** @type {Record<string, string>} */ ({
   NotGroup: "that is no group",
   NothingBack: "nothing is left to take back",
   NotTakeable: "that can’t be taken back",
-  SessionFull: "this site has made its 65,535 edits",
-  ClockEnd: "this session has no room for more edits",
-  NoteEnd: "this site has made its 65,535 notes",
-  Ended: "the node has ended",
-  Lost: "there is no connection to the node",
+  SessionFull: "you have made all 65,535 edits that a drawing takes from one person",
+  ClockEnd: "this drawing has no room for more edits",
+  NoteEnd: "others can’t be told of more selections: it was 65,535 times",
+  Ended: "the program that keeps the drawing has ended",
+  Lost: "there is no connection to the program that keeps the drawing",
 });
 
 /**

@@ -11,7 +11,7 @@ const { stateOf, nameOf, strangerWords } = await import("../../static/ui/standin
 const { letterOf, stateOf: personState } = await import("../../static/ui/roster.js");
 const { count, initialOf, plainWords, shortened } = await import("../../static/ui/words.js");
 const { tellArrived } = await import("../../static/ui/arrivals.js");
-const { deedOf, lossAmong, repairOf, stepDeedOf, voidOf } = await import("../../static/ui/deeds.js");
+const { deedOf, lossAmong, ordinalOf, repairOf, stepDeedOf, voidOf } = await import("../../static/ui/deeds.js");
 
 test("a key goes by what it types where that is Latin, else by where it lies", () => {
   const none = { shiftKey: false, altKey: false, ctrlKey: false, metaKey: false };
@@ -69,7 +69,7 @@ test("where the node stands, in words", () => {
   assert.match(ended.banner, /its journal failed/);
   assert.equal(stateOf({ ...fine, silent: true }).kind, "silent");
   const strangers = [
-    ["frame refused: Session", /another session/], ["frame refused: NotForMe", /same order/], ["frame refused: Short at 0", /no frames/],
+    ["frame refused: Session", /another drawing/], ["frame refused: NotForMe", /same order/], ["frame refused: Short at 0", /Something else on the network/],
     ["polled 1", null], ["echo 1.1 applied", null],
   ];
   for (const [line, words] of strangers) words ? assert.match(strangerWords(line), words) : assert.equal(strangerWords(line), null);
@@ -87,7 +87,7 @@ test("where another person is, in words", () => {
   ];
   for (const [peer, words] of rows) assert.equal(personState(seat, peer), words);
   assert.equal(personState({ ...seat, me: true }, undefined), "you");
-  assert.deepEqual([letterOf(seat), letterOf({ ...seat, name: "Site 2" }), letterOf({ ...seat, name: "Site 7" })], ["B", "2", "S"]);
+  assert.deepEqual([letterOf(seat), letterOf({ ...seat, name: "Person 2" }), letterOf({ ...seat, name: "Person 7" })], ["B", "2", "P"]);
 });
 
 test("counts, initials, refusals and long texts", () => {
@@ -138,11 +138,20 @@ test("what an event did, and how it was repaired", () => {
   assert.equal(repairOf(ed, event("6.2", 3)), "");
   const rows = [
     [late("applied"), /^Came late, behind 2 later edits, and touches none/],
-    [late("dropped", [], "7.1"), /^Came late, behind 2 later edits: you moved it, so the later move counts$/],
+    [late("dropped", [], "7.1"), /^Changed nothing: it came late, and later you moved it, which counts$/],
     [late("reworked", ["7.1"]), /^Came late: 1 later edit that depends on it was undone/],
     [late("reworked", ["7.1", "8.1"]), /^Came late: 2 later edits that depend on it were undone/],
   ];
   for (const [each, words] of rows) assert.match(repairOf(ed, event("6.2", 3, { late: each })), words);
+});
+
+test("which of someone's edits an event is", () => {
+  const events = Array.from({ length: 23 }, (_, at) => event(`${at + 1}.2`, at));
+  const own = event("30.1", 30);
+  const ed = page([...events, own]);
+  const words = (at) => ordinalOf(ed, events[at - 1]);
+  assert.deepEqual([1, 2, 3, 4, 11, 12, 13, 21, 22, 23].map(words), ["1st", "2nd", "3rd", "4th", "11th", "12th", "13th", "21st", "22nd", "23rd"].map((each) => `Bob’s ${each} edit`));
+  assert.equal(ordinalOf(ed, own), "your 1st edit");
 });
 
 test("what one deleted while another changed it is said so, by whichever event one looks at", () => {
@@ -151,12 +160,12 @@ test("what one deleted while another changed it is said so, by whichever event o
   const coloured = event("8.1", 2, { op: "stroke" });
   const gone = event("6.2", 3, { op: "delete", late: late("reworked", ["7.1", "8.1"]) });
   const ed = page([made, gone, moved, coloured]);
-  assert.equal(repairOf(ed, gone), "Bob deleted it while you moved it: the move was not applied");
+  assert.equal(repairOf(ed, gone), "Bob deleted it while you moved it, so the move changes nothing");
   assert.deepEqual(lossAmong(ed, [event("5.2", 9, { id: "2.2" }), gone]), {
-    event: gone, words: "Bob deleted “Start” while you moved it: the move was not applied",
+    event: gone, words: "Bob deleted “Start” while you moved it, so the move changes nothing",
   });
-  assert.equal(voidOf(ed, moved), "Bob deleted it while you moved it: the move was not applied");
-  assert.equal(voidOf(ed, coloured), "Bob deleted it while you coloured it: the colour was not applied");
+  assert.equal(voidOf(ed, moved), "Bob deleted it while you moved it, so the move changes nothing");
+  assert.equal(voidOf(ed, coloured), "Bob deleted it while you coloured it, so the colour changes nothing");
   assert.equal(voidOf(ed, made), "");
   ed.model.byId.set("1.1", {});
   assert.equal(voidOf(ed, moved), "");
@@ -165,12 +174,12 @@ test("what one deleted while another changed it is said so, by whichever event o
   const third = event("9.3", 5, { op: "delete" });
   const wrote = (by) => event("6.2", 6, { op: "text", late: late("dropped", [], by) });
   const there = page([made, own, third]);
-  assert.equal(repairOf(there, wrote("9.1")), "You deleted it while Bob wrote in it: the text was not applied");
-  assert.equal(repairOf(there, wrote("9.3")), "Came late, behind 2 later edits: Chen deleted it, so the text shows nowhere");
+  assert.equal(repairOf(there, wrote("9.1")), "You deleted it while Bob wrote in it, so the text changes nothing");
+  assert.equal(repairOf(there, wrote("9.3")), "Changed nothing: it came late, and later Chen deleted it");
   assert.equal(lossAmong(there, [event("6.2", 3, { id: "2.2", late: late("reworked", ["7.1"]) })]), null);
   // What came behind one's own delete is void too, and what another one deleted here isn't one's own.
   const moved2 = event("9.2", 7);
-  assert.deepEqual(lossAmong(there, [moved2]), { event: moved2, words: "You deleted “Start” while Bob moved it: the move was not applied" });
+  assert.deepEqual(lossAmong(there, [moved2]), { event: moved2, words: "You deleted “Start” while Bob moved it, so the move changes nothing" });
   assert.equal(lossAmong(page([made, third]), [moved2]), null);
 });
 
