@@ -114,7 +114,7 @@ def demo_desks(given, audience, room):
     proxy = Proxy(given.demo, audience)
     desks = []
     for site in range(1, given.demo + 1):
-        journal = Path(room) / f"site-{site}.log"
+        journal = Path(room) / f"person-{site}.log"
         command = node_command(given.program.resolve(), DEMO_SESSION, site, journal, proxy.addresses(site))
         desks.append(Desk(site, command, journal, audience, DEMO_SESSION))
     return desks, proxy

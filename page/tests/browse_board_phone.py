@@ -271,7 +271,7 @@ class Past(OnPhone):
         self.assertEqual(self.page.text(".late-count span"), "1")
         self.page.tap_on("#banners .quiet")
         self.assertEqual(self.page.ask("ed.history.at"), late)
-        self.assertRegex(self.page.text(".hist-late"), "Came late|was not applied")
+        self.assertRegex(self.page.text(".hist-late"), "Came late|came late|changes nothing")
         self.page.picture("phone-late-card")
         self.page.tap_on(".hist-card .primary")
         wait_for(lambda: self.page.ask("ed.history.at") is None)

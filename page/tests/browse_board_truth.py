@@ -191,7 +191,7 @@ class Broken(WithBoard):
         wait_for(lambda: self.one.ask("ed.node.ended !== null"))
         before = self.one.shown()
         self.one.do("ed.setReadOnly(null); ed.edits.do('m', [`move ${arguments[0]} 5 5`])", rect)
-        wait_for(lambda: "node has ended" in self.one.bubble())
+        wait_for(lambda: "has ended" in self.one.bubble())
         self.assertEqual(self.one.shown(), before)
         self.one.do("ed.node.restart()")
         wait_for(lambda: self.one.ask("ed.node.ended === null"))

@@ -5,7 +5,7 @@ import os
 import unittest
 
 from page.draw import ROOT
-from page.tests.browser import Page, Run, browser
+from page.tests.browser import UNHURRIED, Page, Run, browser
 from page.tests.places import wait_for
 
 SETTLE = "const [field, value] = arguments; field.value = value; field.dispatchEvent(new Event('input')); field.dispatchEvent(new Event('change'));"
@@ -35,6 +35,7 @@ class Pane(Page):
         self.number = number
         self.driver = driver
         wait_for(lambda: self.ask("document.body?.dataset.ready"))
+        self.do(UNHURRIED)
 
     def ask(self, expression, *given):
         self.enter()
@@ -128,7 +129,7 @@ class Demonstration(unittest.TestCase):
         pane = two if two.ask("ed.history.lates().length") else one
         pane.do(best)
         wait_for(lambda: pane.find(".hist-card").is_displayed())
-        self.assertRegex(pane.text(".hist-card"), "Came late|was not applied")
+        self.assertRegex(pane.text(".hist-card"), "Came late|came late|changes nothing")
         pane.do("document.activeElement.blur(); ed.focusBoard()")
 
     def make_picture(self):

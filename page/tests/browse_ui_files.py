@@ -139,7 +139,7 @@ class Files(WithOnePage):
         drawing = json.loads(self.saved("Save as JSON", ".json"))
         self.assertEqual([each["id"] for each in drawing], names)
         self.assertTrue(self.saved("Save the whole file with its history (journal)", ".log").startswith(b"GDOL"))
-        self.assertEqual(len(json.loads(self.saved("list of events", ".events.jsonl"))), self.page.ask("ed.node.events.length"))
+        self.assertEqual(len(json.loads(self.saved("Save the list of all edits (events)", ".events.jsonl"))), self.page.ask("ed.node.events.length"))
         for given, name in ((text, "drawing.txt"), (json.dumps(drawing), "drawing.json")):
             self.assertEqual(self.bare_of(self.imported(given, name)), self.bare_of(names))
 

@@ -77,7 +77,7 @@ class Menus(WithOnePage):
         titles = page.ask("[...document.querySelectorAll('.menu [role=menuitem] span')].map((each) => each.textContent)")
         pictures = ["Export as SVG", "Export as PNG", "Export as PDF"]
         self.assertEqual(titles, [*pictures, "Save the whole file with its history (journal)", "Save as JSON", "Save as lines", "Save the list of all edits (events)"])
-        self.assertEqual(page.text(".menu .fine"), "All is kept already, in site-1.log")
+        self.assertEqual(page.text(".menu .fine"), "All is kept already, in person-1.log")
         self.assertEqual(page.ask("document.activeElement.textContent"), "Export as SVG")
         page.picture("save")
         page.press(Keys.ESCAPE)

@@ -98,6 +98,14 @@ class Notices(WithBoard):
                 self.assertFalse(self.meets(".banner", each), (pointer, each))
             page.picture(f"ui-banner-phone-{'high' if pointer == 'null' else 'low'}")
             page.do("ed.banner(null)")
+        # Nor the bar of what is selected, which may come later.
+        (name,) = self.make(page, "create rect 120 150 100 60")
+        page.do("ed.pointer = null; ed.banner({ text: 'Some words that are told for a while' })")
+        page.do("ed.selection.set([arguments[0]])", name)
+        page.rest()
+        self.assertTrue(page.find("#quick").is_displayed())
+        self.assertFalse(self.meets(".banner", "#quick"))
+        page.picture("ui-banner-phone-quick")
 
     def test_a_tip_of_the_history_goes_where_its_card_comes_and_leaves_nothing(self):
         page = self.one

@@ -59,7 +59,7 @@ class Ending(WithDesk):
         desk = await self.ended()
         (end,) = self.heard("end")
         self.assertEqual(end["end"]["status"], 7)
-        self.assertIn("link wasn't opened", end["end"]["meaning"])
+        self.assertIn("can't use the network", end["end"]["meaning"])
         self.assertIn("end", self.opened(desk))
         self.script(show=[ROW])
         await desk.start_again()

@@ -24,11 +24,12 @@ const SHRINKS_AFTER = 6000;
 const NEAR = { x: 360, y: 190 };
 
 /**
- * Puts `say`, `banner`, `refuse` and `patience` on `ed`.
+ * Puts `say`, `banner`, `refuse` and `patience` on `ed`. What it gives is to be updated when the selection or the view has changed.
  * @param {Ed} ed
  * @param {HTMLElement} said
  * @param {HTMLElement} banners
  * @param {HTMLElement} bubbles
+ * @returns {{update: () => void}}
  */
 export function makeBanners(ed, said, banners, bubbles) {
   ed.patience = 1;
@@ -50,6 +51,7 @@ export function makeBanners(ed, said, banners, bubbles) {
     if (banner.short) setTimeout(() => shrink(made), SHRINKS_AFTER * ed.patience);
     if (banner.stays) banners.prepend(made);
     else banners.append(made);
+    if (isOverQuick(banners)) banners.dataset.low = "1";
     if (banner.lasts) goes(made, banner.lasts);
     return made;
   };
@@ -59,6 +61,22 @@ export function makeBanners(ed, said, banners, bubbles) {
     bubbles.replaceChildren(made);
     goes(made, BUBBLE_LASTS);
   };
+  return {
+    update: () => {
+      if (banners.children.length && !banners.dataset.low && isOverQuick(banners)) banners.dataset.low = "1";
+    },
+  };
+}
+
+/**
+ * Whether the bar of what is selected lies behind the banners.
+ * @param {HTMLElement} banners
+ */
+function isOverQuick(banners) {
+  const quick = document.getElementById("quick");
+  if (!quick || quick.hidden) return false;
+  const [a, b] = [banners, quick].map((each) => each.getBoundingClientRect());
+  return a.left < b.right && b.left < a.right && a.top < b.bottom && b.top < a.bottom;
 }
 
 /**

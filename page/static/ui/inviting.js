@@ -21,7 +21,7 @@ const HOW_LASTS = 12_000;
 export function faultOf(carried, watcher = false) {
   if (!carried || carried.up) return null;
   const why = carried.fault ? `: ${carried.fault}` : "";
-  return `The broker at ${carried.broker} isn’t reached${why}. ${watcher ? "What is drawn now comes later." : "You can draw all the same."}`;
+  return `The broker (the server that passes edits on) at ${carried.broker} isn’t reached${why}. ${watcher ? "What is drawn now comes later." : "You can draw all the same."}`;
 }
 
 /**
@@ -77,7 +77,7 @@ export class Inviting {
     if (fault === this.fault) return;
     this.fault = fault;
     this.banner?.remove();
-    this.banner = fault ? this.ed.banner({ text: fault, tone: "calm", stays: true }) : null;
+    this.banner = fault ? this.ed.banner({ text: fault, short: "The broker isn’t reached", tone: "calm", stays: true }) : null;
   }
 
   /** Opens the dialog where somebody can be invited, and says else how people come here. */

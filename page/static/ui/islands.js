@@ -43,7 +43,7 @@ const find = (id) => /** @type {HTMLElement} */ (document.getElementById(id));
  */
 export function makeIslands(ed) {
   dropTips();
-  makeBanners(ed, find("said"), find("banners"), find("bubbles"));
+  const banners = makeBanners(ed, find("said"), find("banners"), find("bubbles"));
   const names = makeNames(ed);
   makeView(ed);
   ed.menu = new Menu(ed);
@@ -69,7 +69,7 @@ export function makeIslands(ed) {
   ed.standing = new StandingIsland(ed, file, link);
   makeTheme(ed);
   ed.rested = () => {
-    for (const part of [names, ed.stylePanel, zoom, quick, ed.objects, empty, tools]) part.update();
+    for (const part of [names, ed.stylePanel, zoom, quick, ed.objects, empty, tools, banners]) part.update();
   };
   ed.busied = () => {
     for (const part of [ed.stylePanel, quick, empty]) part.update();
@@ -78,6 +78,7 @@ export function makeIslands(ed) {
     zoom.update();
     quick.update();
     empty.update();
+    banners.update();
     ed.editor.place();
     ed.pointing.place();
   };

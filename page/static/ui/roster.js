@@ -126,7 +126,7 @@ export class Roster {
     const { carried, watcher, isOpenly } = this.ed.node;
     const more = watcher ? [] : [whatToCheck(carried), watchedWords(carried), isOpenly ? "The page isn’t encrypted." : ""];
     if (!watcher && !carried) more.push(howToInvite(carried));
-    const words = [this.ed.standing.inWords(), ...more].filter(Boolean).join(" ");
+    const words = [this.ed.standing.inWords().replace(/[^…]$/, "$&."), ...more].filter(Boolean).join(" ");
     const looks = seats.map((seat) => [this.shown, this.looksAt(seat) ?? "", this.stateWords(seat)]);
     const key = JSON.stringify([words, looks]);
     if (key === this.listed) return;

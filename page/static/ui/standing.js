@@ -32,7 +32,7 @@ import { count } from "./words.js";
 const LOST = {
   ended: `${CALLED} has ended. Start it again, and open the address that it prints.`,
   replaced: `Another ${CALLED} runs here now. Open the address that it printed.`,
-  taken: "Somebody else has this seat open. A link is for one person at a time: it opens here once they are gone.",
+  taken: "Somebody else draws at this place already. A link is for one person at a time: it opens here once they are gone.",
   unknown: `No connection to ${CALLED}. If it has ended, start it again and open the address that it prints.`,
 };
 

@@ -41,9 +41,9 @@ test("a selection that is told beside the notes comes before the focus, and goes
 test("a broker that isn't reached is said, with the reason where one is known", () => {
   assert.equal(faultOf(null), null);
   assert.equal(faultOf(carried), null);
-  assert.match(String(faultOf({ ...carried, up: false })), /^The broker at h:1 isn’t reached\. You can/);
+  assert.match(String(faultOf({ ...carried, up: false })), /^The broker .* at h:1 isn’t reached\. You can/);
   assert.match(String(faultOf({ ...carried, up: false, fault: "it has expired" })), /isn’t reached: it has expired\. You can/);
-  assert.match(String(faultOf({ ...carried, up: false }, true)), /^The broker at h:1 isn’t reached\. What is drawn now comes/);
+  assert.match(String(faultOf({ ...carried, up: false }, true)), /^The broker .* at h:1 isn’t reached\. What is drawn now comes/);
 });
 
 test("members are told where others may look on", () => {
