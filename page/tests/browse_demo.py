@@ -127,6 +127,8 @@ class Demonstration(unittest.TestCase):
             ed.history.goTo((at < 0 ? events.findLastIndex((e) => e.late?.what === 'dropped') : at) + 1);
         """
         pane = two if two.ask("ed.history.lates().length") else one
+        # The card says what the banner did.
+        pane.do("ed.banner(null)")
         pane.do(best)
         wait_for(lambda: pane.find(".hist-card").is_displayed())
         self.assertRegex(pane.text(".hist-card"), "Came late|came late|changes nothing")

@@ -132,7 +132,7 @@ class Truth(WithTwoPages):
         page.find(".late-count").click()
         self.assertTrue(page.find(".hist-card").is_displayed())
         self.assertRegex(page.text(".hist-card"), "Came late|came late|changes nothing")
-        self.assertRegex(page.text(".hist-more"), r"^Event \d+ of \d+ · \d+:\d+:\d+.* · \d+\.\d$")
+        self.assertRegex(page.text(".hist-more"), r"^Edit \d+ of \d+ · \d+:\d+:\d+.* · (your|\w+’s|Person \d’s) \d+(st|nd|rd|th) edit$")
         page.picture("history-card")
         events = page.ask("ed.node.events.length")
         # One can only look.
@@ -143,7 +143,7 @@ class Truth(WithTwoPages):
         self.assertIn("you look at the past", page.bubble())
         page.do("ed.history.go(0)")
         self.assertEqual(page.ids(), [])
-        self.assertEqual(page.text(".hist-line"), "Before the first event")
+        self.assertEqual(page.text(".hist-line"), "Before the first edit")
         page.press(Keys.ARROW_RIGHT, hold=["alt"])
         self.assertEqual(page.ask("ed.history.at"), 1)
         page.find('.hist-card [aria-label="One step on"]').click()
@@ -193,7 +193,7 @@ class Truth(WithTwoPages):
             one.press(Keys.ARROW_LEFT, hold=["alt"])
             shown.append((one.ask("ed.history.at"), one.text(".hist-line"), one.text(".hist-more").split(" · ")[0]))
         all = before + 5
-        made = f"Events {before + 1} to {before + 3} of {all}"
+        made = f"Edits {before + 1} to {before + 3} of {all}"
         self.assertEqual(shown, [(before + 3, "You made 2 objects", made), (before, shown[1][1], shown[1][2])])
         one.press(Keys.ARROW_RIGHT, Keys.ARROW_RIGHT, hold=["alt"])
         self.assertEqual((one.ask("ed.history.at"), one.text(".hist-line")), (all, "You moved 2 objects"))
@@ -235,7 +235,7 @@ class Truth(WithTwoPages):
         page.find("#history input").send_keys(Keys.ARROW_LEFT)
         at = page.ask("ed.history.at")
         self.assertEqual(at, page.ask("ed.node.events.length") - 1)
-        self.assertRegex(page.find("#history input").get_attribute("aria-valuetext"), r"^Event \d+ of \d+: You moved “First”")
+        self.assertRegex(page.find("#history input").get_attribute("aria-valuetext"), r"^Edit \d+ of \d+: You moved “First”")
         self.assertEqual(len(page.ids()), 1)
         page.press(Keys.ESCAPE)
         self.assertIsNone(page.ask("ed.history.at"))
@@ -298,7 +298,7 @@ class Truth(WithTwoPages):
         page = self.one
         for count in (1, 9):
             page.do("ed.node.news.push({ what: 'said', line: 'frame refused: Session', count: arguments[0] })", count)
-        wait_for(lambda: "frames of another session" in page.banners())
+        wait_for(lambda: "edits are of another drawing" in page.banners())
         self.assertEqual(len(page.all("#banners .banner")), 1)
         page.do("ed.banner(null)")
 
