@@ -11,8 +11,7 @@ export class Aside {
   constructor(host) {
     this.count = h("div", { class: "label-count", hidden: true, role: "status" });
     this.words = h("span", { dir: "auto" });
-    this.button = h("button", { type: "button", class: "quiet", hidden: true });
-    this.note = h("div", { class: "label-note", hidden: true, role: "alert" }, icon("info", 16), this.words, this.button);
+    this.note = h("div", { class: "label-note", hidden: true, role: "alert" }, icon("info", 16), this.words);
     this.el = h("div", { class: "label-aside" }, this.count, this.note);
     // The field keeps the keys, and isn't left by a press here.
     this.el.addEventListener("pointerdown", (event) => event.preventDefault());
@@ -37,9 +36,8 @@ export class Aside {
    */
   say(text, action, run) {
     this.words.textContent = text;
-    this.button.textContent = action ?? "";
-    this.button.hidden = !action;
-    this.button.onclick = () => run?.();
+    this.note.querySelector("button")?.remove();
+    if (action) this.note.append(h("button", { type: "button", class: "quiet", onclick: run }, action));
     this.note.hidden = false;
   }
 

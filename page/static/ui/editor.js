@@ -164,8 +164,10 @@ export class Editor {
    * @param {Item} item
    */
   meet({ id, label }) {
-    if (this.text === this.began) this.fill(label);
-    else this.aside.say(`${writerOf(this.ed, id)} wrote something else here meanwhile: yours replaces it`);
+    if (this.text === this.began) {
+      this.fill(label);
+      this.field.select();
+    } else this.aside.say(`${writerOf(this.ed, id)} wrote something else here meanwhile: yours replaces it`);
     this.began = label;
   }
 
