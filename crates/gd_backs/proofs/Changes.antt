@@ -6,10 +6,10 @@ use Rattle.std.proofs.lemmas.Int.{ints}
 use Rattle.gd_base.proofs.StampLemmas.{is_same-refl}
 use Rattle.gd_base.specs.Stamps.{Stamp, is_same}
 use Rattle.gd_base.specs.declared.item.ShapeItem.{ShapeItem}
-use Rattle.gd_model.specs.declared.object.Object.{Object}
-use Rattle.gd_model.specs.declared.object.Kind.{Kind}
-use Rattle.gd_model.specs.declared.object.Kind.TheVariants.{Shape, Group}
-use Rattle.gd_model.specs.declared.object.Link.{Link}
+use Rattle.gd_base.specs.declared.object.Object.{Object}
+use Rattle.gd_base.specs.declared.object.Kind.{Kind}
+use Rattle.gd_base.specs.declared.object.Kind.TheVariants.{Shape, Group}
+use Rattle.gd_base.specs.declared.object.Link.{Link}
 use Rattle.gd_model.specs.Objects.{is_group}
 use Rattle.gd_model.specs.Shown.{shape_of, is_gone}
 use Rattle.gd_backs.proofs.Sights.{Over, over_by, Sight, sight}

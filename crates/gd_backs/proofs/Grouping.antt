@@ -7,11 +7,11 @@ use Rattle.gd_base.proofs.StampLemmas.{is_same-true, is_same-refl}
 use Rattle.gd_base.specs.Stamps.{Stamp, is_same, is_before}
 use Rattle.gd_drawing.proofs.Lookups.{cond_over}
 use Rattle.gd_base.specs.declared.content.Content.TheVariants.{ToFlag}
-use Rattle.gd_model.specs.declared.object.Object.{Object}
-use Rattle.gd_model.specs.declared.object.Kind.{Kind}
-use Rattle.gd_model.specs.declared.object.Kind.TheVariants.{Shape, Group}
-use Rattle.gd_model.specs.declared.object.Link.{Link}
-use Rattle.gd_model.specs.declared.ties.Tie.{Tie}
+use Rattle.gd_base.specs.declared.object.Object.{Object}
+use Rattle.gd_base.specs.declared.object.Kind.{Kind}
+use Rattle.gd_base.specs.declared.object.Kind.TheVariants.{Shape, Group}
+use Rattle.gd_base.specs.declared.object.Link.{Link}
+use Rattle.gd_base.specs.declared.ties.Tie.{Tie}
 use Rattle.gd_model.specs.Drawing.{Drawing, placed, first_tie, all_tied, at_id}
 use Rattle.gd_model.specs.Objects.{new_group, tied_by, set}
 use Rattle.gd_model.specs.Shown.{is_gone, shape_of}

@@ -9,8 +9,8 @@ use Rattle.gd_base.specs.declared.item.ShapeItem.{ShapeItem}
 use Rattle.gd_base.specs.declared.op.Op.TheVariants.{Set}
 use Rattle.gd_base.specs.declared.shape.Shape as shape
 use Rattle.gd_model.specs.Contents.{Content}
-use Rattle.gd_model.specs.declared.object.Object.{Object}
-use Rattle.gd_model.specs.declared.object.Kind.TheVariants.{Shape}
+use Rattle.gd_base.specs.declared.object.Object.{Object}
+use Rattle.gd_base.specs.declared.object.Kind.TheVariants.{Shape}
 use Rattle.gd_model.specs.Drawing.{Drawing, at_id, draw}
 use Rattle.gd_model.specs.Forms.{form, rank_at}
 use Rattle.gd_model.specs.Objects.{is_group, fits, put, set}

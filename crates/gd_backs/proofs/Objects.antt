@@ -12,12 +12,12 @@ use Rattle.gd_events.specs.Ordered.{ordered}
 use Rattle.gd_model.specs.Contents.{Content}
 use Rattle.gd_model.specs.declared.form.Form.{Form}
 use Rattle.gd_model.specs.declared.form.Form.TheVariants.{Sets, Puts, Takes}
-use Rattle.gd_model.specs.declared.object.Object.{Object}
-use Rattle.gd_model.specs.declared.ties.Tie.{Tie}
+use Rattle.gd_base.specs.declared.object.Object.{Object}
+use Rattle.gd_base.specs.declared.ties.Tie.{Tie}
 use Rattle.gd_model.specs.Drawing.{Drawing, has_id, find, is_there, at_id, without, placed, placed_if, first_tie, all_tied, draw, applied, picture}
 use Rattle.gd_model.specs.Forms.{form}
 use Rattle.gd_model.specs.Objects.{put, set, tied_by}
-use Rattle.gd_model.specs.Ranks.{level, is_below}
+use Rattle.gd_base.specs.Ranks.{level, is_below}
 
 -- it holds of each object with the link that it is given
 abbrev KeepsTied : (Stamp × Object → Type 0) → List Tie → Type 0

@@ -7,8 +7,8 @@ use Rattle.std.proofs.lemmas.Bool.{cond_both}
 use Rattle.gd_base.proofs.Lists.{Every-weaker}
 use Rattle.gd_base.proofs.StampLemmas.{is_same-true, is_before-apart, is_before-trans}
 use Rattle.gd_base.specs.Stamps.{Stamp, is_same, is_before}
-use Rattle.gd_model.specs.declared.object.Object.{Object}
-use Rattle.gd_model.specs.declared.object.Link.{Link}
+use Rattle.gd_base.specs.declared.object.Object.{Object}
+use Rattle.gd_base.specs.declared.object.Link.{Link}
 use Rattle.gd_model.specs.Shown.{is_gone}
 use Rattle.gd_backs.proofs.Sights.{Lookup, Over, nothing_over, over_by, passing, over_in, Sight, sight, sight_by, sight_of, sight_in}
 

@@ -18,8 +18,8 @@ use Rattle.gd_events.specs.Ops.{Op}
 use Rattle.gd_base.specs.declared.op.Op.TheVariants as op
 use Rattle.gd_model.specs.Contents.{Content}
 use Rattle.gd_base.specs.declared.content.Content.TheVariants.{ToFlag}
-use Rattle.gd_model.specs.declared.object.Object.{Object}
-use Rattle.gd_model.specs.declared.object.Link.{Link}
+use Rattle.gd_base.specs.declared.object.Object.{Object}
+use Rattle.gd_base.specs.declared.object.Link.{Link}
 use Rattle.gd_model.specs.Drawing.{Drawing, applied, picture, first_tie}
 use Rattle.gd_model.specs.Forms.{form, rank_at, tie_of, member_ties}
 use Rattle.gd_model.specs.Objects.{fits, put, set, tied_by}

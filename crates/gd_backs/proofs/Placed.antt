@@ -5,10 +5,10 @@ use Rattle.std.specs.List.{filter_map, cons_option}
 use Rattle.gd_base.proofs.StampLemmas.{is_same-true, is_same-refl, is_same-comm}
 use Rattle.gd_base.specs.Stamps.{Stamp, is_same}
 use Rattle.gd_model.specs.declared.form.Form.TheVariants.{Puts, Takes}
-use Rattle.gd_model.specs.declared.object.Object.{Object}
-use Rattle.gd_model.specs.declared.ties.Tie.{Tie}
+use Rattle.gd_base.specs.declared.object.Object.{Object}
+use Rattle.gd_base.specs.declared.ties.Tie.{Tie}
 use Rattle.gd_model.specs.Drawing.{Drawing, without, placed, all_tied, draw}
-use Rattle.gd_model.specs.Ranks.{level, is_below}
+use Rattle.gd_base.specs.Ranks.{level, is_below}
 use Rattle.gd_backs.proofs.Sights.{look, ids}
 
 -- ---- the forms

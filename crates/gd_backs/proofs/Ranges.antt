@@ -18,8 +18,8 @@ use Rattle.gd_events.specs.declared.event.EventFault.TheVariants.{Range, MemberC
 use Rattle.gd_events.specs.Ops.{Op}
 use Rattle.gd_lines.specs.InRange.{IsEdit}
 use Rattle.gd_base.specs.declared.content.Content.TheVariants.{ToPlace, ToSize, ToStroke, ToFill, ToWidth, ToText, ToFlag, ToRank}
-use Rattle.gd_model.specs.declared.object.Object.{Object}
-use Rattle.gd_model.specs.declared.object.Link.{Link}
+use Rattle.gd_base.specs.declared.object.Object.{Object}
+use Rattle.gd_base.specs.declared.object.Link.{Link}
 use Rattle.gd_model.specs.Drawing.{Drawing, picture, first_tie}
 use Rattle.gd_model.specs.Forms.{form, member_ties}
 use Rattle.gd_model.specs.Objects.{fits, put, set, tied_by}

@@ -22,9 +22,9 @@ use Rattle.gd_events.specs.Ops.{Op}
 use Rattle.gd_model.specs.declared.above.Above.{Above}
 use Rattle.gd_base.specs.declared.content.Content.TheVariants.{ToPlace, ToFlag, ToRank}
 use Rattle.gd_model.specs.declared.form.Form.TheVariants.{Puts}
-use Rattle.gd_model.specs.declared.object.Object.{Object}
-use Rattle.gd_model.specs.declared.object.Kind.TheVariants.{Shape}
-use Rattle.gd_model.specs.declared.object.Link.{Link}
+use Rattle.gd_base.specs.declared.object.Object.{Object}
+use Rattle.gd_base.specs.declared.object.Kind.TheVariants.{Shape}
+use Rattle.gd_base.specs.declared.object.Link.{Link}
 use Rattle.gd_model.specs.Drawing.{Drawing, at_id, without, placed, first_tie, all_tied, draw}
 use Rattle.gd_model.specs.Forms.{form, member_ties}
 use Rattle.gd_model.specs.Objects.{new_shape, new_group, set}

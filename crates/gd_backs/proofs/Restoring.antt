@@ -15,9 +15,9 @@ use Rattle.gd_drawing.proofs.Lookups.{at_itself, cond_over}
 use Rattle.gd_events.specs.Ops.{Op}
 use Rattle.gd_model.specs.declared.above.Above.{Above}
 use Rattle.gd_base.specs.declared.content.Content.TheVariants.{ToPlace, ToFlag}
-use Rattle.gd_model.specs.declared.object.Object.{Object}
-use Rattle.gd_model.specs.declared.object.Kind.{Kind}
-use Rattle.gd_model.specs.declared.object.Kind.TheVariants.{Shape, Group}
+use Rattle.gd_base.specs.declared.object.Object.{Object}
+use Rattle.gd_base.specs.declared.object.Kind.{Kind}
+use Rattle.gd_base.specs.declared.object.Kind.TheVariants.{Shape, Group}
 use Rattle.gd_model.specs.Drawing.{Drawing, at_id, without, draw}
 use Rattle.gd_model.specs.Forms.{form}
 use Rattle.gd_model.specs.Objects.{is_group, put, set}

@@ -13,9 +13,9 @@ use Rattle.gd_base.specs.declared.shape.Shape as shape
 use Rattle.gd_events.specs.Events.{Event}
 use Rattle.gd_events.specs.Ops.{Op}
 use Rattle.gd_model.specs.declared.above.Above.{Above}
-use Rattle.gd_model.specs.declared.object.Object.{Object}
-use Rattle.gd_model.specs.declared.object.Kind.{Kind}
-use Rattle.gd_model.specs.declared.object.Kind.TheVariants.{Shape, Group}
+use Rattle.gd_base.specs.declared.object.Object.{Object}
+use Rattle.gd_base.specs.declared.object.Kind.{Kind}
+use Rattle.gd_base.specs.declared.object.Kind.TheVariants.{Shape, Group}
 use Rattle.gd_model.specs.Drawing.{Drawing, picture}
 use Rattle.gd_model.specs.Shown.{above, is_gone, shape_of, item_at, found_as, seen_as}
 use Rattle.gd_reference.specs.Backs.{Back, Never, Takes}

@@ -12,11 +12,11 @@ use Rattle.gd_drawing.proofs.Entries.{Entries, level_from_eq}
 use Rattle.gd_drawing.proofs.InOrder.{nothing_stands, stack_all}
 use Rattle.gd_drawing.proofs.Listed.{find-stands, some_ranked}
 use Rattle.gd_drawing.proofs.Stacking.{Stands, level_cmp-total, not_found, t_first, t_second}
-use Rattle.gd_model.specs.declared.object.Object.{Object}
-use Rattle.gd_model.specs.declared.rank.Level.{Level}
+use Rattle.gd_base.specs.declared.object.Object.{Object}
+use Rattle.gd_base.specs.declared.rank.Level.{Level}
 use Rattle.gd_model.specs.Board.{Board, board, levels}
 use Rattle.gd_model.specs.Drawing.{Drawing, picture}
-use Rattle.gd_model.specs.Ranks.{level_cmp}
+use Rattle.gd_base.specs.Ranks.{level_cmp}
 use Rattle.gd_model.specs.Shown.{is_gone, item_at, shown, shown_items, in_printed_order}
 use Rattle.gd_lines.specs.Replies.{reply_text}
 use Rattle.gd_reference.specs.DrawingText.{item_replies, text}

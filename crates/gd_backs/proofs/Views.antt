@@ -7,9 +7,10 @@ use Rattle.std.specs.FinMap.Entries.{find-where_key}
 use Rattle.std.proofs.lemmas.Iterator.Adapters.{option_map_id}
 use Rattle.std.proofs.lemmas.List.{length-map}
 use Rattle.std.proofs.lemmas.List.Filters.{length-filter_both}
-use Rattle.gd_base.proofs.StampLemmas.{stamp_cmp-IsAntisymmetric, is_same-true}
+use Rattle.gd_base.proofs.StampLemmas.{is_same-true}
+use Rattle.gd_base.specs.StampTotal.{stamp_cmp-IsAntisymmetric}
 use Rattle.gd_base.specs.Stamps.{Stamp, stamp_cmp, is_same}
-use Rattle.gd_model.specs.declared.object.Object.{Object}
+use Rattle.gd_base.specs.declared.object.Object.{Object}
 use Rattle.gd_model.specs.Drawing.{Drawing, has_id, at_id, without}
 use Rattle.gd_model.specs.Shown.{is_gone}
 use Rattle.gd_backs.proofs.Sights.{look, Over, over-enough, Sight, sight_by, sight_of, sight_in, view, ids, seen}

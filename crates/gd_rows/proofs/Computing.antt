@@ -29,7 +29,7 @@ use Rattle.gd_lines.specs.Rows.{by_name}
 use Rattle.gd_lines.specs.ScriptLines.{at_words, deliver_words, mail_at, read_script, script_rows, send_words, site_at}
 use Rattle.gd_lines.specs.Text.{bad_log_line, bad_view_line, colour_text, colours_text, end_line, head_text, hex_digit, high_digits, id_text, item_line, look_text, nibble, size_text, width_text}
 use Rattle.gd_lines.specs.WordKinds.{colour, digit, fill, focus, id, kind, label, name, natural_in, number, number_in, numeral}
-use Rattle.gd_model.specs.Ranks.{level_cmp, rank_cmp}
+use Rattle.gd_base.specs.Ranks.{level_cmp, rank_cmp}
 use Rattle.gd_model.specs.Relations.{covers, independent}
 use Rattle.gd_model.specs.Splices.{splice}
 use Rattle.gd_reference.specs.Dialogues.{answered, end_of_lines, state_after}

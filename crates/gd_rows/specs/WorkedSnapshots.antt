@@ -7,9 +7,9 @@ use Rattle.gd_base.specs.declared.fault.ViewWhy.{ViewWhy}
 use Rattle.gd_base.specs.declared.fault.ViewWhy.TheVariants.{Short, Magic, Version, Field, FutureId, Order, Bound}
 use Rattle.gd_base.specs.declared.op.Op.TheVariants.{Set}
 use Rattle.gd_base.specs.declared.shape.Shape.TheVariants.{Rect, Ellipse, Text}
-use Rattle.gd_model.specs.declared.object.Kind.TheVariants.{Shape}
-use Rattle.gd_model.specs.declared.object.Object.{Object}
-use Rattle.gd_model.specs.declared.rank.Rank.TheVariants.{Low}
+use Rattle.gd_base.specs.declared.object.Kind.TheVariants.{Shape}
+use Rattle.gd_base.specs.declared.object.Object.{Object}
+use Rattle.gd_base.specs.declared.rank.Rank.TheVariants.{Low}
 use Rattle.gd_model.specs.Objects.{new_group, new_shape}
 use Rattle.gd_snapshots.specs.SnapshotBytes.{snapshot_at}
 use Rattle.gd_snapshots.specs.Snapshots.{Snapshot}

@@ -12,7 +12,7 @@ use Rattle.gd_lines.specs.Edits.{Edit}
 use Rattle.gd_lines.specs.InRange.{IsEdit}
 use Rattle.gd_model.specs.Board.{Board, listed}
 use Rattle.gd_model.specs.Objects.{is_shape}
-use Rattle.gd_model.specs.declared.object.Object.{Object}
+use Rattle.gd_base.specs.declared.object.Object.{Object}
 use Rattle.gd_reference.specs.Backs.{Back, Never, Takes}
 use Rattle.gd_reference.specs.TakeBack.{back_over, item_of, look_back, move_back, old_look, set_back, is_far, IsBack, IsBackEdit}
 use Rattle.gd_drawing.proofs.Listed.{find-listed}

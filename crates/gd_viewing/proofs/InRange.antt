@@ -24,9 +24,9 @@ use Rattle.gd_events.specs.Sound.{is_in_range, has_members, names_before, has_ri
 use Rattle.gd_grammar.specs.Reading.{AllFollow}
 use Rattle.gd_model.specs.declared.form.Form.{Form}
 use Rattle.gd_model.specs.declared.form.Form.TheVariants.{Sets, Puts, Takes}
-use Rattle.gd_model.specs.declared.object.Link.{Link}
-use Rattle.gd_model.specs.declared.object.Object.{Object}
-use Rattle.gd_model.specs.declared.ties.Tie.{Tie}
+use Rattle.gd_base.specs.declared.object.Link.{Link}
+use Rattle.gd_base.specs.declared.object.Object.{Object}
+use Rattle.gd_base.specs.declared.ties.Tie.{Tie}
 use Rattle.gd_model.specs.Board.{Board, apply_all, apply}
 use Rattle.gd_model.specs.Contents.{Content}
 use Rattle.gd_model.specs.Drawing.{first_tie}
