@@ -1,2 +1,5 @@
-pub mod Texts
+pub mod Spelling
+pub mod PartData
+pub mod ItemData
+pub mod EventData
 pub mod Begun

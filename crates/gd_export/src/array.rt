@@ -2,9 +2,11 @@
 
 ghost use Rattle.std.specs.Prelude.{◌≡◌, ◌++◌, ◌∷◌, [], codes, IfOk, OnOk, List, ℕ, false, string_bytes};
 ghost use Rattle.gd_json.specs.Values.{array};
+ghost use Rattle.serde_json.specs.View.{view};
 ghost use Rattle.gd_export.specs.Begun.{IsBegun, separator};
+ghost use Rattle.gd_export.specs.Spelling.{IsSpelled};
 
-use crate::values::Json;
+use serde_json::Value;
 use std::alloc::{AllocError, Global};
 use std::marker::Model;
 
@@ -51,11 +53,12 @@ impl ArrayText {
     }
 
     /// Puts a value last. After an `AllocError` the array is of no use.
-    pub fn put(&mut self, alloc: Global, value: &Json) -> Result<(), AllocError>
-        ensures { (texts : List (List ℕ)) → IsBegun self.old texts
-            → OnOk result (IsBegun self.new (texts ++ value.now ∷ [])) }
+    pub fn put(&mut self, alloc: Global, value: &Value) -> Result<(), AllocError>
+        ensures { (texts : List (List ℕ)) (text : List ℕ) → IsBegun self.old texts
+            → IsSpelled (view value.now) text
+            → OnOk result (IsBegun self.new (texts ++ text ∷ [])) }
     {
-        let text = value.to_text(alloc)?;
+        let text = value.to_string(alloc)?;
         self.separate()?;
         self.text.push_str(text.as_str())
     }

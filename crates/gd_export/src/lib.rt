@@ -3,11 +3,8 @@
 
 mod array;
 mod events;
-mod objects;
-mod parts;
 mod picture;
 mod texts;
-mod values;
 
 pub use array::JsonText;
 pub use events::events_json;

@@ -1,18 +1,12 @@
 -- Worked rows: items and events, and their JSON, written by hand.
-use Rattle.std.specs.Prelude.{ℕ, ℤ, pos, negsuc, List, [], ◌∷◌, ◌++◌, codes, Some, None, true, false}
+use Rattle.std.specs.Prelude.{ℕ, ℤ, pos, negsuc, List, [], ◌∷◌, ◌++◌, codes, Some, None}
 use Rattle.gd_base.specs.Stamps.{Stamp}
 use Rattle.gd_base.specs.declared.item.Item.{Item}
 use Rattle.gd_base.specs.declared.member.Member.{Member}
 use Rattle.gd_base.specs.declared.shape.Shape.TheVariants.{Rect, Ellipse, Line, Text}
-use Rattle.gd_base.specs.declared.content.Content.TheVariants.{ToPlace, ToSize, ToStroke, ToFill, ToWidth, ToText, ToFlag, ToRank}
-use Rattle.gd_base.specs.declared.content.Height.TheVariants.{To, At}
-use Rattle.gd_base.specs.declared.content.Side.TheVariants.{Bottom, Top}
-use Rattle.gd_base.specs.declared.op.Op.TheVariants.{Create, Delete, Set, Group, Restore, Disband}
-use Rattle.gd_base.specs.declared.object.Kind.TheVariants as kinds
-use Rattle.gd_base.specs.declared.object.Object.{Object}
-use Rattle.gd_base.specs.declared.rank.Rank.TheVariants.{Low, High}
-use Rattle.gd_base.specs.declared.ties.Tie.{Tie}
-use Rattle.gd_events.specs.Ops.{Op}
+use Rattle.gd_base.specs.declared.style.Style.TheVariants.{Stroke, Fill, Width}
+use Rattle.gd_events.specs.declared.op.Op.{Op}
+use Rattle.gd_events.specs.declared.op.Op.TheVariants.{Create, Delete, Move, Resize, Restyle, Retext, Group, Ungroup, Raise, Lower}
 use Rattle.gd_events.specs.Events.{Event}
 
 abbrev pub at_stamp : ℕ → ℕ → Stamp
@@ -80,46 +74,6 @@ items_of_json = (
     ∷ (lone_text, codes "{\"at\":[1,2],\"fill\":null,\"id\":\"3.1\",\"in\":null,\"kind\":\"text\",\"label\":\"none\",\"size\":[3,4],\"stroke\":\"0A0B0C\",\"width\":5}")
     ∷ []
 
--- a shape in a group, and a dissolved group in none
-abbrev pub old_shape : Object
-old_shape = record {
-  kind = kinds.Shape Line;
-  x = pos 1;
-  y = negsuc 1;
-  w = pos 3;
-  h = pos 4;
-  stroke = 0x0A0B0C;
-  fill = Some 0xFF8000;
-  width = 5;
-  label = odd_label;
-  link = Some record { parent = at_stamp 9 2; dx = pos 6; dy = negsuc 6 };
-  dissolved = false;
-  rank = Low (at_stamp 8 1);
-}
-
-abbrev pub old_group : Object
-old_group = record {
-  kind = kinds.Group;
-  x = pos 0;
-  y = pos 0;
-  w = pos 0;
-  h = pos 0;
-  stroke = 0;
-  fill = None;
-  width = 1;
-  label = [];
-  link = None;
-  dissolved = true;
-  rank = High (at_stamp 9 2);
-}
-
--- two ties, of which one leads to no group
-abbrev pub old_ties : List Tie
-old_ties = record { id = at_stamp 2 1; link = None } ∷ record { id = at_stamp 7 3; link = Some record { parent = at_stamp 9 2; dx = pos 10; dy = pos 0 } } ∷ []
-
-abbrev pub old_ties_json : List ℕ
-old_ties_json = codes "\"ties\":[{\"id\":\"2.1\",\"link\":null},{\"id\":\"7.3\",\"link\":{\"dx\":10,\"dy\":0,\"id\":\"9.2\"}}]"
-
 -- each operation, with the JSON of its event
 abbrev pub events_of_json : List (Event × List ℕ)
 events_of_json = (
@@ -127,31 +81,18 @@ events_of_json = (
   codes "{\"clock\":7,\"h\":-8,\"kind\":\"text\",\"label\":" ++ odd_label_json ++ codes ",\"op\":\"create\",\"seq\":1,\"site\":3,\"w\":7,\"x\":-5,\"y\":6}",
 )
     ∷ (event 8 3 2 (Delete (at_stamp 7 16)), codes "{\"clock\":8,\"id\":\"7.16\",\"op\":\"delete\",\"seq\":2,\"site\":3}")
-    ∷ (event 9 3 3 (Set (at_stamp 7 3) (ToPlace (pos 2147483647) (negsuc 2147483646))), codes "{\"clock\":9,\"id\":\"7.3\",\"op\":\"move\",\"seq\":3,\"site\":3,\"x\":2147483647,\"y\":-2147483647}")
-    ∷ (event 10 3 4 (Set (at_stamp 7 3) (ToSize (pos 11) (pos 12))), codes "{\"clock\":10,\"h\":12,\"id\":\"7.3\",\"op\":\"resize\",\"seq\":4,\"site\":3,\"w\":11}")
-    ∷ (event 11 3 5 (Set (at_stamp 7 3) (ToStroke 0x00AB0C)), codes "{\"clock\":11,\"id\":\"7.3\",\"op\":\"restyle\",\"seq\":5,\"site\":3,\"stroke\":\"00AB0C\"}")
-    ∷ (event 12 3 6 (Set (at_stamp 7 3) (ToFill (Some 0))), codes "{\"clock\":12,\"fill\":\"000000\",\"id\":\"7.3\",\"op\":\"restyle\",\"seq\":6,\"site\":3}")
-    ∷ (event 13 3 7 (Set (at_stamp 7 3) (ToFill None)), codes "{\"clock\":13,\"fill\":null,\"id\":\"7.3\",\"op\":\"restyle\",\"seq\":7,\"site\":3}")
-    ∷ (event 14 3 8 (Set (at_stamp 7 3) (ToWidth 64)), codes "{\"clock\":14,\"id\":\"7.3\",\"op\":\"restyle\",\"seq\":8,\"site\":3,\"width\":64}")
-    ∷ (event 15 3 9 (Set (at_stamp 7 3) (ToText odd_label)), codes "{\"clock\":15,\"id\":\"7.3\",\"label\":" ++ odd_label_json ++ codes ",\"op\":\"retext\",\"seq\":9,\"site\":3}")
+    ∷ (event 9 3 3 (Move (at_stamp 7 3) (pos 2147483647) (negsuc 2147483646)), codes "{\"clock\":9,\"id\":\"7.3\",\"op\":\"move\",\"seq\":3,\"site\":3,\"x\":2147483647,\"y\":-2147483647}")
+    ∷ (event 10 3 4 (Resize (at_stamp 7 3) (pos 11) (pos 12)), codes "{\"clock\":10,\"h\":12,\"id\":\"7.3\",\"op\":\"resize\",\"seq\":4,\"site\":3,\"w\":11}")
+    ∷ (event 11 3 5 (Restyle (at_stamp 7 3) (Stroke 0x00AB0C)), codes "{\"clock\":11,\"id\":\"7.3\",\"op\":\"restyle\",\"seq\":5,\"site\":3,\"stroke\":\"00AB0C\"}")
+    ∷ (event 12 3 6 (Restyle (at_stamp 7 3) (Fill (Some 0))), codes "{\"clock\":12,\"fill\":\"000000\",\"id\":\"7.3\",\"op\":\"restyle\",\"seq\":6,\"site\":3}")
+    ∷ (event 13 3 7 (Restyle (at_stamp 7 3) (Fill None)), codes "{\"clock\":13,\"fill\":null,\"id\":\"7.3\",\"op\":\"restyle\",\"seq\":7,\"site\":3}")
+    ∷ (event 14 3 8 (Restyle (at_stamp 7 3) (Width 64)), codes "{\"clock\":14,\"id\":\"7.3\",\"op\":\"restyle\",\"seq\":8,\"site\":3,\"width\":64}")
+    ∷ (event 15 3 9 (Retext (at_stamp 7 3) odd_label), codes "{\"clock\":15,\"id\":\"7.3\",\"label\":" ++ odd_label_json ++ codes ",\"op\":\"retext\",\"seq\":9,\"site\":3}")
     ∷ (
       event 16 3 10 (Group (member 2 1 (pos 0) (negsuc 8) ∷ member 7 3 (pos 10) (pos 0) ∷ [])),
       codes "{\"clock\":16,\"members\":[{\"dx\":0,\"dy\":-9,\"id\":\"2.1\"},{\"dx\":10,\"dy\":0,\"id\":\"7.3\"}],\"op\":\"group\",\"seq\":10,\"site\":3}",
     )
-    ∷ (event 17 3 11 (Set (at_stamp 16 3) (ToFlag true)), codes "{\"clock\":17,\"id\":\"16.3\",\"op\":\"ungroup\",\"seq\":11,\"site\":3}")
-    ∷ (event 18 3 12 (Set (at_stamp 7 3) (ToRank (To Top))), codes "{\"clock\":18,\"id\":\"7.3\",\"op\":\"raise\",\"seq\":12,\"site\":3}")
-    ∷ (
-      event 19 3 13 (Restore (at_stamp 7 3) old_shape []),
-      codes "{\"at\":[1,-2],\"clock\":19,\"dissolved\":false,\"fill\":\"FF8000\",\"id\":\"7.3\",\"kind\":\"line\",\"label\":" ++ odd_label_json
-          ++ codes ",\"link\":{\"dx\":6,\"dy\":-7,\"id\":\"9.2\"},\"op\":\"restore\",\"rank\":{\"low\":\"8.1\"},\"seq\":13,\"site\":3,\"size\":[3,4],\"stroke\":\"0A0B0C\",\"ties\":[],\"width\":5}",
-    )
-    ∷ (
-      event 20 3 14 (Restore (at_stamp 9 2) old_group old_ties),
-      codes "{\"at\":[0,0],\"clock\":20,\"dissolved\":true,\"fill\":null,\"id\":\"9.2\",\"kind\":\"group\",\"label\":\"\",\"link\":null,\"op\":\"restore\",\"rank\":{\"high\":\"9.2\"},"
-          ++ codes "\"seq\":14,\"site\":3,\"size\":[0,0],\"stroke\":\"000000\"," ++ old_ties_json ++ codes ",\"width\":1}",
-    )
-    ∷ (event 21 3 15 (Disband (at_stamp 9 2) old_ties), codes "{\"clock\":21,\"id\":\"9.2\",\"op\":\"disband\",\"seq\":15,\"site\":3," ++ old_ties_json ++ codes "}")
-    ∷ (event 22 3 16 (Set (at_stamp 7 3) (ToRank (At (High (at_stamp 7 3))))), codes "{\"clock\":22,\"id\":\"7.3\",\"op\":\"rerank\",\"rank\":{\"high\":\"7.3\"},\"seq\":16,\"site\":3}")
-    ∷ (event 23 3 17 (Set (at_stamp 9 2) (ToFlag false)), codes "{\"clock\":23,\"id\":\"9.2\",\"op\":\"reopen\",\"seq\":17,\"site\":3}")
-    ∷ (event 281474976710655 16 65535 (Set (at_stamp 7 3) (ToRank (To Bottom))), codes "{\"clock\":281474976710655,\"id\":\"7.3\",\"op\":\"lower\",\"seq\":65535,\"site\":16}")
+    ∷ (event 17 3 11 (Ungroup (at_stamp 16 3)), codes "{\"clock\":17,\"id\":\"16.3\",\"op\":\"ungroup\",\"seq\":11,\"site\":3}")
+    ∷ (event 18 3 12 (Raise (at_stamp 7 3)), codes "{\"clock\":18,\"id\":\"7.3\",\"op\":\"raise\",\"seq\":12,\"site\":3}")
+    ∷ (event 281474976710655 16 65535 (Lower (at_stamp 7 3)), codes "{\"clock\":281474976710655,\"id\":\"7.3\",\"op\":\"lower\",\"seq\":65535,\"site\":16}")
     ∷ []

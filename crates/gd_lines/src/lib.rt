@@ -3,6 +3,8 @@
 
 mod command;
 mod reply;
+mod verb;
 
 pub use command::{Command, LONGEST_LINE, ScriptLine};
 pub use reply::Reply;
+pub use verb::{ScriptVerb, Verb};

@@ -3,9 +3,10 @@
 ghost use Rattle.std.specs.Prelude.{◌≡◌, ◌≤◌, ◌++◌, IfOk, OnOk, IfSome, option_map, option_to_list};
 ghost use Rattle.std.specs.FinMap as map_of;
 ghost use Rattle.gd_base.specs.declared.ranges.TheConstants.{SESSION_EVENTS};
+ghost use Rattle.gd_model.specs.Objects.{body};
 ghost use Rattle.gd_model.specs.Board.{listed};
 ghost use Rattle.gd_model.specs.Shown.{above, shown, shown_items};
-ghost use Rattle.gd_slots.specs.Slots.{board_of};
+ghost use Rattle.gd_canvas.specs.Slots.{board_of};
 ghost use Rattle.gd_view.specs.Chains.{Within};
 ghost use Rattle.gd_view.specs.Sums.{known, AreKnown};
 ghost use Rattle.gd_view.specs.Levels.{item_of};
@@ -15,8 +16,9 @@ use crate::known::Known;
 use crate::levels::levels;
 use crate::seen::is_gone;
 use crate::sums::sums;
-use gd_base::{Item, Object, Stamp};
+use gd_base::{Item, Stamp};
 use gd_canvas::Canvas;
+use gd_model::Object;
 use std::alloc::{AllocError, Global};
 
 /// The items of all objects that are shown, in list order.
@@ -48,7 +50,7 @@ fn item_of(canvas: &Canvas, table: &Known, id: Stamp) -> Option<Item>
     requires { AreKnown (listed (board_of canvas.now)) table.now }
     ensures { result
         ≡ item_of (listed (board_of canvas.now)) id
-        (map_of.get (board_of canvas.now) id) }
+        (option_map body (map_of.get (board_of canvas.now) id)) }
 {
     let object = canvas.get(id)?;
     item(canvas, table, id, object)
@@ -57,7 +59,7 @@ fn item_of(canvas: &Canvas, table: &Known, id: Stamp) -> Option<Item>
 fn item(canvas: &Canvas, table: &Known, id: Stamp, object: &Object) -> Option<Item>
     requires sum { known table.now id ≡ above (listed (board_of canvas.now)) id object.now.link }
     requires within { IfSome (known table.now id) (λ a. Within SESSION_EVENTS a) }
-    ensures { result ≡ shown (listed (board_of canvas.now)) (id, object.now) }
+    ensures { result ≡ shown (listed (board_of canvas.now)) (id, body object.now) }
 {
     if is_gone(object) {
         return None;

@@ -1,4 +1,0 @@
-pub mod Lookups
-pub mod SlotLemmas
-pub mod AtLemmas
-pub mod CopyLemmas

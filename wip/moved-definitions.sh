@@ -1,2 +1,0 @@
-# imports of the plain data that moves from gd_model to gd_base
-grep -rl "gd_model.specs.declared.\(object\|rank\|ties\)\|gd_model.specs.\(Ranks\|RankOrder\)\|gd_model::\(specs::Ranks\)" crates | xargs sed -i 's/Rattle\.gd_model\.specs\.declared\.\(object\|rank\|ties\)/Rattle.gd_base.specs.declared.\1/g; s/Rattle\.gd_model\.specs\.\(Ranks\|RankOrder\)\b/Rattle.gd_base.specs.\1/g; s/gd_model::specs::\(Ranks\|RankOrder\)/gd_base::specs::\1/g'
