@@ -9,7 +9,7 @@ use Rattle.gd_base.specs.declared.offer.Offer.{Offer}
 use Rattle.gd_base.specs.declared.offer.Offer.TheVariants.{Next, Repeat, Gap, Backdated}
 use Rattle.gd_effects.specs.Effects.{Effect, Record, Work}
 use Rattle.gd_events.specs.Events.{Event}
-use Rattle.gd_events.specs.declared.op.Op.{Op}
+use Rattle.gd_events.specs.Ops.{Op}
 use Rattle.gd_events.specs.Sound.{IsOp}
 use Rattle.gd_grammar.specs.Drawings.{drawings}
 use Rattle.gd_logs.specs.Written.{IsRuled}

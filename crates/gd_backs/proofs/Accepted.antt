@@ -1,11 +1,11 @@
 -- What an accepted edit became.
 use Rattle.std.proofs.Common.{◌≡◌, ◌<◌, Bool, false, cond, length, Result, Ok, Err, refl, nat_le}
 use Rattle.std.proofs.lemmas.Bool.{leb-false}
-use Rattle.gd_base.specs.declared.edit.Edit.{Edit}
+use Rattle.gd_lines.specs.Edits.{Edit}
 use Rattle.gd_base.specs.declared.refusal.EditRefusal.{EditRefusal}
 use Rattle.gd_base.specs.declared.refusal.EditRefusal.TheVariants.{ClockEnd, SessionFull}
 use Rattle.gd_events.specs.Events.{Event}
-use Rattle.gd_events.specs.declared.op.Op.{Op}
+use Rattle.gd_events.specs.Ops.{Op}
 use Rattle.gd_model.specs.Drawing.{picture}
 use Rattle.gd_reference.specs.Judging.{target, judged_over, judged, greatest_stamp_clock, most_own_events, next_event, event_of, edit}
 use Rattle.gd_reference.specs.SlowSite.{SlowSite, own, clock}

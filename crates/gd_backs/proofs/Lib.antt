@@ -6,6 +6,7 @@ pub mod Sights
 pub mod Onward
 pub mod Changes
 pub mod Looks
+pub mod Placed
 pub mod Views
 pub mod Grouping
 pub mod Pictures

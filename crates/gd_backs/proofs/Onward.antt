@@ -7,7 +7,7 @@ use Rattle.std.proofs.lemmas.Bool.{cond_both}
 use Rattle.gd_base.proofs.Lists.{Every-weaker}
 use Rattle.gd_base.proofs.StampLemmas.{is_same-true, is_before-apart, is_before-trans}
 use Rattle.gd_base.specs.Stamps.{Stamp, is_same, is_before}
-use Rattle.gd_model.specs.declared.object.Body.{Body}
+use Rattle.gd_model.specs.declared.object.Object.{Object}
 use Rattle.gd_model.specs.declared.object.Link.{Link}
 use Rattle.gd_model.specs.Shown.{is_gone}
 use Rattle.gd_backs.proofs.Sights.{Lookup, Over, nothing_over, over_by, passing, over_in, Sight, sight, sight_by, sight_of, sight_in}
@@ -21,8 +21,8 @@ among id gs = list_any (is_same id) gs
 abbrev IsUnder : Stamp → List Stamp → Type 0
 IsUnder id gs = Every (λ g. is_before id g ≡ true) gs
 
-under-passing : (id : Stamp) (l : Link) (x : Option Body) (rest : Body → Option Over) → is_before id l.parent ≡ true
-    → ((b : Body) → IfSome (rest b) (λ o. IsUnder l.parent o.groups)) → IfSome (passing l x rest) (λ o. IsUnder id o.groups)
+under-passing : (id : Stamp) (l : Link) (x : Option Object) (rest : Object → Option Over) → is_before id l.parent ≡ true
+    → ((b : Object) → IfSome (rest b) (λ o. IsUnder l.parent o.groups)) → IfSome (passing l x rest) (λ o. IsUnder id o.groups)
 under-passing id l None rest before h = tt
 under-passing id l (Some b) rest before h = go (rest b) (h b)
   where
@@ -57,23 +57,23 @@ over-apart n f id link = go (over_in n f id link) (over-under n f id link)
 
 -- ---- one object changed
 
--- the body x in place of that object's, or nothing
-abbrev pub with_body : Stamp → Option Body → Lookup → Lookup
-with_body id x f q = cond (is_same id q) x (f q)
+-- x in place of that object, or nothing
+abbrev pub with_object : Stamp → Option Object → Lookup → Lookup
+with_object id x f q = cond (is_same id q) x (f q)
 
--- With x in place of the object's body b, k makes of what was over an object what is over it now, and h makes of what was seen
+-- With x in place of the object b of that id, k makes of what was over an object what is over it now, and h makes of what was seen
 -- of it what is seen of it now.
-pub record Carries (id : Stamp) (b : Body) (x : Option Body) (k : Over → Option Over) (h : Sight → Option Sight) : Type 0 where
-  pub link : (c : Body) → x ≡ Some c → c.link ≡ b.link
+pub record Carries (id : Stamp) (b : Object) (x : Option Object) (k : Over → Option Over) (h : Sight → Option Sight) : Type 0 where
+  pub link : (c : Object) → x ≡ Some c → c.link ≡ b.link
   pub start : k nothing_over ≡ Some nothing_over
   pub through : (l : Link) (o : Over) → is_same id l.parent ≡ true → IsApart id o → passing l x (λ c. k o) ≡ k (over_by l b o)
-  pub past : (l : Link) (c : Body) (o : Over) → is_same id l.parent ≡ false → option_map (over_by l c) (k o) ≡ k (over_by l c o)
+  pub past : (l : Link) (c : Object) (o : Over) → is_same id l.parent ≡ false → option_map (over_by l c) (k o) ≡ k (over_by l c o)
   pub own : (o : Over) → IsApart id o → and_then (λ c. sight_by id c (k o)) x ≡ h (sight id b o)
-  pub others : (q : Stamp) (c : Body) (o : Over) → is_same id q ≡ false → option_map (sight q c) (k o) ≡ h (sight q c o)
+  pub others : (q : Stamp) (c : Object) (o : Over) → is_same id q ≡ false → option_map (sight q c) (k o) ≡ h (sight q c o)
 
-module _ (f : Lookup) (id : Stamp) (b : Body) (found : f id ≡ Some b) (stays : is_gone b ≡ false) (x : Option Body) (k : Over → Option Over) (h : Sight → Option Sight) (c : Carries id b x k h) where
+module _ (f : Lookup) (id : Stamp) (b : Object) (found : f id ≡ Some b) (stays : is_gone b ≡ false) (x : Option Object) (k : Over → Option Over) (h : Sight → Option Sight) (c : Carries id b x k h) where
   abbrev now : Lookup
-  now = with_body id x f
+  now = with_object id x f
 
   -- behind the test of the parent
   by-test : (t : Bool) (y z : Option Over) → y ≡ and_then k z → cond t y None ≡ and_then k (cond t z None)
@@ -85,11 +85,11 @@ module _ (f : Lookup) (id : Stamp) (b : Body) (found : f id ≡ Some b) (stays :
       → rest b.link ≡ and_then k (next b.link) → passing l x (λ v. rest v.link) ≡ and_then k (option_map (over_by l b) (next b.link))
   at-own l rest next same apart e = linked x (λ v is. ap rest (c.link v is) ∙ e) ∙ go (next b.link) apart
     where
-      linked : (y : Option Body) → ((v : Body) → y ≡ Some v → rest v.link ≡ and_then k (next b.link)) → passing l y (λ v. rest v.link) ≡ passing l y (λ v. and_then k (next b.link))
+      linked : (y : Option Object) → ((v : Object) → y ≡ Some v → rest v.link ≡ and_then k (next b.link)) → passing l y (λ v. rest v.link) ≡ passing l y (λ v. and_then k (next b.link))
       linked None g = refl
       linked (Some v) g = ap (option_map (over_by l v)) (g v refl)
 
-      none : (y : Option Body) → passing l y (λ v. None) ≡ None
+      none : (y : Option Object) → passing l y (λ v. None) ≡ None
       none None = refl
       none (Some v) = refl
 
@@ -98,7 +98,7 @@ module _ (f : Lookup) (id : Stamp) (b : Body) (found : f id ≡ Some b) (stays :
       go (Some o) a = c.through l o same a
 
   -- through another one
-  at-other : (l : Link) (y : Option Body) (rest next : Body → Option Over) → is_same id l.parent ≡ false → ((v : Body) → rest v ≡ and_then k (next v)) → passing l y rest ≡ and_then k (passing l y next)
+  at-other : (l : Link) (y : Option Object) (rest next : Object → Option Over) → is_same id l.parent ≡ false → ((v : Object) → rest v ≡ and_then k (next v)) → passing l y rest ≡ and_then k (passing l y next)
   at-other l None rest next other e = refl
   at-other l (Some v) rest next other e = ap (option_map (over_by l v)) (e v) ∙ go (next v)
     where
@@ -125,7 +125,7 @@ module _ (f : Lookup) (id : Stamp) (b : Body) (found : f id ≡ Some b) (stays :
   own-sight : (n : ℕ) → sight_of n now id x ≡ and_then h (sight_by id b (over_in n f id b.link))
   own-sight n = linked x (λ v is. ap (over_in n now id) (c.link v is) ∙ over-onward n id b.link) ∙ go (over_in n f id b.link) (over-apart n f id b.link) ∙ sym (ap (λ t. and_then h (cond t None (option_map (sight id b) (over_in n f id b.link)))) stays)
     where
-      linked : (y : Option Body) → ((v : Body) → y ≡ Some v → over_in n now id v.link ≡ and_then k (over_in n f id b.link)) → sight_of n now id y ≡ and_then (λ v. sight_by id v (and_then k (over_in n f id b.link))) y
+      linked : (y : Option Object) → ((v : Object) → y ≡ Some v → over_in n now id v.link ≡ and_then k (over_in n f id b.link)) → sight_of n now id y ≡ and_then (λ v. sight_by id v (and_then k (over_in n f id b.link))) y
       linked None g = refl
       linked (Some v) g = ap (sight_by id v) (g v refl)
 
@@ -133,7 +133,7 @@ module _ (f : Lookup) (id : Stamp) (b : Body) (found : f id ≡ Some b) (stays :
       hidden true = refl
       hidden false = refl
 
-      none : (y : Option Body) → and_then (λ v. sight_by id v None) y ≡ None
+      none : (y : Option Object) → and_then (λ v. sight_by id v None) y ≡ None
       none None = refl
       none (Some v) = hidden (is_gone v)
 
@@ -141,7 +141,7 @@ module _ (f : Lookup) (id : Stamp) (b : Body) (found : f id ≡ Some b) (stays :
       go None a = none x
       go (Some o) a = c.own o a
 
-  other-sight : (n : ℕ) (q : Stamp) (y : Option Body) → is_same id q ≡ false → sight_of n now q y ≡ and_then h (sight_of n f q y)
+  other-sight : (n : ℕ) (q : Stamp) (y : Option Object) → is_same id q ≡ false → sight_of n now q y ≡ and_then h (sight_of n f q y)
   other-sight n q None other = refl
   other-sight n q (Some v) other = ap (sight_by q v) (over-onward n q v.link) ∙ go (is_gone v) (over_in n f q v.link)
     where

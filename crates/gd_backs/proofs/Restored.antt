@@ -1,45 +1,46 @@
 -- The back of each edit restores what was seen before it.
-use Rattle.std.proofs.Common.{◌≡◌, ℤ, ◌+ℤ◌, ◌-ℤ◌, Bool, true, false, cond, not, ◌&&◌, ◌||◌, List, [], ◌∷◌, ◌++◌, map, Option, None, Some, Result, Ok, Err, refl, sym, ap, ◌∙◌, subst, arith}
+use Rattle.std.proofs.Common.{◌≡◌, ℤ, ◌+ℤ◌, ◌-ℤ◌, true, false, cond, not, ◌&&◌, ◌||◌, List, [], ◌∷◌, map, Option, None, Some, Result, Ok, Err, refl, sym, ap, ◌∙◌, subst, arith}
 use Rattle.std.specs.Prelude.{option_map, is_none}
 use Rattle.std.specs.List.{list_all, AllByRecursion as Every}
 use Rattle.std.specs.Option.{option_and_then as and_then}
 use Rattle.std.proofs.lemmas.Bool.{cond_both, and_parts, not-false}
 use Rattle.std.proofs.lemmas.Int.{ints}
 use Rattle.gd_base.proofs.Insertions.{Every-inserted}
-use Rattle.gd_base.proofs.StampLemmas.{is_same-true, is_same-refl}
+use Rattle.gd_base.proofs.StampLemmas.{is_same-refl}
+use Rattle.gd_base.specs.Contents.{Said}
 use Rattle.gd_base.specs.Ranges.{place_limit, is_within}
-use Rattle.gd_base.specs.Stamps.{Stamp, is_same, is_before}
-use Rattle.gd_base.specs.declared.edit.Edit.{Edit}
-use Rattle.gd_base.specs.declared.edit.Edit.TheVariants as wish
+use Rattle.gd_base.specs.Stamps.{Stamp, is_same}
+use Rattle.gd_lines.specs.Edits.{Edit}
+use Rattle.gd_base.specs.declared.op.Op.TheVariants as op
 use Rattle.gd_base.specs.declared.item.ShapeItem.{ShapeItem}
 use Rattle.gd_base.specs.declared.member.Member.{Member}
 use Rattle.gd_base.specs.declared.refusal.EditRefusal.{EditRefusal}
 use Rattle.gd_base.specs.declared.shape.Shape as shape
 use Rattle.gd_drawing.proofs.Lookups.{at_itself}
 use Rattle.gd_events.specs.Sound.{is_shift_in_range}
-use Rattle.gd_events.specs.declared.op.Op.{Op}
+use Rattle.gd_events.specs.Ops.{Op}
 use Rattle.gd_model.specs.declared.above.Above.{Above}
-use Rattle.gd_model.specs.declared.content.Content.{Content}
-use Rattle.gd_model.specs.declared.content.Content.TheVariants.{ToPlace, ToSize, ToText, ToFlag}
-use Rattle.gd_model.specs.declared.form.Form.TheVariants.{Creates, Groups}
-use Rattle.gd_model.specs.declared.object.Body.{Body}
+use Rattle.gd_base.specs.declared.content.Content.TheVariants.{ToPlace, ToFlag, ToRank}
+use Rattle.gd_model.specs.declared.form.Form.TheVariants.{Puts}
+use Rattle.gd_model.specs.declared.object.Object.{Object}
 use Rattle.gd_model.specs.declared.object.Kind.TheVariants.{Shape}
 use Rattle.gd_model.specs.declared.object.Link.{Link}
-use Rattle.gd_model.specs.Drawing.{Drawing, at_id, without, draw, first_naming, link_given}
-use Rattle.gd_model.specs.Forms.{form, styled}
-use Rattle.gd_model.specs.Objects.{new_shape, new_group, set_body}
+use Rattle.gd_model.specs.Drawing.{Drawing, at_id, without, placed, first_tie, all_tied, draw}
+use Rattle.gd_model.specs.Forms.{form, member_ties}
+use Rattle.gd_model.specs.Objects.{new_shape, new_group, set}
 use Rattle.gd_model.specs.Shown.{is_gone, shape_of}
 use Rattle.gd_reference.specs.Backs.{Back, Never, Takes}
-use Rattle.gd_reference.specs.Judging.{Target, target, target_at, with_target, of_shape, moved_to, targets, with_another, are_apart, is_free, member_at, by_id, with_targets, judged_over}
-use Rattle.gd_reference.specs.TakeBack.{item_of, move_back, look_back, old_style, back_over}
+use Rattle.gd_reference.specs.Judging.{Target, target, target_at, with_target, of_shape, set_in, targets, with_another, are_apart, is_free, member_at, by_id, with_targets, judged_over}
+use Rattle.gd_reference.specs.TakeBack.{item_of, move_back, old_look, set_back, back_over}
 use Rattle.gd_backs.proofs.Shown.{ShownAt, seen-cases, shape_item, look-cases}
 use Rattle.gd_backs.proofs.Sights.{look, Over, nothing_over, over, told, Sight, sight, view}
 use Rattle.gd_backs.proofs.Onward.{among}
 use Rattle.gd_backs.proofs.Changes.{shift_sight, look_sight}
-use Rattle.gd_backs.proofs.Looks.{put_item, old_item, look-draw, set-back, LookEdit, resizes, restyles, retexts, old-styled}
+use Rattle.gd_backs.proofs.Looks.{is_look, held_at, put_item, look-judged, look-set_back, look-draw, old-is_look, set-back}
 use Rattle.gd_backs.proofs.Views.{look-at, alike-from_same}
-use Rattle.gd_backs.proofs.Grouping.{linked, with_group, found-end, IsFree, linked-new, seen-regrouped}
-use Rattle.gd_backs.proofs.Pictures.{IsOlder, older-found, look-new, not-there, given-parent}
+use Rattle.gd_backs.proofs.Grouping.{with_group, IsFree, tied-new, seen-regrouped}
+use Rattle.gd_backs.proofs.Pictures.{IsOlder, older-found, look-new, tied-member}
+use Rattle.gd_backs.proofs.Placed.{untied, made, found-placed, without-placed}
 use Rattle.gd_backs.proofs.Restoring.{SeenAt, seen-there, seen-with, sight-there, effect-delete, effect-ungroup, effect-move, alike-twice, acts-delete, acts-ungroup, acts-move, effect-look, acts-look, Restores, restores}
 
 -- ---- the members of a new group
@@ -64,7 +65,7 @@ every-by_id P (m ∷ ms) h = Every-inserted (λ (n : Member). n.id) P (by_id ms)
 
 -- no group holds the member, and its shift is the sum above it
 abbrev FreeMember : Drawing → Member → Type 0
-FreeMember d m = (b : Body) → look d m.id ≡ Some b → over d m.id b.link ≡ Some record { groups = []; dx = m.dx; dy = m.dy }
+FreeMember d m = (b : Object) → look d m.id ≡ Some b → over d m.id b.link ≡ Some record { groups = []; dx = m.dx; dy = m.dy }
 
 no-groups : (o : Over) (a : Above) → told o ≡ a → is_none a.parent ≡ true → Some o ≡ Some record { groups = []; dx = a.dx; dy = a.dy }
 no-groups o a is none = go o.groups refl (ap (λ (v : Above). is_none v.parent) is ∙ none)
@@ -78,10 +79,10 @@ free-member d id t is free b found =
     seen-cases d id (λ v i. v ≡ Some t → over d id b.link ≡ Some record { groups = []; dx = t.above.dx; dy = t.above.dy }) (λ e. cc)
     (λ c a s e.
     let own : target_at c a ≡ t = cc in
-    let body : Some c ≡ Some b = sym s.found ∙ found in
+    let object : Some c ≡ Some b = sym s.found ∙ found in
     let same : c ≡ b = cc in
     let up = seen-with d id c a s in
-    ap (λ (v : Body). over d id v.link) (sym same) ∙ up.whole ∙ no-groups up.up t.above (up.told_is ∙ ap (λ (v : Target). v.above) own) free)
+    ap (λ (v : Object). over d id v.link) (sym same) ∙ up.whole ∙ no-groups up.up t.above (up.told_is ∙ ap (λ (v : Target). v.above) own) free)
     is
 
 -- each member, and so the link that it is given
@@ -91,159 +92,148 @@ free-members d (t ∷ ts) all free =
     let parts = and_parts (is_free t) (list_all is_free ts) free in
     (free-member d t.0 t.1 all.0 parts.0, free-members d ts all.1 parts.1)
 
-free-named : (s : Stamp) (d : Drawing) (ms : List Member) (q : Stamp) (b : Body) (l : Link) → Every (FreeMember d) ms → look d q ≡ Some b → first_naming s ms q ≡ Some l
-    → over d q b.link ≡ Some record { groups = []; dx = l.dx; dy = l.dy }
-free-named s d [] q b l free found e = cc
-free-named s d (m ∷ ms) q b l free found e =
-    cond_both (is_same q m.id) _ _ (λ (x : Option Link). x ≡ Some l → over d q b.link ≡ Some record { groups = []; dx = l.dx; dy = l.dy })
-    (λ same k.
-    let first : Link = record { parent = s; dx = m.dx; dy = m.dy } in
-    let is : first ≡ l = cc in
-    let here : m.id ≡ q = sym (is_same-true q m.id same) in
-    subst (λ p. over d p b.link ≡ Some record { groups = []; dx = l.dx; dy = l.dy }) here
-    (free.0 b (ap (look d) here ∙ found) ∙ (λ i. Some record { groups = []; dx = (is i).dx; dy = (is i).dy })))
-    (λ other k. free-named s d ms q b l free.1 found k) e
-
-free-given : (s : Stamp) (d : Drawing) (ms : List Member) → Every (FreeMember d) ms → (q : Stamp) (b : Body) (l : Link) → look d q ≡ Some b → link_given s ms q ≡ Some l → IsFree s d q b l
-free-given s d ms free q b l found e =
-    cond_both (is_before q s) _ _ (λ (x : Option Link). x ≡ Some l → IsFree s d q b l)
-    (λ before k. record { parent = given-parent s ms q l e; before = before; over = free-named s d ms q b l free found k }) (λ other k. cc) e
+free-given : (s : Stamp) (d : Drawing) (ms : List Member) → Every (FreeMember d) ms → (q : Stamp) (b : Object) (link : Option Link) → look d q ≡ Some b → first_tie (member_ties s ms) q ≡ Some link → IsFree s d q b link
+free-given s d ms free q b link found e =
+    let tie = tied-member (FreeMember d) s ms free q link e in
+    record {
+      up = record { parent = s; dx = tie.member.dx; dy = tie.member.dy };
+      is = tie.is;
+      parent = refl;
+      before = tie.before;
+      over = subst (λ p. over d p b.link ≡ Some record { groups = []; dx = tie.member.dx; dy = tie.member.dy }) tie.here (tie.holds b (ap (look d) tie.here ∙ found));
+    }
 
 -- ---- each edit
-
--- a new object at the end goes again
-without-end : (d : Drawing) (s : Stamp) (b : Body) → look d s ≡ None → without s (d ++ (s, b) ∷ []) ≡ d
-without-end [] s b new = ap (λ t. cond (not t) ((s, b) ∷ []) []) (is_same-refl s)
-without-end (e ∷ es) s b new = go (is_same s e.0) new (without-end es s b)
-  where
-    go : (t : Bool) → cond t (Some e.1) (look es s) ≡ None → (look es s ≡ None → without s (es ++ (s, b) ∷ []) ≡ es) → cond (not t) (e ∷ without s (es ++ (s, b) ∷ [])) (without s (es ++ (s, b) ∷ [])) ≡ e ∷ es
-    go true k rest = cc
-    go false k rest = ap (λ d. e ∷ d) (rest k)
 
 -- the back leaves what was seen before the edit, where the edit is accepted and has a back
 abbrev pub RestoredBy : Stamp → Drawing → Back → Result Op EditRefusal → Type 0
 RestoredBy s b Never judgement = Unit {0}
 RestoredBy s b (Takes w) (Err why) = Unit {0}
-RestoredBy s b (Takes w) (Ok change) = Restores b (draw s (form s change) b) w
+RestoredBy s b (Takes w) (Ok change) = Restores b (draw (form s change) b) w
 
 module _ (s : Stamp) (b : Drawing) (older : Every (IsOlder s) b) where
-  -- a new object at the end is seen
-  seen-new : (d : Drawing) (x : Body) → look d s ≡ None → is_gone x ≡ false → x.link ≡ None → SeenAt (d ++ (s, x) ∷ []) s (sight s x nothing_over)
+  -- a new object is seen
+  seen-new : (d : Drawing) (x : Object) → look d s ≡ None → is_gone x ≡ false → x.link ≡ None → SeenAt (placed s x d) s (sight s x nothing_over)
   seen-new d x new stays link =
-      record { body = x; found = found-end d s x new; stays = stays; up = nothing_over; whole = ap (over (d ++ (s, x) ∷ []) s) link; same = refl }
+      record { object = x; found = found-placed s x d new; stays = stays; up = nothing_over; whole = ap (over (placed s x d) s) link; same = refl }
 
   -- a new object, and a new group
-  created : (x : Body) → is_gone x ≡ false → x.dissolved ≡ false → x.link ≡ None → Restores b (draw s (Creates x) b) (wish.Delete s)
+  created : (x : Object) → is_gone x ≡ false → x.dissolved ≡ false → x.link ≡ None → Restores b (draw (Puts s x []) b) (op.Delete s)
   unfolding seen-new
   created x shown stays link =
       let new = look-new s b older in
-      let c = b ++ (s, x) ∷ [] in
+      let c = placed s x b in
       let p = seen-new b x new shown link in
-      subst (λ d. Restores b d (wish.Delete s)) (sym (ap (λ t. cond t b c) (not-there s b older)))
-      (restores b c (without s c) s (sight s x nothing_over) (wish.Delete s) _ p (effect-delete p stays) (alike-from_same _ b (without-end b s x new)) (λ a q still. acts-delete q still))
+      subst (λ d. Restores b d (op.Delete s)) (sym (made b s x [] new ∙ ap (placed s x) (untied b)))
+      (restores b c (without s c) s (sight s x nothing_over) (op.Delete s) _ p (effect-delete p stays) (alike-from_same _ b (without-placed s x b new)) (λ a q still. acts-delete q still))
 
-  group-made : (ms : List Member) → Every (FreeMember b) ms → Restores b (draw s (Groups ms) b) (wish.Ungroup s)
+  group-made : (ms : List Member) → Every (FreeMember b) ms → Restores b (draw (Puts s (new_group s) (member_ties s ms)) b) (op.Set s (ToFlag true))
   unfolding seen-new
   group-made ms free =
       let new = look-new s b older in
-      let c = with_group s ms b in
-      let elsewhere : (q : Stamp) (v : Body) → look b q ≡ Some v → (l : Link) → v.link ≡ Some l → is_same s l.parent ≡ false = λ q v found. (older-found s b older q v found).elsewhere in
-      let p = seen-new (linked s ms b) new_group (linked-new s ms b new (free-given s b ms free) elsewhere) refl refl in
-      subst (λ d. Restores b d (wish.Ungroup s)) (sym (ap (λ t. cond t b c) (not-there s b older)))
-      (restores b c (at_id s (set_body (ToFlag true)) c) s (sight s new_group nothing_over) (wish.Ungroup s) _ p (effect-ungroup p refl refl)
-      (seen-regrouped s ms b new (free-given s b ms free) elsewhere) (λ a q still. acts-ungroup q still refl))
+      let ties = member_ties s ms in
+      let c = with_group s ties b in
+      let elsewhere : (q : Stamp) (v : Object) → look b q ≡ Some v → (l : Link) → v.link ≡ Some l → is_same s l.parent ≡ false = λ q v found. (older-found s b older q v found).elsewhere in
+      let p = seen-new (all_tied ties b) (new_group s) (tied-new s ties b new (free-given s b ms free) elsewhere) refl refl in
+      subst (λ d. Restores b d (op.Set s (ToFlag true))) (sym (made b s (new_group s) ties new))
+      (restores b c (at_id s (set (ToFlag true)) c) s (sight s (new_group s) nothing_over) (op.Set s (ToFlag true)) _ p (effect-ungroup p refl refl)
+      (seen-regrouped s ties b new (free-given s b ms free) elsewhere) (λ a q still. acts-ungroup q still refl))
 
-  group-restored : (named : List Stamp) → RestoredBy s b (Takes (wish.Ungroup s)) (with_targets (targets (target b) named))
+  group-restored : (named : List Stamp) → RestoredBy s b (Takes (op.Set s (ToFlag true))) (with_targets (targets (target b) named))
   group-restored named = go (targets (target b) named) refl
     where
-      go : (x : Option (List (Stamp × Target))) → targets (target b) named ≡ x → RestoredBy s b (Takes (wish.Ungroup s)) (with_targets x)
+      go : (x : Option (List (Stamp × Target))) → targets (target b) named ≡ x → RestoredBy s b (Takes (op.Set s (ToFlag true))) (with_targets x)
       go None is = tt
       go (Some ts) is =
-          let goal : Result Op EditRefusal → Type 0 = RestoredBy s b (Takes (wish.Ungroup s)) in
+          let goal : Result Op EditRefusal → Type 0 = RestoredBy s b (Takes (op.Set s (ToFlag true))) in
           cond_both (not (are_apart (map (λ t. t.0) ts))) _ _ goal (λ twice. tt) (λ once.
           cond_both (not (list_all is_free ts)) _ _ goal (λ held. tt) (λ free.
           cond_both (not (list_all is_shift_in_range (map member_at ts))) _ _ goal (λ far. tt) (λ near.
           group-made (by_id (map member_at ts)) (every-by_id (FreeMember b) (map member_at ts) (free-members b ts (every-target (target b) named ts is) (not-false _ free))))))
 
   -- what is seen of an object that is shown
-  sight-shown : (id : Stamp) (v : Body) (a : Above) (sh : ShownAt b id v a) → SeenAt b id (sight id v (seen-with b id v a sh).up)
+  sight-shown : (id : Stamp) (v : Object) (a : Above) (sh : ShownAt b id v a) → SeenAt b id (sight id v (seen-with b id v a sh).up)
   sight-shown id v a sh =
-      let w = seen-with b id v a sh in record { body = v; found = sh.found; stays = sh.stays; up = w.up; whole = w.whole; same = refl }
+      let w = seen-with b id v a sh in record { object = v; found = sh.found; stays = sh.stays; up = w.up; whole = w.whole; same = refl }
 
-  not-dissolved : (id : Stamp) (v : Body) (a : Above) → ShownAt b id v a → v.dissolved ≡ false
+  not-dissolved : (id : Stamp) (v : Object) (a : Above) → ShownAt b id v a → v.dissolved ≡ false
   not-dissolved id v a sh = sym (older-found s b older id v sh.found).sane ∙ sh.stays
 
   -- an object moved, and a shape with another look
-  move-made : (id : Stamp) (v : Body) (a : Above) → ShownAt b id v a → (x y : ℤ) → Restores b (at_id id (set_body (ToPlace x y)) b) (wish.Move id (v.x +ℤ a.dx) (v.y +ℤ a.dy))
+  move-made : (id : Stamp) (v : Object) (a : Above) → ShownAt b id v a → (x y : ℤ) → Restores b (at_id id (set (ToPlace x y)) b) (op.Set id (ToPlace (v.x +ℤ a.dx) (v.y +ℤ a.dy)))
   unfolding sight-shown
   move-made id v a sh x y =
       let w = seen-with b id v a sh in
       let t = sight id v w.up in
       let p = sight-shown id v a sh in
-      let c = at_id id (set_body (ToPlace x y)) b in
+      let c = at_id id (set (ToPlace x y)) b in
       let dx = (x +ℤ w.up.dx) -ℤ t.x in
       let dy = (y +ℤ w.up.dy) -ℤ t.y in
       let after : Sight = record t { x = dx +ℤ t.x; y = dy +ℤ t.y } in
       let moved = effect-move p (not-dissolved id v a sh) x y (x +ℤ w.up.dx) (y +ℤ w.up.dy) refl refl in
       let q = seen-there c id after (moved.views id ∙ ap (and_then (shift_sight id dx dy)) (sight-there p) ∙ ap (λ r. Some (cond (r || among id w.up.groups) after t)) (is_same-refl id)) in
-      let body : Some (record v { x = x; y = y }) ≡ Some q.body = sym (look-at id (set_body (ToPlace x y)) v b sh.found id ∙ at_itself id _ _) ∙ q.found in
-      let same : record v { x = x; y = y } ≡ q.body = cc in
-      let qx : q.body.x +ℤ q.up.dx ≡ dx +ℤ t.x = ap (λ (z : Sight). z.x) q.same in
-      let qy : q.body.y +ℤ q.up.dy ≡ dy +ℤ t.y = ap (λ (z : Sight). z.y) q.same in
-      let bx : x ≡ q.body.x = ap (λ (z : Body). z.x) same in
-      let by : y ≡ q.body.y = ap (λ (z : Body). z.y) same in
+      let object : Some (record v { x = x; y = y }) ≡ Some q.object = sym (look-at id (set (ToPlace x y)) v b sh.found id ∙ at_itself id _ _) ∙ q.found in
+      let same : record v { x = x; y = y } ≡ q.object = cc in
+      let qx : q.object.x +ℤ q.up.dx ≡ dx +ℤ t.x = ap (λ (z : Sight). z.x) q.same in
+      let qy : q.object.y +ℤ q.up.dy ≡ dy +ℤ t.y = ap (λ (z : Sight). z.y) q.same in
+      let bx : x ≡ q.object.x = ap (λ (z : Object). z.x) same in
+      let by : y ≡ q.object.y = ap (λ (z : Object). z.y) same in
       let ax : w.up.dx ≡ a.dx = ap (λ (z : Above). z.dx) w.told_is in
       let ay : w.up.dy ≡ a.dy = ap (λ (z : Above). z.dy) w.told_is in
       let ex : v.x +ℤ q.up.dx ≡ v.x +ℤ a.dx = omega (arith, ints, qx, bx, ax) in
       let ey : v.y +ℤ q.up.dy ≡ v.y +ℤ a.dy = omega (arith, ints, qy, by, ay) in
-      restores b c (at_id id (set_body (ToPlace v.x v.y)) c) id after (wish.Move id (v.x +ℤ a.dx) (v.y +ℤ a.dy)) _ q
-      (effect-move q (ap (λ (z : Body). z.dissolved) (sym same) ∙ not-dissolved id v a sh) v.x v.y (v.x +ℤ a.dx) (v.y +ℤ a.dy) ex ey)
-      (alike-twice b id (set_body (ToPlace v.x v.y)) (set_body (ToPlace x y)) v sh.found refl) (λ d r still. acts-move r still (v.x +ℤ a.dx) (v.y +ℤ a.dy))
+      restores b c (at_id id (set (ToPlace v.x v.y)) c) id after (op.Set id (ToPlace (v.x +ℤ a.dx) (v.y +ℤ a.dy))) _ q
+      (effect-move q (ap (λ (z : Object). z.dissolved) (sym same) ∙ not-dissolved id v a sh) v.x v.y (v.x +ℤ a.dx) (v.y +ℤ a.dy) ex ey)
+      (alike-twice b id (set (ToPlace v.x v.y)) (set (ToPlace x y)) v sh.found refl) (λ d r still. acts-move r still (v.x +ℤ a.dx) (v.y +ℤ a.dy))
 
-  look-made : (id : Stamp) (v : Body) (a : Above) (kind : shape.Shape) → ShownAt b id v a → v.kind ≡ Shape kind → (c : Content) (w old : Edit) → LookEdit w id c → LookEdit old id (old_item c (shape_item kind v))
-      → Restores b (at_id id (set_body c) b) old
+  look-made : (id : Stamp) (v : Object) (a : Above) (kind : shape.Shape) → ShownAt b id v a → v.kind ≡ Shape kind → (c : Said) → is_look c ≡ true
+      → Restores b (at_id id (set (held_at s c)) b) (op.Set id (old_look c (shape_item kind v)))
   unfolding sight-shown
-  look-made id v a kind sh shaped c w old l back =
+  look-made id v a kind sh shaped c is =
       let t = sight id v (seen-with b id v a sh).up in
       let p = sight-shown id v a sh in
       let item = shape_item kind v in
+      let back = old_look c item in
+      let back_is : is_look back ≡ true = old-is_look c item is in
       let some : t.shape ≡ Some item = ap (λ k. shape_of k v) shaped in
       let after : Sight = record t { shape = Some (put_item c item) } in
-      let looked = effect-look p c w l item some in
-      let seen : view (at_id id (set_body c) b) id ≡ Some after =
+      let looked = effect-look p s c is item some in
+      let d = at_id id (set (held_at s c)) b in
+      let seen : view d id ≡ Some after =
       looked.views id ∙ ap (and_then (look_sight id (put_item c))) (sight-there p)
       ∙ (λ i. Some (record t { shape = cond (is_same-refl id i) (option_map (put_item c) (some i)) (some i) })) in
-      let q = seen-there (at_id id (set_body c) b) id after seen in
-      restores b (at_id id (set_body c) b) (at_id id (set_body (old_item c item)) (at_id id (set_body c) b)) id after old _ q
-      (effect-look q (old_item c item) old back (put_item c item) refl)
-      (alike-twice b id (set_body (old_item c item)) (set_body c) v sh.found (set-back c l.is_look v kind shaped))
-      (λ d r still. acts-look r (old_item c item) old back (put_item c item) refl)
+      let q = seen-there d id after seen in
+      restores b d (at_id id (set (held_at s back)) d) id after (op.Set id back) _ q
+      (effect-look q s back back_is (put_item c item) refl)
+      (alike-twice b id (set (held_at s back)) (set (held_at s c)) v sh.found (set-back s s c is v kind shaped))
+      (λ e r still. acts-look r back back_is (put_item c item) refl)
 
   -- the edits that become these
-  look-restored : (id : Stamp) (c : Content) (w : Edit) (old : ShapeItem → Edit) → LookEdit w id c → ((item : ShapeItem) → LookEdit (old item) id (old_item c item))
-      → RestoredBy s b (look_back old (item_of b id)) (judged_over (target b) w)
-  look-restored id c w old l back =
-      subst (RestoredBy s b (look_back old (item_of b id))) (sym (l.judges (target b)))
-      (look-cases b id old (λ t k. RestoredBy s b k (with_target t (λ v. of_shape l.change v.kind))) tt (λ v a sh group. tt)
+  look-restored : (id : Stamp) (c : Said) → is_look c ≡ true → RestoredBy s b (set_back id c (item_of b id)) (judged_over (target b) (op.Set id c))
+  look-restored id c is =
+      let change : Op = op.Set id c in
+      let old : ShapeItem → Edit = λ item. op.Set id (old_look c item) in
+      subst (λ k. RestoredBy s b k (with_target (target b id) (set_in id c))) (sym (look-set_back id c (item_of b id) is))
+      (look-cases b id old (λ t k. RestoredBy s b k (with_target t (set_in id c))) tt (λ v a sh group. tt)
       (λ v a kind sh shaped.
-      subst (RestoredBy s b (Takes (old (shape_item kind v)))) (sym (ap (of_shape l.change) shaped))
-      (subst (λ d. Restores b d (old (shape_item kind v))) (sym (ap (λ f. draw s f b) (l.forms s) ∙ look-draw s id c b l.is_look))
-      (look-made id v a kind sh shaped c w (old (shape_item kind v)) l (back (shape_item kind v))))))
+      subst (RestoredBy s b (Takes (old (shape_item kind v)))) (sym (look-judged id c (target_at v a) is ∙ ap (of_shape change) shaped))
+      (subst (λ d. Restores b d (old (shape_item kind v))) (sym (look-draw s id c b is)) (look-made id v a kind sh shaped c is))))
 
-  move-restored : (id : Stamp) (x y : ℤ) → RestoredBy s b (move_back id (item_of b id)) (with_target (target b id) (λ t. moved_to id (x -ℤ t.above.dx) (y -ℤ t.above.dy)))
+  move-restored : (id : Stamp) (x y : ℤ) → RestoredBy s b (move_back id (item_of b id)) (with_target (target b id) (set_in id (ToPlace x y)))
   move-restored id x y =
-      seen-cases b id (λ t i. RestoredBy s b (move_back id i) (with_target t (λ v. moved_to id (x -ℤ v.above.dx) (y -ℤ v.above.dy)))) tt
+      seen-cases b id (λ t i. RestoredBy s b (move_back id i) (with_target t (set_in id (ToPlace x y)))) tt
       (λ v a sh.
-      cond_both (is_within place_limit (x -ℤ a.dx) && is_within place_limit (y -ℤ a.dy)) _ _ (RestoredBy s b (Takes (wish.Move id (v.x +ℤ a.dx) (v.y +ℤ a.dy))))
+      cond_both (is_within place_limit (x -ℤ a.dx) && is_within place_limit (y -ℤ a.dy)) _ _ (RestoredBy s b (Takes (op.Set id (ToPlace (v.x +ℤ a.dx) (v.y +ℤ a.dy)))))
       (λ near. move-made id v a sh (x -ℤ a.dx) (y -ℤ a.dy)) (λ far. tt))
 
+  set-restored : (id : Stamp) (c : Said) → RestoredBy s b (set_back id c (item_of b id)) (judged_over (target b) (op.Set id c))
+  set-restored id (ToPlace x y) = move-restored id x y
+  set-restored id (ToFlag flag) = tt
+  set-restored id (ToRank side) = tt
+  set-restored id c = look-restored id c refl
+
   pub restored : (wanted : Edit) → RestoredBy s b (back_over b s wanted) (judged_over (target b) wanted)
-  restored (wish.Create kind x y w h label) = created (new_shape kind x y w h label) refl refl refl
-  restored (wish.Move id x y) = move-restored id x y
-  restored (wish.Resize id w h) = look-restored id (ToSize w h) (wish.Resize id w h) (λ old. wish.Resize id old.w old.h) (resizes id w h) (λ item. resizes id item.w item.h)
-  restored (wish.Restyle id style) =
-      look-restored id (styled style) (wish.Restyle id style) (λ old. wish.Restyle id (old_style style old)) (restyles id style)
-      (λ item. subst (LookEdit (wish.Restyle id (old_style style item)) id) (old-styled style item) (restyles id (old_style style item)))
-  restored (wish.Retext id label) = look-restored id (ToText label) (wish.Retext id label) (λ old. wish.Retext id old.label) (retexts id label) (λ item. retexts id item.label)
-  restored (wish.Group named) = group-restored named
-  restored wanted = tt
+  restored (op.Create kind x y w h label) = created (new_shape s kind x y w h label) refl refl refl
+  restored (op.Set id c) = set-restored id c
+  restored (op.Group named) = group-restored named
+  restored (op.Delete id) = tt

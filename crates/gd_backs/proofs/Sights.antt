@@ -9,14 +9,14 @@ use Rattle.gd_base.specs.declared.item.Item.{Item}
 use Rattle.gd_base.specs.declared.item.ShapeItem.{ShapeItem}
 use Rattle.gd_drawing.proofs.Chains.{above-enough}
 use Rattle.gd_model.specs.declared.above.Above.{Above}
-use Rattle.gd_model.specs.declared.object.Body.{Body}
+use Rattle.gd_model.specs.declared.object.Object.{Object}
 use Rattle.gd_model.specs.declared.object.Link.{Link}
 use Rattle.gd_model.specs.Drawing.{Drawing}
 use Rattle.gd_model.specs.Shown.{above_in, above_by, through, shape_of, is_gone}
 
--- which body each id has
+-- which object each id has
 abbrev pub Lookup : Type 0
-Lookup = Stamp → Option Body
+Lookup = Stamp → Option Object
 
 abbrev pub look : Drawing → Lookup
 look d id = map_of.find stamp_cmp id d
@@ -32,7 +32,7 @@ pub record Over : Type 0 where
 abbrev pub nothing_over : Over
 nothing_over = record { groups = []; dx = pos 0; dy = pos 0 }
 
-abbrev pub over_by : Link → Body → Over → Over
+abbrev pub over_by : Link → Object → Over → Over
 over_by link g o =
     record {
       groups = cond g.dissolved o.groups (link.parent ∷ o.groups);
@@ -40,7 +40,7 @@ over_by link g o =
       dy = (link.dy +ℤ g.y) +ℤ o.dy;
     }
 
-abbrev pub passing : Link → Option Body → (Body → Option Over) → Option Over
+abbrev pub passing : Link → Option Object → (Object → Option Over) → Option Over
 passing link None rest = None
 passing link (Some g) rest = option_map (over_by link g) (rest g)
 
@@ -64,13 +64,13 @@ pub record Sight : Type 0 where
   pub y : ℤ
   pub shape : Option ShapeItem
 
-abbrev pub sight : Stamp → Body → Over → Sight
+abbrev pub sight : Stamp → Object → Over → Sight
 sight id b o = record { id = id; groups = o.groups; x = b.x +ℤ o.dx; y = b.y +ℤ o.dy; shape = shape_of b.kind b }
 
-abbrev pub sight_by : Stamp → Body → Option Over → Option Sight
+abbrev pub sight_by : Stamp → Object → Option Over → Option Sight
 sight_by id b x = cond (is_gone b) None (option_map (sight id b) x)
 
-abbrev pub sight_of : ℕ → Lookup → Stamp → Option Body → Option Sight
+abbrev pub sight_of : ℕ → Lookup → Stamp → Option Object → Option Sight
 sight_of n f id None = None
 sight_of n f id (Some b) = sight_by id b (over_in n f id b.link)
 
@@ -102,7 +102,7 @@ abbrev pub item : Sight → Item
 item s = record { id = s.id; parent = first s.groups; at = record { x = s.x; y = s.y }; shape = s.shape }
 
 -- both sum up alike, link by link
-told-by : (l : Link) (g : Body) (dissolved : Bool) (x : Option Over)
+told-by : (l : Link) (g : Object) (dissolved : Bool) (x : Option Over)
     → (let by : Over → Over = λ o. record { groups = cond dissolved o.groups (l.parent ∷ o.groups); dx = (l.dx +ℤ g.x) +ℤ o.dx; dy = (l.dy +ℤ g.y) +ℤ o.dy } in
     let on : Above → Above = λ a. record { parent = cond dissolved a.parent (Some l.parent); dx = (l.dx +ℤ g.x) +ℤ a.dx; dy = (l.dy +ℤ g.y) +ℤ a.dy } in
     option_map told (option_map by x) ≡ option_map on (option_map told x))
@@ -110,7 +110,7 @@ told-by l g dissolved None = refl
 told-by l g true (Some o) = refl
 told-by l g false (Some o) = refl
 
-told-passing : (l : Link) (x : Option Body) (rest : Body → Option Over) (other : Body → Option Above) → ((b : Body) → option_map told (rest b) ≡ other b) → option_map told (passing l x rest) ≡ through l x other
+told-passing : (l : Link) (x : Option Object) (rest : Object → Option Over) (other : Object → Option Above) → ((b : Object) → option_map told (rest b) ≡ other b) → option_map told (passing l x rest) ≡ through l x other
 told-passing l None rest other h = refl
 told-passing l (Some g) rest other h = told-by l g g.dissolved (rest g) ∙ ap (option_map (above_by l g)) (h g)
 
@@ -129,26 +129,26 @@ told-over (suc n) d id (Some l) =
 -- an object with something over it, and what is over its parent
 pub record Up (n : ℕ) (f : Lookup) (id : Stamp) (l : Link) (o : Over) : Type 0 where
   pub before : is_before id l.parent ≡ true
-  pub body : Body
-  pub found : f l.parent ≡ Some body
+  pub object : Object
+  pub found : f l.parent ≡ Some object
   pub rest : Over
-  pub up : over_in n f l.parent body.link ≡ Some rest
-  pub is : over_by l body rest ≡ o
+  pub up : over_in n f l.parent object.link ≡ Some rest
+  pub is : over_by l object rest ≡ o
 
 -- up to the parent
 pub go-up : (n : ℕ) (f : Lookup) (id : Stamp) (l : Link) (o : Over) → over_in (suc n) f id (Some l) ≡ Some o → Up n f id l o
-go-up n f id l o e = by_body (is_before id l.parent) refl (f l.parent) refl e
+go-up n f id l o e = by_object (is_before id l.parent) refl (f l.parent) refl e
   where
-    by_over : is_before id l.parent ≡ true → (b : Body) → f l.parent ≡ Some b → (x : Option Over) → over_in n f l.parent b.link ≡ x → option_map (over_by l b) x ≡ Some o → Up n f id l o
+    by_over : is_before id l.parent ≡ true → (b : Object) → f l.parent ≡ Some b → (x : Option Over) → over_in n f l.parent b.link ≡ x → option_map (over_by l b) x ≡ Some o → Up n f id l o
     by_over before b found None up k = cc
-    by_over before b found (Some p) up k = record { before = before; body = b; found = found; rest = p; up = up; is = cc }
+    by_over before b found (Some p) up k = record { before = before; object = b; found = found; rest = p; up = up; is = cc }
 
-    by_body : (t : Bool) → is_before id l.parent ≡ t → (x : Option Body) → f l.parent ≡ x → cond t (passing l x (λ g. over_in n f l.parent g.link)) None ≡ Some o → Up n f id l o
-    by_body true before (Some b) found k = by_over before b found (over_in n f l.parent b.link) refl k
-    by_body t before x found k = cc
+    by_object : (t : Bool) → is_before id l.parent ≡ t → (x : Option Object) → f l.parent ≡ x → cond t (passing l x (λ g. over_in n f l.parent g.link)) None ≡ Some o → Up n f id l o
+    by_object true before (Some b) found k = by_over before b found (over_in n f l.parent b.link) refl k
+    by_object t before x found k = cc
 
 -- and down from it
-pub go-down : (n : ℕ) (f : Lookup) (id : Stamp) (l : Link) (b : Body) (o : Over) → is_before id l.parent ≡ true → f l.parent ≡ Some b → over_in n f l.parent b.link ≡ Some o
+pub go-down : (n : ℕ) (f : Lookup) (id : Stamp) (l : Link) (b : Object) (o : Over) → is_before id l.parent ≡ true → f l.parent ≡ Some b → over_in n f l.parent b.link ≡ Some o
     → over_in (suc n) f id (Some l) ≡ Some (over_by l b o)
 go-down n f id l b o before found up =
     ap (λ t. cond t (passing l (f l.parent) (λ g. over_in n f l.parent g.link)) None) before
@@ -163,7 +163,7 @@ one-more n f id None o e = e
 one-more zero f id (Some l) o e = cc
 one-more (suc n) f id (Some l) o e =
     let u = go-up n f id l o e in
-    go-down (suc n) f id l u.body u.rest u.before u.found (one-more n f l.parent u.body.link u.rest u.up) ∙ ap Some u.is
+    go-down (suc n) f id l u.object u.rest u.before u.found (one-more n f l.parent u.object.link u.rest u.up) ∙ ap Some u.is
 
 some-more : (k n m : ℕ) (f : Lookup) (id : Stamp) (link : Option Link) (o : Over) → m ≡ k + n → over_in n f id link ≡ Some o → over_in m f id link ≡ Some o
 some-more zero n m f id link o is e = let same : n ≡ m = omega (arith, is) in subst (λ i. over_in i f id link ≡ Some o) same e

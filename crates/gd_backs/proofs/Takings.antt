@@ -5,10 +5,10 @@ use Rattle.std.specs.List.{list_all, AllByRecursion as Every}
 use Rattle.std.proofs.lemmas.Bool.{cond_both, and_parts, ltb-true, ltb-false}
 use Rattle.gd_base.proofs.Lists.{Every-weaker}
 use Rattle.gd_base.specs.Stamps.{Stamp}
-use Rattle.gd_base.specs.declared.edit.Edit.{Edit}
+use Rattle.gd_lines.specs.Edits.{Edit}
 use Rattle.gd_base.specs.declared.refusal.EditRefusal.{EditRefusal}
 use Rattle.gd_events.specs.Events.{Event}
-use Rattle.gd_events.specs.declared.op.Op.{Op}
+use Rattle.gd_events.specs.Ops.{Op}
 use Rattle.gd_model.specs.Drawing.{draw, picture}
 use Rattle.gd_model.specs.Forms.{form}
 use Rattle.gd_reference.specs.Backs.{Back, Takes}
@@ -45,7 +45,7 @@ held-older slow = older-picture (next slow) slow.held (held-earlier slow)
 
 -- and it is drawn last
 drawn-next : (slow : SlowSite) (change : Op)
-    → picture (slow.held ++ next_event slow.me (clock slow) (length (own slow)) change ∷ []) ≡ draw (next slow) (form (next slow) change) (picture slow.held)
+    → picture (slow.held ++ next_event slow.me (clock slow) (length (own slow)) change ∷ []) ≡ draw (form (next slow) change) (picture slow.held)
 drawn-next slow change = picture-push slow.held (next_event slow.me (clock slow) (length (own slow)) change) (held-earlier slow)
 
 -- the back restores what was seen
@@ -77,7 +77,7 @@ edit-leaves old now w judgement =
     go (far e) = subst (λ r. Leaves old now (or_refused (event_of now.me (clock now) (length (own now)) r))) (sym e) refl
     go (good change e alike) =
         subst (λ r. Leaves old now (or_refused (event_of now.me (clock now) (length (own now)) r))) (sym e)
-        (alike-trans _ (draw (next now) (form (next now) change) (picture now.held)) (picture old.held) (alike-from_same _ _ (drawn-next now change)) (alike (next now)))
+        (alike-trans _ (draw (form (next now) change) (picture now.held)) (picture old.held) (alike-from_same _ _ (drawn-next now change)) (alike (next now)))
 
 undo-leaves : (old now : SlowSite) (w : Edit) → slice_get now.backs 0 ≡ Some (Takes w) → Judged (picture old.held) (picture now.held) w → Leaves old now (undo now)
 unfolding undo

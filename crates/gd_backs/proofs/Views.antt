@@ -1,7 +1,7 @@
 -- What is seen of a drawing after one of its objects is changed or goes, and drawings that are seen alike.
-use Rattle.std.proofs.Common.{◌≡◌, ℕ, ◌≤◌, Bool, true, false, cond, not, ◌||◌, List, [], ◌∷◌, length, map, Option, None, Some, refl, sym, ap, ◌∙◌, arith}
+use Rattle.std.proofs.Common.{◌≡◌, ℕ, ◌≤◌, Bool, true, false, cond, not, List, [], ◌∷◌, length, map, Option, None, Some, refl, sym, ap, ◌∙◌, arith}
 use Rattle.std.specs.Prelude.{option_map}
-use Rattle.std.specs.List.{filter_map, cons_option, list_any}
+use Rattle.std.specs.List.{filter_map, cons_option}
 use Rattle.std.specs.Option.{option_and_then as and_then}
 use Rattle.std.specs.FinMap.Entries.{find-where_key}
 use Rattle.std.proofs.lemmas.Iterator.Adapters.{option_map_id}
@@ -9,19 +9,19 @@ use Rattle.std.proofs.lemmas.List.{length-map}
 use Rattle.std.proofs.lemmas.List.Filters.{length-filter_both}
 use Rattle.gd_base.proofs.StampLemmas.{stamp_cmp-IsAntisymmetric, is_same-true}
 use Rattle.gd_base.specs.Stamps.{Stamp, stamp_cmp, is_same}
-use Rattle.gd_model.specs.declared.object.Body.{Body}
-use Rattle.gd_model.specs.Drawing.{Drawing, has_id, is_there, at_id, without}
+use Rattle.gd_model.specs.declared.object.Object.{Object}
+use Rattle.gd_model.specs.Drawing.{Drawing, has_id, at_id, without}
 use Rattle.gd_model.specs.Shown.{is_gone}
 use Rattle.gd_backs.proofs.Sights.{look, Over, over-enough, Sight, sight_by, sight_of, sight_in, view, ids, seen}
-use Rattle.gd_backs.proofs.Onward.{with_body, Carries, sight-onward}
+use Rattle.gd_backs.proofs.Onward.{with_object, Carries, sight-onward}
 
 -- ---- look-ups
 
--- bodies changed by f, which may go by the id
-abbrev pub mapped : (Stamp → Body → Body) → Drawing → Drawing
+-- objects changed by f, which may go by the id
+abbrev pub mapped : (Stamp → Object → Object) → Drawing → Drawing
 mapped f d = map (λ e. (e.0, f e.0 e.1)) d
 
-pub look-mapped : (f : Stamp → Body → Body) (d : Drawing) (q : Stamp) → look (mapped f d) q ≡ option_map (f q) (look d q)
+pub look-mapped : (f : Stamp → Object → Object) (d : Drawing) (q : Stamp) → look (mapped f d) q ≡ option_map (f q) (look d q)
 look-mapped f [] q = refl
 look-mapped f (e ∷ es) q = go (is_same q e.0) refl (look-mapped f es q)
   where
@@ -31,22 +31,22 @@ look-mapped f (e ∷ es) q = go (is_same q e.0) refl (look-mapped f es q)
     go false other rest = rest
 
 -- the ids stay
-pub ids-mapped : (f : Stamp → Body → Body) (d : Drawing) → ids (mapped f d) ≡ ids d
+pub ids-mapped : (f : Stamp → Object → Object) (d : Drawing) → ids (mapped f d) ≡ ids d
 ids-mapped f [] = refl
 ids-mapped f (e ∷ es) = ap (λ qs. e.0 ∷ qs) (ids-mapped f es)
 
 -- one object changed, and one that goes
-pub look-at : (id : Stamp) (old : Body → Body) (b : Body) (d : Drawing) → look d id ≡ Some b → (q : Stamp) → look (at_id id old d) q ≡ with_body id (Some (old b)) (look d) q
+pub look-at : (id : Stamp) (old : Object → Object) (b : Object) (d : Drawing) → look d id ≡ Some b → (q : Stamp) → look (at_id id old d) q ≡ with_object id (Some (old b)) (look d) q
 look-at id old b d found q = look-mapped (λ k v. cond (is_same id k) (old v) v) d q ∙ go (is_same id q) refl
   where
     go : (t : Bool) → is_same id q ≡ t → option_map (λ v. cond t (old v) v) (look d q) ≡ cond t (Some (old b)) (look d q)
     go true same = ap (option_map old) (ap (look d) (sym (is_same-true id q same)) ∙ found)
     go false other = option_map_id (look d q)
 
-pub ids-at : (id : Stamp) (old : Body → Body) (d : Drawing) → ids (at_id id old d) ≡ ids d
+pub ids-at : (id : Stamp) (old : Object → Object) (d : Drawing) → ids (at_id id old d) ≡ ids d
 ids-at id old d = ids-mapped (λ k v. cond (is_same id k) (old v) v) d
 
-look-without : (id : Stamp) (d : Drawing) (q : Stamp) → look (without id d) q ≡ with_body id None (look d) q
+look-without : (id : Stamp) (d : Drawing) (q : Stamp) → look (without id d) q ≡ with_object id None (look d) q
 look-without id d q =
     let stays : Stamp → Bool = λ k. not (is_same id k) in
     find-where_key stamp_cmp stays q (λ k e. ap stays (sym (stamp_cmp-IsAntisymmetric q k e))) d ∙ go (is_same id q)
@@ -54,11 +54,6 @@ look-without id d q =
     go : (t : Bool) → cond (not t) (look d q) None ≡ cond t None (look d q)
     go true = refl
     go false = refl
-
--- an object is there where its id is
-pub there-ids : (s : Stamp) (d : Drawing) → is_there s d ≡ list_any (is_same s) (ids d)
-there-ids s [] = refl
-there-ids s (e ∷ es) = ap (λ t. is_same s e.0 || t) (there-ids s es)
 
 -- drawings with the same ids are of one length
 length-ids : (d e : Drawing) → ids d ≡ ids e → length d ≡ length e
@@ -90,7 +85,7 @@ filter_map-without f id (e ∷ es) none = go (is_same id e.0) refl (filter_map-w
     go false other rest = ap (cons_option (f e.0)) rest
 
 -- more links than there are objects change nothing
-sight-enough : (n : ℕ) (d : Drawing) (q : Stamp) (x : Option Body) → length d ≤ n → sight_of n (look d) q x ≡ sight_of (length d) (look d) q x
+sight-enough : (n : ℕ) (d : Drawing) (q : Stamp) (x : Option Object) → length d ≤ n → sight_of n (look d) q x ≡ sight_of (length d) (look d) q x
 sight-enough n d q None h = refl
 sight-enough n d q (Some b) h = ap (sight_by q b) (over-enough n d q b.link h)
 
@@ -99,10 +94,10 @@ pub record Effect (h : Sight → Option Sight) (d e : Drawing) : Type 0 where
   pub views : (q : Stamp) → view e q ≡ and_then h (view d q)
   pub sees : seen e ≡ filter_map h (seen d)
 
-module _ (d : Drawing) (id : Stamp) (b : Body) (found : look d id ≡ Some b) (stays : is_gone b ≡ false) (k : Over → Option Over) (h : Sight → Option Sight) where
-  pub effect-at : (old : Body → Body) (x : Body) → old b ≡ x → Carries id b (Some x) k h → Effect h d (at_id id old d)
+module _ (d : Drawing) (id : Stamp) (b : Object) (found : look d id ≡ Some b) (stays : is_gone b ≡ false) (k : Over → Option Over) (h : Sight → Option Sight) where
+  pub effect-at : (old : Object → Object) (x : Object) → old b ≡ x → Carries id b (Some x) k h → Effect h d (at_id id old d)
   effect-at old x is c =
-      let looks : (q : Stamp) → look (at_id id old d) q ≡ with_body id (Some x) (look d) q =
+      let looks : (q : Stamp) → look (at_id id old d) q ≡ with_object id (Some x) (look d) q =
       λ q. look-at id old b d found q ∙ ap (λ v. cond (is_same id q) (Some v) (look d q)) is in
       let views : (q : Stamp) → view (at_id id old d) q ≡ and_then h (view d q) =
       λ q. (λ i. sight_in (length-ids (at_id id old d) d (ids-at id old d) i) (λ r. looks r i) q) ∙ sight-onward (look d) id b found stays (Some x) k h c (length d) q in
@@ -141,7 +136,7 @@ pub alike-onward : (h : Sight → Option Sight) (a a2 c c2 : Drawing) → Alike 
 alike-onward h a a2 c c2 p f g =
     record { views = λ q. f.views q ∙ ap (and_then h) (p.views q) ∙ sym (g.views q); sees = f.sees ∙ ap (filter_map h) p.sees ∙ sym g.sees }
 
--- the same ids and bodies are seen alike
+-- the same ids and objects are seen alike
 pub alike-from_looks : (d e : Drawing) → ids d ≡ ids e → ((q : Stamp) → look d q ≡ look e q) → Alike d e
 alike-from_looks d e is looks =
     let sizes = length-ids d e is in

@@ -1,18 +1,18 @@
 -- Several edits of a site, and then several undos.
 use Rattle.std.specs.Prelude.{ℕ, zero, suc, Bool, true, false, List, [], ◌∷◌, Option, None, Some, is_ok, if◌then◌else◌}
-use Rattle.gd_base.specs.declared.edit.Edit.{Edit}
-use Rattle.gd_base.specs.declared.edit.Edit.TheVariants as wish
+use Rattle.gd_base.specs.declared.content.Content.TheVariants.{ToFlag, ToRank}
+use Rattle.gd_base.specs.declared.op.Op.TheVariants.{Delete, Set}
 use Rattle.gd_base.specs.declared.refusal.EditRefusal.TheVariants.{ClockEnd, SessionFull, TooFar}
+use Rattle.gd_lines.specs.Edits.{Edit}
 use Rattle.gd_reference.specs.Judging.{edit}
 use Rattle.gd_reference.specs.SlowSite.{SlowSite}
 use Rattle.gd_reference.specs.TakeBack.{after_edit, BackRefusal, NothingBack, NotTakeable, IsFar, Refused, undo, after_undo}
 
 -- an edit that can be taken back: none that deletes, dissolves a group or changes the order
 abbrev pub has_back : Edit → Bool
-has_back (wish.Delete id) = false
-has_back (wish.Ungroup id) = false
-has_back (wish.Raise id) = false
-has_back (wish.Lower id) = false
+has_back (Delete id) = false
+has_back (Set id (ToFlag flag)) = false
+has_back (Set id (ToRank side)) = false
 has_back wanted = true
 
 -- the site after these edits, where it accepts each

@@ -1,10 +1,10 @@
 //! What holds of backs and of undos: contracts of functions that do nothing.
 ghost use Rattle.std.specs.Prelude.{◌≡◌, ◌≤◌, ◌<◌, ℕ, List, length, Some, Ok, Err, IsTrue, IsFalse};
 ghost use Rattle.std.specs.List.{list_all, AllByRecursion};
-ghost use Rattle.gd_base.specs.declared.edit.Edit.{Edit};
 ghost use Rattle.gd_base.specs.declared.ranges.TheConstants.{MOST_BACKS, SITES};
 ghost use Rattle.gd_events.specs.Events.{Event};
 ghost use Rattle.gd_events.specs.Sound.{IsSound};
+ghost use Rattle.gd_lines.specs.Edits.{Edit};
 ghost use Rattle.gd_lines.specs.InRange.{IsEdit};
 ghost use Rattle.gd_model.specs.Drawing.{picture};
 ghost use Rattle.gd_reference.specs.Backs.{Never, Takes};

@@ -1,9 +1,9 @@
-//! What every crate speaks of: stamps, labels, names, notes, shapes, styles, items, short lists, edits, offers, faults and
-//! refusals, versions, and steps.
+//! What every crate speaks of: stamps, labels, names, notes, shapes, items, short lists, contents, operations, offers, faults
+//! and refusals, versions, and steps.
 #![tactic(auto)]
 
 mod clock;
-mod edit;
+mod content;
 mod fault;
 mod ids;
 mod item;
@@ -12,6 +12,7 @@ mod member;
 mod name;
 mod note;
 mod offer;
+mod op;
 mod place;
 mod ranges;
 mod refusal;
@@ -19,10 +20,9 @@ mod shape;
 mod site_status;
 mod stamp;
 mod steps;
-mod style;
 mod version;
 
-pub use edit::Edit;
+pub use content::{Content, Side, is_within};
 pub use fault::{FieldFault, FieldWhy, LogWhy, ViewWhy, WireFault, WireWhy};
 pub use ids::Ids;
 pub use item::{Item, ShapeItem};
@@ -31,6 +31,7 @@ pub use member::{Member, Members};
 pub use name::Name;
 pub use note::Note;
 pub use offer::Offer;
+pub use op::{Edit, Op};
 pub use place::Place;
 pub use ranges::{
     CLOCK_LIMIT, COLOUR_LIMIT, EVENTS_OF_A_SITE, MOST_BACKS, MOST_MEMBERS, PLACE_LIMIT,
@@ -41,5 +42,4 @@ pub use shape::Shape;
 pub use site_status::SiteStatus;
 pub use stamp::Stamp;
 pub use steps::Steps;
-pub use style::Style;
 pub use version::Version;

@@ -4,7 +4,7 @@ use Rattle.std.specs.FinMap as map_of
 use Rattle.gd_base.specs.Stamps.{Stamp, is_before, is_same}
 use Rattle.gd_base.proofs.StampLemmas.{is_same-true}
 use Rattle.gd_base.proofs.StampOrder.{is_before-clocks, is_before-other_way}
-use Rattle.gd_canvas.specs.Slots.{board_of}
+use Rattle.gd_slots.specs.Slots.{board_of}
 use Rattle.gd_drawing.proofs.DrawingLaws.{drawing_laws}
 use Rattle.gd_drawing.specs.Rules.{drawing_rules}
 use Rattle.gd_events.proofs.OrderLemmas.{InOrder, InOrder-ordered, NoneBefore}

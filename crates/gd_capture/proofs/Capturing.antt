@@ -3,7 +3,7 @@ use Rattle.std.proofs.Common.{◌≡◌, ℕ, List, length, Result, Ok, Err, sym
 use Rattle.std.specs.Prelude.{OnErr}
 use Rattle.std.proofs.lemmas.List.{length-map}
 use Rattle.std.specs.FinMap as map_of
-use Rattle.gd_canvas.specs.Slots.{board_of}
+use Rattle.gd_slots.specs.Slots.{board_of}
 use Rattle.gd_drawing.specs.Rules.{drawing_rules}
 use Rattle.gd_events.specs.Events.{Event}
 use Rattle.gd_events.specs.Sound.{IsOp, IsSound}

@@ -7,9 +7,9 @@ use Rattle.gd_base.specs.Sites.{IsSite}
 use Rattle.gd_base.specs.declared.ranges.TheConstants.{SITES}
 use Rattle.gd_capture.specs.Numbering.{numbered, tally}
 use Rattle.gd_events.specs.Events.{Event}
-use Rattle.gd_events.specs.declared.op.Op.{Op}
+use Rattle.gd_events.specs.Ops.{Op}
 use Rattle.gd_history.specs.Entries.{EntryValue, event_of, events_of}
-use Rattle.gd_model.specs.declared.before.Before.{Before}
+use Rattle.gd_model.specs.Undoing.{Before}
 use Rattle.gd_repair.specs.Repair.{Stamped}
 use Rattle.gd_stable.specs.Heard.{of_site, put_at}
 

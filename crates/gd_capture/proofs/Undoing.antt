@@ -3,10 +3,10 @@ use Rattle.std.proofs.Common.{◌≡◌, ℕ, ◌+◌, ◌<◌, List, ◌∷◌,
 use Rattle.std.proofs.Math.Seq.{drop-length}
 use Rattle.std.proofs.lemmas.List.{at_drop_more}
 use Rattle.gd_drawing.specs.Rules.{drawing_rules}
-use Rattle.gd_events.specs.declared.op.Op.{Op}
+use Rattle.gd_events.specs.Ops.{Op}
 use Rattle.gd_history.specs.Entries.{EntryValue, all_held, event_of}
 use Rattle.gd_model.specs.Board.{Board}
-use Rattle.gd_model.specs.declared.before.Before.{Before}
+use Rattle.gd_model.specs.Undoing.{Before}
 use Rattle.gd_repair.specs.Repair.{unwound}
 
 -- the board with all entries but so many of the first undone

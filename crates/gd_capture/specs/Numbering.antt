@@ -4,7 +4,7 @@ use Rattle.std.specs.Prelude.{◌≡◌, ℕ, ◌+◌, ◌==◌, if◌then◌els
 use Rattle.gd_base.specs.Sites.{IsSite}
 use Rattle.gd_base.specs.declared.ranges.TheConstants.{SITES}
 use Rattle.gd_events.specs.Events.{Event}
-use Rattle.gd_events.specs.declared.op.Op.{Op}
+use Rattle.gd_events.specs.Ops.{Op}
 use Rattle.gd_reference.specs.SlowSite.{SlowSite, count}
 use Rattle.gd_repair.specs.Repair.{Stamped}
 use Rattle.gd_stable.specs.Heard.{of_site, put_at}

@@ -1,8 +1,9 @@
 //! The drawing with all kept events undone.
 ghost use Rattle.std.specs.Prelude.{◌≡◌, ◌+◌, ◌≤◌, length, IfOk, IsTrue, OnErr, OnOk};
-ghost use Rattle.gd_canvas.specs.Slots.{board_of, is_admitted};
+ghost use Rattle.gd_canvas.specs.Slots.{is_admitted};
+ghost use Rattle.gd_slots.specs.Slots.{board_of};
 ghost use Rattle.gd_drawing.specs.Rules.{drawing_rules};
-ghost use Rattle.gd_events.specs.declared.op.Op.{Op};
+ghost use Rattle.gd_events.specs.Ops.{Op};
 ghost use Rattle.gd_history.specs.Entries.{AllOf, all_held, events_of};
 ghost use Rattle.gd_history.specs.Histories.{base_of};
 ghost use Rattle.gd_repair.specs.Repair.{Stamped, stamped, unwound};

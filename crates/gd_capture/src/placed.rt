@@ -1,7 +1,7 @@
 //! The objects of a drawing behind their ids.
 ghost use Rattle.std.specs.Prelude.{◌≡◌, ◌++◌, IfOk, OnOk, option_to_list};
 ghost use Rattle.std.specs.FinMap as map_of;
-ghost use Rattle.gd_canvas.specs.Slots.{board_of};
+ghost use Rattle.gd_slots.specs.Slots.{board_of};
 ghost use Rattle.gd_capture.specs.Placing.{placed_in};
 
 use gd_base::Stamp;

@@ -1,18 +1,22 @@
 //! Reads operations on cards.
 
-ghost use Rattle.std.specs.Prelude.{◌≡◌};
+ghost use Rattle.std.specs.Prelude.{◌≡◌, Ok, Err, if◌then◌else◌};
 ghost use Rattle.gd_base.specs.Results.{Gives};
-ghost use Rattle.gd_cards.specs.CardBytes.{add_at, card_op_at, column_at, put_at, retitle_at, title_at};
+ghost use Rattle.gd_cards.specs.declared.op.CardChange.TheVariants.{ToMark, ToTitle};
+ghost use Rattle.gd_cards.specs.declared.op.Op.TheVariants.{Change};
+ghost use Rattle.gd_cards.specs.CardBytes.{add_at, card_op_at, change_at, column_at, title_at};
+ghost use Rattle.gd_cards.specs.Cards.{is_mark};
+ghost use Rattle.gd_grammar.specs.Readers.{into};
 
 use gd_base::{FieldFault, FieldWhy, Label, Stamp, Version};
-use gd_cards::{COLUMNS, CardOp};
+use gd_cards::{COLUMNS, CardChange, CardOp, Mark};
 use gd_wire::Bytes;
 
 /// How many bytes a title has at most.
 const MOST_TITLE: u8 = 200;
 
 /// The operation of the event with that stamp. `Field` at the tag where no operation has it, else the first fault of its fields.
-#[tactic(auto, unfolding(gd_cards::specs::CardBytes::card_op_at, gd_cards::specs::CardBytes::lone_at))]
+#[tactic(auto, unfolding(gd_cards::specs::CardBytes::card_op_at, gd_cards::specs::CardBytes::change_at, gd_cards::specs::CardBytes::byte_if, gd_grammar::specs::Readers::steps))]
 pub fn card_op<'a>(
     bytes: &mut Bytes<'a>,
     version: Version,
@@ -24,10 +28,15 @@ pub fn card_op<'a>(
     match bytes.byte()? {
         1 => add(bytes),
         2 => retitle(bytes, stamp),
-        3 => put(bytes, stamp),
+        3 => {
+            let id = bytes.id(stamp)?;
+            let fault = bytes.fault(FieldWhy::Field);
+            let column = bytes.byte()?;
+            marked(id, Mark::Column(column), fault)
+        }
         4 => {
             let id = bytes.id(stamp)?;
-            Ok(CardOp::Vote { id })
+            marked(id, Mark::Vote(true), fault)
         }
         5 => {
             let id = bytes.id(stamp)?;
@@ -37,7 +46,7 @@ pub fn card_op<'a>(
     }
 }
 
-#[tactic(auto, unfolding(gd_cards::specs::CardBytes::add_at))]
+#[tactic(auto, unfolding(gd_cards::specs::CardBytes::add_at, gd_grammar::specs::Readers::steps))]
 fn add<'a>(bytes: &mut Bytes<'a>) -> Result<CardOp, FieldFault>
     ensures { Gives (λ op. (op, bytes.new)) result (add_at bytes.old) }
 {
@@ -46,26 +55,30 @@ fn add<'a>(bytes: &mut Bytes<'a>) -> Result<CardOp, FieldFault>
     Ok(CardOp::Add { column, title })
 }
 
-#[tactic(auto, unfolding(gd_cards::specs::CardBytes::retitle_at))]
+#[tactic(auto, unfolding(gd_cards::specs::CardBytes::change_at, gd_grammar::specs::Readers::steps))]
 fn retitle<'a>(bytes: &mut Bytes<'a>, stamp: Stamp) -> Result<CardOp, FieldFault>
-    ensures { Gives (λ op. (op, bytes.new)) result (retitle_at stamp bytes.old) }
+    ensures { Gives (λ op. (op, bytes.new)) result
+        (change_at stamp (into ToTitle title_at) bytes.old) }
 {
     let id = bytes.id(stamp)?;
     let title = title(bytes)?;
-    Ok(CardOp::Title { id, title })
+    let change = CardChange::ToTitle(title);
+    Ok(CardOp::Change { id, change })
 }
 
-#[tactic(auto, unfolding(gd_cards::specs::CardBytes::put_at))]
-fn put<'a>(bytes: &mut Bytes<'a>, stamp: Stamp) -> Result<CardOp, FieldFault>
-    ensures { Gives (λ op. (op, bytes.new)) result (put_at stamp bytes.old) }
+/// The card's change to that mark, or `fault` where the mark is out of its range.
+fn marked(id: Stamp, mark: Mark, fault: FieldFault) -> Result<CardOp, FieldFault>
+    ensures { result ≡ (if is_mark mark then Ok (Change id (ToMark mark)) else Err fault) }
 {
-    let id = bytes.id(stamp)?;
-    let column = column(bytes)?;
-    Ok(CardOp::Column { id, column })
+    if !mark.is_in_range() {
+        return Err(fault);
+    }
+    let change = CardChange::ToMark(mark);
+    Ok(CardOp::Change { id, change })
 }
 
 /// A column, from 1 to `COLUMNS`. `Short` where it isn't there, and `Field` at it where it is out of that range.
-#[tactic(auto, unfolding(gd_cards::specs::CardBytes::column_at))]
+#[tactic(auto, unfolding(gd_cards::specs::CardBytes::column_at, gd_cards::specs::CardBytes::byte_if, gd_grammar::specs::Readers::steps))]
 fn column<'a>(bytes: &mut Bytes<'a>) -> Result<u8, FieldFault>
     ensures { Gives (λ column. (column, bytes.new)) result (column_at bytes.old) }
 {

@@ -1,12 +1,13 @@
 //! Card boards as a kind of log.
 
 ghost use Rattle.std.specs.Prelude.{◌≡◌, ◌≤◌, ◌+◌, ◌++◌, length};
+ghost use Rattle.gd_cards.specs.CardBytes.{change_bytes};
 ghost use Rattle.gd_grammar.specs.FieldBytes.{label_bytes};
 ghost use Rattle.gd_grammar.specs.declared.sizes.TheConstants.{EVENT_BYTES};
 
 use crate::card_op::card_op;
 use gd_base::{FieldFault, Label, Stamp, Version};
-use gd_cards::{CardOp, PackedCardOp};
+use gd_cards::{CardChange, CardOp, PackedCardOp, pack};
 use gd_wire::{Bytes, EventBytes, LogKind, PackError};
 use std::alloc::Global;
 
@@ -49,7 +50,7 @@ impl LogKind for Cards {
         stamp: Stamp,
     ) -> Result<PackedCardOp, PackError> {
         let op = card_op(bytes, version, stamp)?;
-        Ok(PackedCardOp::new(alloc, op)?)
+        Ok(pack(alloc, op)?)
     }
 
     fn put(op: &CardOp, out: &mut EventBytes) {
@@ -59,23 +60,29 @@ impl LogKind for Cards {
                 out.put_byte(*column);
                 put_title(title, out);
             }
-            CardOp::Title { id, title } => {
-                out.put_byte(2);
+            CardOp::Change { id, change } => {
+                out.put_byte(change.part() + 1);
                 out.put_stamp(*id);
-                put_title(title, out);
-            }
-            CardOp::Column { id, column } => {
-                out.put_byte(3);
-                out.put_stamp(*id);
-                out.put_byte(*column);
-            }
-            CardOp::Vote { id } => {
-                out.put_byte(4);
-                out.put_stamp(*id);
+                put_change(change, out);
             }
             CardOp::Remove { id } => {
                 out.put_byte(5);
                 out.put_stamp(*id);
+            }
+        }
+    }
+}
+
+/// A title, or the byte of a mark, where it has one.
+fn put_change(change: &CardChange<Label>, out: &mut EventBytes)
+    requires { length out.old + 201 ≤ EVENT_BYTES }
+    ensures { out.new ≡ out.old ++ change_bytes change.now }
+{
+    match change {
+        CardChange::ToTitle(title) => put_title(title, out),
+        CardChange::ToMark(mark) => {
+            if let Some(value) = mark.code().1 {
+                out.put_byte(value);
             }
         }
     }

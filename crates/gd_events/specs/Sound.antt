@@ -5,11 +5,12 @@ use Rattle.std.specs.List.{list_all}
 use Rattle.gd_base.specs.Stamps.{Stamp, IsStamp, is_before}
 use Rattle.gd_base.specs.Labels.{IsLabel}
 use Rattle.gd_base.specs.Members.{AreStamped}
-use Rattle.gd_base.specs.Ranges.{place_limit, size_limit, is_within, is_style}
+use Rattle.gd_base.specs.Ranges.{place_limit, size_limit, is_within}
 use Rattle.gd_base.specs.declared.member.Member.{Member}
 use Rattle.gd_base.specs.declared.ranges.TheConstants.{MOST_MEMBERS}
-use Rattle.gd_events.specs.declared.op.Op.{Op}
-use Rattle.gd_events.specs.declared.op.Op.TheVariants.{Create, Delete, Move, Resize, Restyle, Retext, Group, Ungroup, Raise, Lower}
+use Rattle.gd_base.specs.declared.op.Op.TheVariants.{Create, Delete, Set, Group}
+use Rattle.gd_base.specs.Contents.{is_content, IsTyped}
+use Rattle.gd_events.specs.Ops.{Op}
 use Rattle.gd_events.specs.declared.event.EventFault.{EventFault}
 use Rattle.gd_events.specs.declared.event.EventFault.TheVariants.{Seq, Range, MemberCount, FutureId, MemberOrder}
 use Rattle.gd_events.specs.Events.{Event, IsSoundWith}
@@ -21,14 +22,8 @@ is_shift_in_range m = is_within place_limit m.dx && is_within place_limit m.dy
 abbrev pub is_in_range : Op → Bool
 is_in_range (Create kind x y w h label) = is_within place_limit x && (is_within place_limit y && (is_within size_limit w && is_within size_limit h))
 is_in_range (Delete id) = true
-is_in_range (Move id x y) = is_within place_limit x && is_within place_limit y
-is_in_range (Resize id w h) = is_within size_limit w && is_within size_limit h
-is_in_range (Restyle id style) = is_style style
-is_in_range (Retext id label) = true
+is_in_range (Set id content) = is_content content
 is_in_range (Group members) = list_all is_shift_in_range members
-is_in_range (Ungroup id) = true
-is_in_range (Raise id) = true
-is_in_range (Lower id) = true
 
 -- a group has at least 2 members
 abbrev pub has_members : Op → Bool
@@ -42,14 +37,8 @@ is_member_before stamp m = is_before m.id stamp
 abbrev pub names_before : Stamp → Op → Bool
 names_before stamp (Create kind x y w h label) = true
 names_before stamp (Delete id) = is_before id stamp
-names_before stamp (Move id x y) = is_before id stamp
-names_before stamp (Resize id w h) = is_before id stamp
-names_before stamp (Restyle id style) = is_before id stamp
-names_before stamp (Retext id label) = is_before id stamp
+names_before stamp (Set id content) = is_before id stamp
 names_before stamp (Group members) = list_all (is_member_before stamp) members
-names_before stamp (Ungroup id) = is_before id stamp
-names_before stamp (Raise id) = is_before id stamp
-names_before stamp (Lower id) = is_before id stamp
 
 -- the id is above the last one, if there is one
 abbrev pub is_above : Option Stamp → Stamp → Bool
@@ -83,14 +72,8 @@ event_fault e = if e.number == 0 then Some Seq else op_fault e.stamp e.op
 abbrev pub IsWellTyped : Op → Type 0
 IsWellTyped (Create kind x y w h label) = IsLabel label
 IsWellTyped (Delete id) = IsStamp id
-IsWellTyped (Move id x y) = IsStamp id
-IsWellTyped (Resize id w h) = IsStamp id
-IsWellTyped (Restyle id style) = IsStamp id
-IsWellTyped (Retext id label) = IsStamp id × IsLabel label
+IsWellTyped (Set id content) = IsStamp id × IsTyped content
 IsWellTyped (Group members) = (length members ≤ MOST_MEMBERS) × AreStamped members
-IsWellTyped (Ungroup id) = IsStamp id
-IsWellTyped (Raise id) = IsStamp id
-IsWellTyped (Lower id) = IsStamp id
 
 -- an operation that an event with that stamp may have
 pub record IsOp (stamp : Stamp) (op : Op) : Type 0 where

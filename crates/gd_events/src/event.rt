@@ -1,6 +1,5 @@
-ghost use Rattle.std.specs.Prelude.{◌≡◌, ◌≤◌, Some, None, MatchResult, pos, nat_abs};
+ghost use Rattle.std.specs.Prelude.{◌≡◌, ◌≤◌, Some, None, MatchResult};
 ghost use Rattle.std.specs.List.{list_all};
-ghost use Rattle.gd_base.specs.Ranges.{is_within};
 ghost use Rattle.gd_events.specs.Events.{IsSoundWith, first_event};
 ghost use Rattle.gd_events.specs.Sound.{event_fault, IsSound};
 ghost use Rattle.gd_events.specs.Sound.{is_shift_in_range, is_in_range, has_members};
@@ -8,7 +7,7 @@ ghost use Rattle.gd_events.specs.Sound.{is_member_before, names_before, is_above
 
 use crate::op::Op;
 use crate::operation::Operation;
-use gd_base::{Label, Member, PLACE_LIMIT, SIZE_LIMIT, Shape, Stamp};
+use gd_base::{Label, Member, PLACE_LIMIT, SIZE_LIMIT, Shape, Stamp, is_within};
 use std::marker::Model;
 use thiserror::Error;
 
@@ -144,13 +143,6 @@ impl Default for Event {
     }
 }
 
-fn is_within(limit: i32, value: i32) -> bool
-    requires { limit ≡ pos (nat_abs limit) }
-    ensures { result ≡ is_within (nat_abs limit) value }
-{
-    -limit <= value && value <= limit
-}
-
 fn is_in_range(op: &Op) -> bool
     ensures { result ≡ is_in_range op.now }
 {
@@ -161,15 +153,9 @@ fn is_in_range(op: &Op) -> bool
                 && is_within(SIZE_LIMIT, *w)
                 && is_within(SIZE_LIMIT, *h)
         }
-        Op::Move { x, y, .. } => is_within(PLACE_LIMIT, *x) && is_within(PLACE_LIMIT, *y),
-        Op::Resize { w, h, .. } => is_within(SIZE_LIMIT, *w) && is_within(SIZE_LIMIT, *h),
-        Op::Restyle { style, .. } => style.is_in_range(),
+        Op::Delete { .. } => true,
+        Op::Set { content, .. } => content.is_in_range(),
         Op::Group { members } => are_shifts_in_range(members.as_slice()),
-        Op::Delete { .. }
-        | Op::Retext { .. }
-        | Op::Ungroup { .. }
-        | Op::Raise { .. }
-        | Op::Lower { .. } => true,
     }
 }
 
@@ -194,14 +180,7 @@ fn names_before(stamp: Stamp, op: &Op) -> bool
 {
     match op {
         Op::Create { .. } => true,
-        Op::Delete { id }
-        | Op::Move { id, .. }
-        | Op::Resize { id, .. }
-        | Op::Restyle { id, .. }
-        | Op::Retext { id, .. }
-        | Op::Ungroup { id }
-        | Op::Raise { id }
-        | Op::Lower { id } => id.is_before(stamp),
+        Op::Delete { id } | Op::Set { id, .. } => id.is_before(stamp),
         Op::Group { members } => are_members_before(stamp, members.as_slice()),
     }
 }

@@ -1,5 +1,3 @@
 pub mod Marks
 pub mod Spelled
-pub mod SpelledItems
-pub mod SpelledEvents
 pub mod Begin

@@ -5,7 +5,7 @@ use Rattle.std.specs.Fmt.{digits, digits_onto, digit_glyph}
 use Rattle.std.specs.List.{list_any}
 use Rattle.std.specs.Str.{is_utf8}
 use Rattle.std.proofs.Math.Utf8.{encode, encodes}
-use Rattle.std.proofs.lemmas.Bool.{and_parts, ltb-false}
+use Rattle.std.proofs.lemmas.Bool.{and_parts, leb-true, ltb-false}
 use Rattle.std.proofs.lemmas.Grind.{flat_map-append}
 use Rattle.std.proofs.lemmas.Str.{encodes-chars, IsUtf8-from_is_utf8}
 use Rattle.json.specs.Print.{escape_byte, escape_letter, escape}
@@ -14,6 +14,7 @@ use Rattle.gd_base.specs.Stamps.{Stamp}
 use Rattle.gd_base.specs.declared.shape.Shape.{Shape}
 use Rattle.gd_base.specs.declared.shape.Shape.TheVariants.{Rect, Ellipse, Line, Text}
 use Rattle.gd_json.specs.Values.{is_marked, marked}
+use Rattle.gd_export.specs.Texts.{is_quiet}
 use Rattle.gd_lines.specs.Text.{hex_digit, nibble, high_digits, colour_text, id_text, shape_word}
 
 letter : (b : ℕ) → 32 ≤ b → escape_letter b ≡ cond (is_marked b) b 0
@@ -69,11 +70,11 @@ above_by c false e h = ltb-false c 32 e
 above_control : (c : ℕ) → is_control c ≡ false → 32 ≤ c
 above_control c h = above_by c (nat_lt c 32) refl h
 
-none_of : (a b : Bool) → (a || b) ≡ false → (a ≡ false) × (b ≡ false)
+pub none_of : (a b : Bool) → (a || b) ≡ false → (a ≡ false) × (b ≡ false)
 none_of true b h = absurd cc
 none_of false b h = (refl, h)
 
-not_of : (a : Bool) → not a ≡ true → a ≡ false
+pub not_of : (a : Bool) → not a ≡ true → a ≡ false
 not_of true h = absurd cc
 not_of false h = refl
 
@@ -96,6 +97,19 @@ label_marks label h =
 -- nothing is escaped
 abbrev pub IsQuiet : List ℕ → Type 0
 IsQuiet text = escape text ≡ text
+
+no_mark : (t : Bool) (b : ℕ) → t ≡ false → cond t (92 ∷ b ∷ []) (b ∷ []) ≡ b ∷ []
+no_mark true b e = absurd cc
+no_mark false b e = refl
+
+-- a text that needs no marks has none
+pub quiet_text : (text : List ℕ) → is_quiet text ≡ true → IsQuiet text
+quiet_text [] h = refl
+quiet_text (b ∷ bs) h =
+    let p = and_parts (nat_le 32 b && not (is_marked b)) (is_quiet bs) h in
+    let q = and_parts (nat_le 32 b) (not (is_marked b)) p.0 in
+    let same : marked b ≡ b ∷ [] = no_mark (is_marked b) b (not_of (is_marked b) q.1) in
+    ap₂ (λ (x y : List ℕ). x ++ y) (marks b (leb-true 32 b q.0) ∙ same) (quiet_text bs p.1)
 
 -- neither a quote nor a backslash, and no control character
 unmarked : (b : ℕ) → 35 ≤ b → b ≤ 91 → marked b ≡ b ∷ []

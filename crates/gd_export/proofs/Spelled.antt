@@ -1,116 +1,126 @@
--- How one value is written, an array, an object, and the parts that drawings and events have in common.
-use Rattle.std.proofs.Common.{◌≡◌, ◌∙◌, ◌||◌, ℕ, ℤ, pos, negsuc, true, false, List, [], ◌∷◌, ◌++◌, map, refl, sym, ap, ap₂, append_assoc, codes}
-use Rattle.std.specs.Prelude.{Option, Some, None, decimal}
+-- The text of an array by its items, and of an object by its members.
+use Rattle.std.proofs.Common.{◌≡◌, ◌∙◌, ◌||◌, ℕ, ℤ, pos, negsuc, true, false, List, [], ◌∷◌, ◌++◌, Ordering, Less, Equal, Greater, map, refl, sym, ap, ap₂, append_assoc, codes}
+use Rattle.std.specs.Prelude.{not}
+use Rattle.std.specs.Cmp.Lexicographic.{slice_cmp}
 use Rattle.std.specs.Fmt.{signed_decimal}
+use Rattle.std.specs.Ordering.{match_ordering, nat_cmp}
+use Rattle.std.proofs.lemmas.Bool.{and_parts, and_from}
 use Rattle.json.specs.Print.{quoted}
-use Rattle.serde_json.specs.Data.{Items, Members, array, item, member, no_items, no_members, number, object, string, unsigned}
+use Rattle.serde_json.specs.Data.{Data, Items, Members, array, item, member, no_items, no_members, number, object, put}
 use Rattle.serde_json.specs.Find.{of_integer}
-use Rattle.serde_json.specs.Written.{compact_text, items_text, members_text, items_have_float, members_have_float}
-use Rattle.gd_base.specs.Labels.{IsLabel}
-use Rattle.gd_base.specs.Stamps.{Stamp}
-use Rattle.gd_base.specs.declared.shape.Shape.{Shape}
+use Rattle.serde_json.specs.View.{view, items_view}
+use Rattle.serde_json.specs.Written.{compact_text, has_float, items_text, members_text, items_have_float, members_have_float}
+use Rattle.serde_json.specs.declared.value.Value.{Value}
+use Rattle.serde_json.proofs.Views.{view-Array, view-Object}
 use Rattle.gd_json.specs.Values as json
-use Rattle.gd_json.specs.Parts.{colour_json, colour_or_null, id_json, id_or_null, kind_json, two}
-use Rattle.gd_lines.specs.Text.{colour_text, id_text, shape_word}
-use Rattle.gd_export.specs.PartData.{fill_data, parent_data, two_data}
-use Rattle.gd_export.specs.Spelling.{IsSpelled, AreItems, AreFields}
-use Rattle.gd_export.proofs.Marks.{IsQuiet, label_marks, quiet_id, quiet_colour, quiet_kind}
+use Rattle.gd_export.specs.Texts.{fields_of, is_quiet, is_written, texts_of}
+use Rattle.gd_export.proofs.Marks.{none_of, not_of, quiet_text}
 
--- ---- one value
+-- ---- numbers
 
-pub spelled_number : (n : ℕ) → IsSpelled (number (unsigned n)) (decimal n)
-spelled_number n = record { plain = refl; is = refl }
+pub integer_text : (x : ℤ) → compact_text (number (of_integer x)) ≡ signed_decimal x
+integer_text (pos n) = refl
+integer_text (negsuc n) = refl
 
-pub spelled_integer : (x : ℤ) → IsSpelled (number (of_integer x)) (signed_decimal x)
-spelled_integer (pos n) = record { plain = refl; is = refl }
-spelled_integer (negsuc n) = record { plain = refl; is = refl }
+pub integer_plain : (x : ℤ) → has_float (number (of_integer x)) ≡ false
+integer_plain (pos n) = refl
+integer_plain (negsuc n) = refl
 
-pub spelled_quiet : (text : List ℕ) → IsQuiet text → IsSpelled (string text) (json.plain text)
-spelled_quiet text q = record { plain = refl; is = ap (λ (s : List ℕ). 34 ∷ s ++ 34 ∷ []) q }
-
-pub spelled_label : (label : List ℕ) → IsLabel label → IsSpelled (string label) (json.quoted label)
-spelled_label label h = record { plain = refl; is = ap (λ (s : List ℕ). 34 ∷ s ++ 34 ∷ []) (label_marks label h) }
+pub ruleset integers = (integer_text, integer_plain)
 
 -- ---- arrays
 
-items_behind : (ds : Items) (ts : List (List ℕ)) → AreItems ds ts → items_text true ds ≡ json.behind_commas ts ++ codes "]"
-items_behind no_items [] h = refl
-items_behind no_items (t ∷ ts) h = absurd h
-items_behind (item d ds) [] h = absurd h
-items_behind (item d ds) (t ∷ ts) h =
-    ap₂ (λ (x y : List ℕ). 44 ∷ x ++ y) h.0.is (items_behind ds ts h.1)
-    ∙ ap (λ (x : List ℕ). 44 ∷ x) (sym (append_assoc t (json.behind_commas ts) (codes "]")))
+items_behind : (ds : Items) → items_text true ds ≡ json.behind_commas (texts_of ds) ++ codes "]"
+unfolding texts_of
+items_behind no_items = refl
+items_behind (item d ds) =
+    ap (λ (x : List ℕ). 44 ∷ compact_text d ++ x) (items_behind ds)
+    ∙ ap (λ (x : List ℕ). 44 ∷ x) (sym (append_assoc (compact_text d) (json.behind_commas (texts_of ds)) (codes "]")))
 
-items_spelled : (ds : Items) (ts : List (List ℕ)) → AreItems ds ts → compact_text (array ds) ≡ json.array ts
-items_spelled no_items [] h = refl
-items_spelled no_items (t ∷ ts) h = absurd h
-items_spelled (item d ds) [] h = absurd h
-items_spelled (item d ds) (t ∷ ts) h =
-    ap₂ (λ (x y : List ℕ). 91 ∷ x ++ y) h.0.is (items_behind ds ts h.1)
-    ∙ ap (λ (x : List ℕ). 91 ∷ x) (sym (append_assoc t (json.behind_commas ts) (codes "]")))
+pub array_text : (ds : Items) → compact_text (array ds) ≡ json.array (texts_of ds)
+unfolding texts_of
+array_text no_items = refl
+array_text (item d ds) =
+    ap (λ (x : List ℕ). 91 ∷ compact_text d ++ x) (items_behind ds)
+    ∙ ap (λ (x : List ℕ). 91 ∷ x) (sym (append_assoc (compact_text d) (json.behind_commas (texts_of ds)) (codes "]")))
 
-items_plain : (ds : Items) (ts : List (List ℕ)) → AreItems ds ts → items_have_float ds ≡ false
-items_plain no_items [] h = refl
-items_plain no_items (t ∷ ts) h = absurd h
-items_plain (item d ds) [] h = absurd h
-items_plain (item d ds) (t ∷ ts) h = ap₂ (λ a b. a || b) h.0.plain (items_plain ds ts h.1)
+-- one item more
+pub texts_push : (vs : List Value) (v : Value) → texts_of (items_view (vs ++ v ∷ [])) ≡ texts_of (items_view vs) ++ compact_text (view v) ∷ []
+unfolding texts_of
+texts_push [] v = refl
+texts_push (x ∷ xs) v = ap (λ (ts : List (List ℕ)). compact_text (view x) ∷ ts) (texts_push xs v)
 
-pub spelled_array : (ds : Items) (ts : List (List ℕ)) → AreItems ds ts → IsSpelled (array ds) (json.array ts)
-spelled_array ds ts h = record { plain = items_plain ds ts h; is = items_spelled ds ts h }
+pub items_push : (vs : List Value) (v : Value) → items_have_float (items_view vs) ≡ false → has_float (view v) ≡ false → items_have_float (items_view (vs ++ v ∷ [])) ≡ false
+items_push [] v h k = ap (λ b. b || false) k
+items_push (x ∷ xs) v h k =
+    let p = none_of (has_float (view x)) (items_have_float (items_view xs)) h in
+    ap₂ (λ a b. a || b) p.0 (items_push xs v p.1 k)
+
+pub ruleset items = (texts_push, items_push)
+
+pub ruleset arrays = (array_text, view-Array)
 
 -- ---- objects
 
--- a member, and what follows it
-one_field : (k d more end : List ℕ) (f : json.Field) (rest : List ℕ) → k ≡ json.plain f.0 → d ≡ f.1 → more ≡ rest ++ end
-    → k ++ 58 ∷ (d ++ more) ≡ (json.field f ++ rest) ++ end
-one_field k d more end f rest a b c =
-    ap₂ (λ (x y : List ℕ). x ++ 58 ∷ y) a (ap₂ (λ (x y : List ℕ). x ++ y) b c)
-    ∙ sym (append_assoc (json.field f) rest end ∙ append_assoc (json.plain f.0 ++ codes ":") f.1 (rest ++ end)
-    ∙ append_assoc (json.plain f.0) (codes ":") (f.1 ++ (rest ++ end)))
+-- a key and its value, and what follows them
+one_field : (k t more end rest : List ℕ) → is_quiet k ≡ true → more ≡ rest ++ end → quoted k ++ 58 ∷ (t ++ more) ≡ (json.field (k, t) ++ rest) ++ end
+one_field k t more end rest quiet same =
+    ap₂ (λ (x y : List ℕ). (34 ∷ x ++ 34 ∷ []) ++ 58 ∷ (t ++ y)) (quiet_text k quiet) same
+    ∙ sym (append_assoc (json.field (k, t)) rest end ∙ append_assoc (json.plain k ++ codes ":") t (rest ++ end)
+    ∙ append_assoc (json.plain k) (codes ":") (t ++ (rest ++ end)))
 
-fields_behind : (ms : Members) (fs : List json.Field) → AreFields ms fs → members_text true ms ≡ json.behind_commas (map json.field fs) ++ codes "}"
-fields_behind no_members [] h = refl
-fields_behind no_members (f ∷ fs) h = absurd h
-fields_behind (member k d ms) [] h = absurd h
-fields_behind (member k d ms) (f ∷ fs) h =
-    ap (λ (x : List ℕ). 44 ∷ x) (one_field (quoted k) (compact_text d) (members_text true ms) (codes "}") f (json.behind_commas (map json.field fs)) h.0 h.1.is (fields_behind ms fs h.2))
+members_behind : (ms : Members) → is_written ms ≡ true → members_text true ms ≡ json.behind_commas (map json.field (fields_of ms)) ++ codes "}"
+unfolding fields_of is_written
+members_behind no_members h = refl
+members_behind (member k d ms) h =
+    let p = and_parts _ _ h in
+    ap (λ (x : List ℕ). 44 ∷ x)
+    (one_field k (compact_text d) (members_text true ms) (codes "}") (json.behind_commas (map json.field (fields_of ms))) (and_parts _ _ p.0).0 (members_behind ms p.1))
 
-fields_spelled : (ms : Members) (fs : List json.Field) → AreFields ms fs → compact_text (object ms) ≡ json.object fs
-fields_spelled no_members [] h = refl
-fields_spelled no_members (f ∷ fs) h = absurd h
-fields_spelled (member k d ms) [] h = absurd h
-fields_spelled (member k d ms) (f ∷ fs) h =
-    ap (λ (x : List ℕ). 123 ∷ x) (one_field (quoted k) (compact_text d) (members_text true ms) (codes "}") f (json.behind_commas (map json.field fs)) h.0 h.1.is (fields_behind ms fs h.2))
+pub object_text : (ms : Members) → is_written ms ≡ true → compact_text (object ms) ≡ json.object (fields_of ms)
+unfolding fields_of is_written
+object_text no_members h = refl
+object_text (member k d ms) h =
+    let p = and_parts _ _ h in
+    ap (λ (x : List ℕ). 123 ∷ x)
+    (one_field k (compact_text d) (members_text true ms) (codes "}") (json.behind_commas (map json.field (fields_of ms))) (and_parts _ _ p.0).0 (members_behind ms p.1))
 
-fields_plain : (ms : Members) (fs : List json.Field) → AreFields ms fs → members_have_float ms ≡ false
-fields_plain no_members [] h = refl
-fields_plain no_members (f ∷ fs) h = absurd h
-fields_plain (member k d ms) [] h = absurd h
-fields_plain (member k d ms) (f ∷ fs) h = ap₂ (λ a b. a || b) h.1.plain (fields_plain ms fs h.2)
+pub object_plain : (ms : Members) → is_written ms ≡ true → members_have_float ms ≡ false
+unfolding is_written
+object_plain no_members h = refl
+object_plain (member k d ms) h =
+    let p = and_parts _ _ h in
+    ap₂ (λ a b. a || b) (not_of (has_float d) (and_parts _ _ p.0).1) (object_plain ms p.1)
 
-pub spelled_object : (ms : Members) (fs : List json.Field) → AreFields ms fs → IsSpelled (object ms) (json.object fs)
-spelled_object ms fs h = record { plain = fields_plain ms fs h; is = fields_spelled ms fs h }
+-- ---- one member more
 
--- ---- parts
+fields_by : (o : Ordering) (a b c : Members) → fields_of (match_ordering o a b c) ≡ match_ordering o (fields_of a) (fields_of b) (fields_of c)
+fields_by Less a b c = refl
+fields_by Equal a b c = refl
+fields_by Greater a b c = refl
 
-pub spelled_two : (x y : ℤ) → IsSpelled (two_data x y) (two x y)
-spelled_two x y =
-    spelled_array (item (number (of_integer x)) (item (number (of_integer y)) no_items)) (signed_decimal x ∷ signed_decimal y ∷ [])
-    (spelled_integer x, (spelled_integer y, tt))
+pub fields_put : (k : List ℕ) (d : Data) (ms : Members) → fields_of (put k d ms) ≡ json.put_field (fields_of ms) (k, compact_text d)
+unfolding fields_of json.put_field
+fields_put k d no_members = refl
+fields_put k d (member l e ms) =
+    fields_by (slice_cmp nat_cmp k l) (member k d (member l e ms)) (member l d ms) (member l e (put k d ms))
+    ∙ ap (λ (fs : List json.Field). match_ordering (slice_cmp nat_cmp k l) ((k, compact_text d) ∷ (l, compact_text e) ∷ fields_of ms) ((l, compact_text d) ∷ fields_of ms) ((l, compact_text e) ∷ fs)) (fields_put k d ms)
 
-pub spelled_id : (id : Stamp) → IsSpelled (string (id_text id)) (id_json id)
-spelled_id id = spelled_quiet (id_text id) (quiet_id id)
+written_by : (o : Ordering) (a b c : Members) → is_written a ≡ true → is_written b ≡ true → is_written c ≡ true → is_written (match_ordering o a b c) ≡ true
+written_by Less a b c p q r = p
+written_by Equal a b c p q r = q
+written_by Greater a b c p q r = r
 
-pub spelled_parent : (parent : Option Stamp) → IsSpelled (parent_data parent) (id_or_null parent)
-spelled_parent None = record { plain = refl; is = refl }
-spelled_parent (Some id) = spelled_id id
+pub written_put : (k : List ℕ) (d : Data) (ms : Members) → is_quiet k ≡ true → has_float d ≡ false → is_written ms ≡ true → is_written (put k d ms) ≡ true
+unfolding is_written
+written_put k d no_members quiet plain h = and_from _ _ (and_from _ _ quiet (ap not plain)) refl
+written_put k d (member l e ms) quiet plain h =
+    let p = and_parts _ _ h in
+    let here = and_from _ _ quiet (ap not plain) in
+    written_by (slice_cmp nat_cmp k l) (member k d (member l e ms)) (member l d ms) (member l e (put k d ms))
+    (and_from _ _ here h) (and_from _ _ (and_from _ _ (and_parts _ _ p.0).0 (ap not plain)) p.1)
+    (and_from _ _ p.0 (written_put k d ms quiet plain p.1))
 
-pub spelled_colour : (colour : ℕ) → IsSpelled (string (colour_text colour)) (colour_json colour)
-spelled_colour colour = spelled_quiet (colour_text colour) (quiet_colour colour)
+pub ruleset fields = (fields_put, written_put)
 
-pub spelled_fill : (fill : Option ℕ) → IsSpelled (fill_data fill) (colour_or_null fill)
-spelled_fill None = record { plain = refl; is = refl }
-spelled_fill (Some colour) = spelled_colour colour
-
-pub spelled_kind : (kind : Shape) → IsSpelled (string (shape_word kind)) (kind_json kind)
-spelled_kind kind = spelled_quiet (shape_word kind) (quiet_kind kind)
+pub ruleset objects = (object_text, object_plain, view-Object)

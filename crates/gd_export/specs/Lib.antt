@@ -1,5 +1,2 @@
-pub mod Spelling
-pub mod PartData
-pub mod ItemData
-pub mod EventData
+pub mod Texts
 pub mod Begun

@@ -2,11 +2,9 @@
 
 ghost use Rattle.std.specs.Prelude.{◌≡◌, ◌++◌, ◌∷◌, [], codes, IfOk, OnOk, List, ℕ, false, string_bytes};
 ghost use Rattle.gd_json.specs.Values.{array};
-ghost use Rattle.serde_json.specs.View.{view};
 ghost use Rattle.gd_export.specs.Begun.{IsBegun, separator};
-ghost use Rattle.gd_export.specs.Spelling.{IsSpelled};
 
-use serde_json::Value;
+use crate::values::Json;
 use std::alloc::{AllocError, Global};
 use std::marker::Model;
 
@@ -53,12 +51,11 @@ impl ArrayText {
     }
 
     /// Puts a value last. After an `AllocError` the array is of no use.
-    pub fn put(&mut self, alloc: Global, value: &Value) -> Result<(), AllocError>
-        ensures { (texts : List (List ℕ)) (text : List ℕ) → IsBegun self.old texts
-            → IsSpelled (view value.now) text
-            → OnOk result (IsBegun self.new (texts ++ text ∷ [])) }
+    pub fn put(&mut self, alloc: Global, value: &Json) -> Result<(), AllocError>
+        ensures { (texts : List (List ℕ)) → IsBegun self.old texts
+            → OnOk result (IsBegun self.new (texts ++ value.now ∷ [])) }
     {
-        let text = value.to_string(alloc)?;
+        let text = value.to_text(alloc)?;
         self.separate()?;
         self.text.push_str(text.as_str())
     }

@@ -1,18 +1,13 @@
 //! Events.
 
-ghost use Rattle.std.specs.Prelude.{◌≡◌, IfOk, codes};
-ghost use Rattle.gd_base.specs.Labels.{IsLabel};
-ghost use Rattle.gd_json.specs.EventsJson.{event_json, events_json};
-ghost use Rattle.serde_json.specs.Data.{array, object};
-ghost use Rattle.serde_json.specs.View.{view};
-ghost use Rattle.gd_export.specs.EventData.{create_members, group_members, link_data, links_data, move_members, resize_members, restyle_members, retext_members, target_members};
-ghost use Rattle.gd_export.specs.Spelling.{IsSpelled};
+ghost use Rattle.std.specs.Prelude.{◌≡◌, IfOk, OnOk, map};
+ghost use Rattle.gd_json.specs.EventsJson.{box_fields, content_fields, event_json, events_json, member_json, op_fields};
+ghost use Rattle.gd_json.specs.Values.{array, put_all};
 
 use crate::array::{ArrayText, JsonText};
-use crate::texts::{colour_of, fill_of, id_of, kind_of};
-use gd_base::{Label, Member, Shape, Stamp, Style};
+use crate::values::{Fields, Items, Json};
+use gd_base::{Content, Label, Member, Side};
 use gd_events::{Event, EventList, Op};
-use serde_json::{Value, json};
 use std::alloc::{AllocError, Global};
 
 /// The events as one line of compact JSON: an array with an object for each event in the list's order, and LF.
@@ -26,15 +21,30 @@ pub fn events_json(alloc: Global, events: &EventList) -> Result<JsonText, AllocE
 {
     let mut array = ArrayText::new(alloc)?;
     for listed in events.as_slice() {
-        array.put(alloc, &event_of(alloc, &listed.event())?)?;
+        let json = event_of(alloc, &listed.event())?;
+        array.put(alloc, &json)?;
     }
     array.into_line()
 }
 
-fn event_of(alloc: Global, event: &Event) -> Result<Value, AllocError>
-    ensures { IfOk result (λ value. IsSpelled (view value) (event_json event.now)) }
+#[tactic(auto, unfolding(gd_json::specs::EventsJson::event_json))]
+fn event_of(alloc: Global, event: &Event) -> Result<Json, AllocError>
+    ensures { IfOk result (λ json. json ≡ event_json event.now) }
 {
-    match event.op() {
+    let stamp = event.stamp();
+    let mut fields = Fields::new(alloc);
+    fields.count("clock", stamp.clock())?;
+    fields.count("seq", u64::from(event.number()))?;
+    fields.count("site", u64::from(stamp.site()))?;
+    put_op(&mut fields, event.op())?;
+    Ok(fields.close())
+}
+
+/// Puts the name of an operation, and what it has.
+fn put_op(fields: &mut Fields, op: &Op) -> Result<(), AllocError>
+    ensures { OnOk result (fields.new ≡ put_all fields.old (op_fields op.now)) }
+{
+    match op {
         Op::Create {
             kind,
             x,
@@ -42,152 +52,93 @@ fn event_of(alloc: Global, event: &Event) -> Result<Value, AllocError>
             w,
             h,
             label,
-        } => create_of(alloc, event, *kind, (*x, *y), (*w, *h), label),
-        Op::Delete { id } => target_of(alloc, event, "delete", *id),
-        Op::Move { id, x, y } => move_of(alloc, event, *id, *x, *y),
-        Op::Resize { id, w, h } => resize_of(alloc, event, *id, *w, *h),
-        Op::Restyle { id, style } => restyle_of(alloc, event, *id, *style),
-        Op::Retext { id, label } => retext_of(alloc, event, *id, label),
-        Op::Group { members } => group_of(alloc, event, members.as_slice()),
-        Op::Ungroup { id } => target_of(alloc, event, "ungroup", *id),
-        Op::Raise { id } => target_of(alloc, event, "raise", *id),
-        Op::Lower { id } => target_of(alloc, event, "lower", *id),
+        } => {
+            fields.word("op", "create")?;
+            fields.kind("kind", *kind)?;
+            fields.label("label", label)?;
+            put_box(fields, *x, *y, *w, *h)
+        }
+        Op::Delete { id } => {
+            fields.word("op", "delete")?;
+            fields.id("id", *id)
+        }
+        Op::Set { id, content } => {
+            fields.id("id", *id)?;
+            put_content(fields, content)
+        }
+        Op::Group { members } => {
+            fields.word("op", "group")?;
+            let members = members_of(fields.alloc(), members.as_slice())?;
+            fields.put("members", members)
+        }
     }
 }
 
-/// The clock of the event's stamp, its number, and the site of its stamp.
-fn numbers_of(event: &Event) -> (u64, u16, u8)
-    ensures clock { result.0 ≡ event.now.stamp.clock }
-    ensures number { result.1 ≡ event.now.number }
-    ensures site { result.2 ≡ event.now.stamp.site }
+/// Puts a place and a size.
+fn put_box(fields: &mut Fields, x: i32, y: i32, w: i32, h: i32) -> Result<(), AllocError>
+    ensures { OnOk result (fields.new ≡ put_all fields.old (box_fields x y w h)) }
 {
-    let stamp = event.stamp();
-    (stamp.clock(), event.number(), stamp.site())
+    fields.integer("x", x)?;
+    fields.integer("y", y)?;
+    fields.integer("w", w)?;
+    fields.integer("h", h)
 }
 
-fn create_of(
-    alloc: Global,
-    event: &Event,
-    kind: Shape,
-    at: (i32, i32),
-    size: (i32, i32),
-    label: &Label,
-) -> Result<Value, AllocError>
-    ensures value { IfOk result (λ value. view value
-        ≡ object (create_members event.now kind at.0 at.1 size.0 size.1 label.now)) }
-    ensures label { IsLabel label.now }
+/// Puts the name of what sets a content, and the content.
+fn put_content(fields: &mut Fields, content: &Content<Label, Side>) -> Result<(), AllocError>
+    ensures { OnOk result (fields.new ≡ put_all fields.old (content_fields content.now)) }
 {
-    let (clock, seq, site) = numbers_of(event);
-    let (x, y) = at;
-    let (w, h) = size;
-    let kind = kind_of(kind);
-    let label = label.as_str();
-    json!(in alloc; {"clock": clock, "h": h, "kind": kind, "label": label, "op": "create", "seq": seq, "site": site, "w": w, "x": x, "y": y})
-}
-
-/// An operation that names an object and nothing else.
-fn target_of(alloc: Global, event: &Event, op: &str, id: Stamp) -> Result<Value, AllocError>
-    ensures { IfOk result (λ value. view value ≡ object (target_members event.now op.now id)) }
-{
-    let (clock, seq, site) = numbers_of(event);
-    let id = id_of(alloc, id)?;
-    json!(in alloc; {"clock": clock, "id": id, "op": op, "seq": seq, "site": site})
-}
-
-fn move_of(alloc: Global, event: &Event, id: Stamp, x: i32, y: i32) -> Result<Value, AllocError>
-    ensures { IfOk result (λ value. view value ≡ object (move_members event.now id x y)) }
-{
-    let (clock, seq, site) = numbers_of(event);
-    let id = id_of(alloc, id)?;
-    json!(in alloc; {"clock": clock, "id": id, "op": "move", "seq": seq, "site": site, "x": x, "y": y})
-}
-
-fn resize_of(alloc: Global, event: &Event, id: Stamp, w: i32, h: i32) -> Result<Value, AllocError>
-    ensures { IfOk result (λ value. view value ≡ object (resize_members event.now id w h)) }
-{
-    let (clock, seq, site) = numbers_of(event);
-    let id = id_of(alloc, id)?;
-    json!(in alloc; {"clock": clock, "h": h, "id": id, "op": "resize", "seq": seq, "site": site, "w": w})
-}
-
-fn restyle_of(alloc: Global, event: &Event, id: Stamp, style: Style) -> Result<Value, AllocError>
-    ensures { IfOk result (λ value. view value ≡ object (restyle_members event.now id style)) }
-{
-    match style {
-        Style::Stroke(colour) => stroke_of(alloc, event, id, colour),
-        Style::Fill(fill) => refill_of(alloc, event, id, fill),
-        Style::Width(width) => width_of(alloc, event, id, width),
+    match content {
+        Content::ToPlace { x, y } => {
+            fields.word("op", "move")?;
+            fields.integer("x", *x)?;
+            fields.integer("y", *y)
+        }
+        Content::ToSize { w, h } => {
+            fields.word("op", "resize")?;
+            fields.integer("w", *w)?;
+            fields.integer("h", *h)
+        }
+        Content::ToStroke(colour) => {
+            fields.word("op", "restyle")?;
+            fields.colour("stroke", *colour)
+        }
+        Content::ToFill(fill) => {
+            fields.word("op", "restyle")?;
+            fields.fill("fill", *fill)
+        }
+        Content::ToWidth(width) => {
+            fields.word("op", "restyle")?;
+            fields.count("width", u64::from(*width))
+        }
+        Content::ToText(label) => {
+            fields.word("op", "retext")?;
+            fields.label("label", label)
+        }
+        Content::ToFlag(_) => fields.word("op", "ungroup"),
+        Content::ToRank(Side::Top) => fields.word("op", "raise"),
+        Content::ToRank(Side::Bottom) => fields.word("op", "lower"),
     }
 }
 
-fn stroke_of(alloc: Global, event: &Event, id: Stamp, colour: u32) -> Result<Value, AllocError>
-    ensures { IfOk result (λ value. view value
-        ≡ object (restyle_members event.now id (Style.Stroke colour))) }
+/// The members of a group as an array.
+fn members_of(alloc: Global, members: &[Member]) -> Result<Json, AllocError>
+    ensures { IfOk result (λ json. json ≡ array (map member_json members.now)) }
 {
-    let (clock, seq, site) = numbers_of(event);
-    let id = id_of(alloc, id)?;
-    let stroke = colour_of(alloc, colour)?;
-    json!(in alloc; {"clock": clock, "id": id, "op": "restyle", "seq": seq, "site": site, "stroke": stroke})
-}
-
-fn refill_of(
-    alloc: Global,
-    event: &Event,
-    id: Stamp,
-    fill: Option<u32>,
-) -> Result<Value, AllocError>
-    ensures { IfOk result (λ value. view value
-        ≡ object (restyle_members event.now id (Style.Fill fill))) }
-{
-    let (clock, seq, site) = numbers_of(event);
-    let id = id_of(alloc, id)?;
-    let fill = fill_of(alloc, fill)?;
-    json!(in alloc; {"clock": clock, "fill": fill, "id": id, "op": "restyle", "seq": seq, "site": site})
-}
-
-fn width_of(alloc: Global, event: &Event, id: Stamp, width: u8) -> Result<Value, AllocError>
-    ensures { IfOk result (λ value. view value
-        ≡ object (restyle_members event.now id (Style.Width width))) }
-{
-    let (clock, seq, site) = numbers_of(event);
-    let id = id_of(alloc, id)?;
-    json!(in alloc; {"clock": clock, "id": id, "op": "restyle", "seq": seq, "site": site, "width": width})
-}
-
-fn retext_of(alloc: Global, event: &Event, id: Stamp, label: &Label) -> Result<Value, AllocError>
-    ensures value { IfOk result (λ value. view value
-        ≡ object (retext_members event.now id label.now)) }
-    ensures label { IsLabel label.now }
-{
-    let (clock, seq, site) = numbers_of(event);
-    // the label is looked at first, so that it is known to be one wherever memory runs out
-    let label = label.as_str();
-    let id = id_of(alloc, id)?;
-    json!(in alloc; {"clock": clock, "id": id, "label": label, "op": "retext", "seq": seq, "site": site})
-}
-
-fn group_of(alloc: Global, event: &Event, members: &[Member]) -> Result<Value, AllocError>
-    ensures { IfOk result (λ value. view value ≡ object (group_members event.now members.now)) }
-{
-    let (clock, seq, site) = numbers_of(event);
-    let members = members_of(alloc, members)?;
-    json!(in alloc; {"clock": clock, "members": members, "op": "group", "seq": seq, "site": site})
-}
-
-fn members_of(alloc: Global, members: &[Member]) -> Result<Value, AllocError>
-    ensures { IfOk result (λ value. view value ≡ array (links_data members.now)) }
-{
-    let mut values = Vec::new(alloc);
+    let mut items = Items::new(alloc);
     for member in members {
-        values.push(member_of(alloc, member)?)?;
+        items.push(member_of(alloc, member)?)?;
     }
-    Ok(Value::Array(values))
+    Ok(items.close())
 }
 
-fn member_of(alloc: Global, member: &Member) -> Result<Value, AllocError>
-    ensures { IfOk result (λ value. view value ≡ link_data member.now) }
+#[tactic(auto, unfolding(gd_json::specs::EventsJson::member_json))]
+fn member_of(alloc: Global, member: &Member) -> Result<Json, AllocError>
+    ensures { IfOk result (λ json. json ≡ member_json member.now) }
 {
-    let (dx, dy) = (member.dx, member.dy);
-    let id = id_of(alloc, member.id)?;
-    json!(in alloc; {"dx": dx, "dy": dy, "id": id})
+    let mut fields = Fields::new(alloc);
+    fields.integer("dx", member.dx)?;
+    fields.integer("dy", member.dy)?;
+    fields.id("id", member.id)?;
+    Ok(fields.close())
 }

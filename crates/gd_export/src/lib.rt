@@ -3,8 +3,10 @@
 
 mod array;
 mod events;
+mod parts;
 mod picture;
 mod texts;
+mod values;
 
 pub use array::JsonText;
 pub use events::events_json;

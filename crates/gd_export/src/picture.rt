@@ -1,20 +1,13 @@
 //! A drawing.
 
-ghost use Rattle.std.specs.Prelude.{◌≡◌, IfOk, string_bytes};
-ghost use Rattle.gd_base.specs.Labels.{IsLabel};
-ghost use Rattle.gd_json.specs.PictureJson.{item_json, picture_json};
-ghost use Rattle.gd_lines.specs.Text.{colour_text, id_text};
-ghost use Rattle.serde_json.specs.Data.{object};
-ghost use Rattle.serde_json.specs.View.{view};
-ghost use Rattle.gd_export.specs.ItemData.{group_data, parts_members, shape_data};
-ghost use Rattle.gd_export.specs.PartData.{fill_data, parent_data, two_data};
-ghost use Rattle.gd_export.specs.Spelling.{IsSpelled};
+ghost use Rattle.std.specs.Prelude.{◌≡◌, IfOk, OnOk};
+ghost use Rattle.gd_json.specs.PictureJson.{item_json, look_fields, picture_json, shape_fields};
+ghost use Rattle.gd_json.specs.Values.{put_all};
 
 use crate::array::{ArrayText, JsonText};
-use crate::texts::{colour_of, fill_of, id_of, kind_of, parent_of};
+use crate::values::{Fields, Json};
 use gd_base::{Item, ShapeItem};
 use gd_view::Picture;
-use serde_json::{Value, json};
 use std::alloc::{AllocError, Global};
 
 /// The drawing as one line of compact JSON: an array with an object for each item in printed order, and LF.
@@ -27,90 +20,43 @@ pub fn picture_json(alloc: Global, picture: &Picture) -> Result<JsonText, AllocE
 {
     let mut array = ArrayText::new(alloc)?;
     for item in picture.as_slice() {
-        array.put(alloc, &item_of(alloc, item)?)?;
+        let json = item_of(alloc, item)?;
+        array.put(alloc, &json)?;
     }
     array.into_line()
 }
 
-pub(crate) fn item_of(alloc: Global, item: &Item) -> Result<Value, AllocError>
-    ensures { IfOk result (λ value. IsSpelled (view value) (item_json item.now)) }
+#[tactic(auto, unfolding(gd_json::specs::PictureJson::item_json))]
+pub(crate) fn item_of(alloc: Global, item: &Item) -> Result<Json, AllocError>
+    ensures { IfOk result (λ json. json ≡ item_json item.now) }
 {
-    match &item.shape {
-        Some(shape) => shape_of(alloc, item, shape),
-        None => group_of(alloc, item),
+    let mut fields = Fields::new(alloc);
+    fields.id("id", item.id)?;
+    fields.parent("in", item.parent)?;
+    fields.two("at", item.at.x, item.at.y)?;
+    put_shape(&mut fields, &item.shape)?;
+    Ok(fields.close())
+}
+
+/// Puts what only a shape has, or that the item is a group.
+fn put_shape(fields: &mut Fields, shape: &Option<ShapeItem>) -> Result<(), AllocError>
+    ensures { OnOk result (fields.new ≡ put_all fields.old (shape_fields shape.now)) }
+{
+    match shape {
+        Some(shape) => {
+            fields.kind("kind", shape.kind)?;
+            fields.label("label", &shape.label)?;
+            fields.two("size", i64::from(shape.w), i64::from(shape.h))?;
+            put_look(fields, shape)
+        }
+        None => fields.word("kind", "group"),
     }
 }
 
-fn shape_of(alloc: Global, item: &Item, shape: &ShapeItem) -> Result<Value, AllocError>
-    ensures value { IfOk result (λ value. view value ≡ shape_data item.now shape.now) }
-    ensures label { IsLabel shape.now.label }
+fn put_look(fields: &mut Fields, shape: &ShapeItem) -> Result<(), AllocError>
+    ensures { OnOk result (fields.new ≡ put_all fields.old (look_fields shape.now)) }
 {
-    // the label is looked at first, so that it is known to be one wherever memory runs out
-    let label = shape.label.as_str();
-    let kind = kind_of(shape.kind);
-    let parts = parts_of(alloc, item, shape)?;
-    whole_of(alloc, parts, kind, label, shape.width)
-}
-
-/// The parts of a shape that take memory.
-struct Parts {
-    at: Value,
-    fill: Value,
-    id: String,
-    parent: Value,
-    size: Value,
-    stroke: String,
-}
-
-fn parts_of(alloc: Global, item: &Item, shape: &ShapeItem) -> Result<Parts, AllocError>
-    ensures { IfOk result (λ p. (view p.at ≡ two_data item.now.at.x item.now.at.y)
-        × (view p.fill ≡ fill_data shape.now.fill) × (string_bytes p.id ≡ id_text item.now.id)
-        × (view p.parent ≡ parent_data item.now.parent) × (view p.size ≡ two_data shape.now.w shape.now.h)
-        × (string_bytes p.stroke ≡ colour_text shape.now.stroke)) }
-{
-    Ok(Parts {
-        at: two_of(alloc, item.at.x, item.at.y)?,
-        fill: fill_of(alloc, shape.fill)?,
-        id: id_of(alloc, item.id)?,
-        parent: parent_of(alloc, item.parent)?,
-        size: two_of(alloc, i64::from(shape.w), i64::from(shape.h))?,
-        stroke: colour_of(alloc, shape.stroke)?,
-    })
-}
-
-fn two_of(alloc: Global, x: i64, y: i64) -> Result<Value, AllocError>
-    ensures { IfOk result (λ value. view value ≡ two_data x y) }
-{
-    json!(in alloc; [x, y])
-}
-
-fn whole_of(
-    alloc: Global,
-    parts: Parts,
-    kind: &str,
-    label: &str,
-    width: u8,
-) -> Result<Value, AllocError>
-    ensures { IfOk result (λ value. view value ≡ object (parts_members (view parts.at) (view parts.fill)
-        (string_bytes parts.id) (view parts.parent) kind.now label.now (view parts.size)
-        (string_bytes parts.stroke) width)) }
-{
-    let Parts {
-        at,
-        fill,
-        id,
-        parent,
-        size,
-        stroke,
-    } = parts;
-    json!(in alloc; {"at": at, "fill": fill, "id": id, "in": parent, "kind": kind, "label": label, "size": size, "stroke": stroke, "width": width})
-}
-
-fn group_of(alloc: Global, item: &Item) -> Result<Value, AllocError>
-    ensures { IfOk result (λ value. view value ≡ group_data item.now) }
-{
-    let at = two_of(alloc, item.at.x, item.at.y)?;
-    let id = id_of(alloc, item.id)?;
-    let parent = parent_of(alloc, item.parent)?;
-    json!(in alloc; {"at": at, "id": id, "in": parent, "kind": "group"})
+    fields.colour("stroke", shape.stroke)?;
+    fields.fill("fill", shape.fill)?;
+    fields.count("width", u64::from(shape.width))
 }

@@ -2,11 +2,8 @@
 
 ghost use Rattle.std.specs.Prelude.{◌≡◌, ◌<◌, ◌++◌, ◌∷◌, [], IfOk, OnOk, decimal, string_bytes};
 ghost use Rattle.gd_lines.specs.Text.{hex_digit, nibble, high_digits, colour_text, id_text, shape_word};
-ghost use Rattle.serde_json.specs.View.{view};
-ghost use Rattle.gd_export.specs.PartData.{fill_data, parent_data};
 
 use gd_base::{Shape, Stamp};
-use serde_json::Value;
 use std::alloc::{AllocError, Global};
 
 #[tactic(auto, unfolding(gd_lines::specs::Text::id_text))]
@@ -20,26 +17,6 @@ fn pair_of(alloc: Global, clock: u64, site: u8) -> Result<String, AllocError>
     ensures { IfOk result (λ text. string_bytes text ≡ decimal clock ++ 46 ∷ decimal site) }
 {
     format!(in alloc; "{clock}.{site}")
-}
-
-/// The id, or null where there is none.
-pub fn parent_of(alloc: Global, parent: Option<Stamp>) -> Result<Value, AllocError>
-    ensures { IfOk result (λ value. view value ≡ parent_data parent) }
-{
-    match parent {
-        None => Ok(Value::Null),
-        Some(id) => Ok(Value::from(id_of(alloc, id)?)),
-    }
-}
-
-/// The colour, or null where there is none.
-pub fn fill_of(alloc: Global, fill: Option<u32>) -> Result<Value, AllocError>
-    ensures { IfOk result (λ value. view value ≡ fill_data fill) }
-{
-    match fill {
-        None => Ok(Value::Null),
-        Some(colour) => Ok(Value::from(colour_of(alloc, colour)?)),
-    }
 }
 
 /// The colour, with at least six digits.

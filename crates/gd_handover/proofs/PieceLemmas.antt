@@ -4,8 +4,9 @@ use Rattle.std.specs.Int.{bytes_high_first}
 use Rattle.std.specs.List.{AllByRecursion}
 use Rattle.std.proofs.lemmas.List.{append-nil, length-append}
 use Rattle.gd_grammar.specs.FieldBytes.{word_bytes, signed_bytes, label_bytes, each_bytes}
+use Rattle.gd_grammar.specs.Spelling.{fill_bytes}
 use Rattle.gd_model.specs.declared.object.Object.{Object}
-use Rattle.gd_snapshots.specs.ObjectBytes.{kind_byte, fill_bytes, flag_byte, link_bytes, rank_bytes, object_bytes}
+use Rattle.gd_snapshots.specs.ObjectBytes.{kind_byte, flag_byte, link_bytes, rank_bytes, object_bytes}
 use Rattle.gd_snapshots.specs.SnapshotBytes.{known_bytes}
 use Rattle.gd_snapshots.specs.Snapshots.{IsKnown, IsSnapshot, Snapshot}
 use Rattle.gd_snapshots.specs.declared.known.Known.{Known}

@@ -6,11 +6,11 @@ ghost use Rattle.gd_base.specs.Results.{Gives};
 ghost use Rattle.gd_base.specs.declared.ranges.TheConstants.{SITES};
 ghost use Rattle.gd_grammar.specs.FrameBytes.{frame_version_at};
 ghost use Rattle.gd_grammar.specs.HeaderBytes.{magic_at, sites_at};
-ghost use Rattle.gd_snapshots.specs.ObjectBytes.{kind_at, thin_at, flag_at, some_link_at, link_at, rank_at, rank_of, object_at};
+ghost use Rattle.gd_snapshots.specs.ObjectBytes.{kind_at, thin_at, flag_at, some_link_at, link_at, rank_at, object_at};
 ghost use Rattle.gd_snapshots.specs.SnapshotBytes.{snapshot_magic, head_at, known_at};
 
 use crate::head::Head;
-use gd_base::{FieldFault, FieldWhy, PLACE_LIMIT, SITES, SIZE_LIMIT, Shape, Stamp, WIDTH_LIMIT};
+use gd_base::{FieldFault, FieldWhy, PLACE_LIMIT, SITES, SIZE_LIMIT, Shape, WIDTH_LIMIT};
 use gd_model::{Kind, Link, Object, Rank};
 use gd_snapshots::Known;
 use gd_wire::Bytes;
@@ -88,7 +88,7 @@ pub fn known<'a>(bytes: &mut Bytes<'a>) -> Result<Known, FieldFault>
 // ---- objects
 
 /// An object of at most 252 bytes.
-#[tactic(auto, unfolding(gd_snapshots::specs::ObjectBytes::object_at))]
+#[tactic(auto, unfolding(gd_snapshots::specs::ObjectBytes::object_at, gd_grammar::specs::Readers::steps))]
 pub fn object<'a>(bytes: &mut Bytes<'a>) -> Result<Object, FieldFault>
     ensures { Gives (λ object. (object, bytes.new)) result (object_at bytes.old) }
 {
@@ -120,7 +120,7 @@ pub fn object<'a>(bytes: &mut Bytes<'a>) -> Result<Object, FieldFault>
     })
 }
 
-#[tactic(auto, unfolding(gd_snapshots::specs::ObjectBytes::kind_at))]
+#[tactic(auto, unfolding(gd_snapshots::specs::ObjectBytes::kind_at, gd_grammar::specs::Readers::steps))]
 fn kind<'a>(bytes: &mut Bytes<'a>) -> Result<Kind, FieldFault>
     ensures { Gives (λ kind. (kind, bytes.new)) result (kind_at bytes.old) }
 {
@@ -136,7 +136,7 @@ fn kind<'a>(bytes: &mut Bytes<'a>) -> Result<Kind, FieldFault>
 }
 
 /// A width, in one byte.
-#[tactic(auto, unfolding(gd_snapshots::specs::ObjectBytes::thin_at))]
+#[tactic(auto, unfolding(gd_snapshots::specs::ObjectBytes::thin_at, gd_grammar::specs::Readers::steps))]
 fn thin<'a>(bytes: &mut Bytes<'a>) -> Result<u8, FieldFault>
     ensures { Gives (λ width. (width, bytes.new)) result (thin_at bytes.old) }
 {
@@ -149,7 +149,7 @@ fn thin<'a>(bytes: &mut Bytes<'a>) -> Result<u8, FieldFault>
 }
 
 /// 0 or 1.
-#[tactic(auto, unfolding(gd_snapshots::specs::ObjectBytes::flag_at))]
+#[tactic(auto, unfolding(gd_snapshots::specs::ObjectBytes::flag_at, gd_grammar::specs::Readers::steps))]
 fn flag<'a>(bytes: &mut Bytes<'a>) -> Result<bool, FieldFault>
     ensures { Gives (λ flag. (flag, bytes.new)) result (flag_at bytes.old) }
 {
@@ -162,18 +162,19 @@ fn flag<'a>(bytes: &mut Bytes<'a>) -> Result<bool, FieldFault>
 }
 
 /// The group and the shift behind a 1, or none behind a 0.
-#[tactic(auto, unfolding(gd_snapshots::specs::ObjectBytes::link_at))]
+#[tactic(auto, unfolding(gd_snapshots::specs::ObjectBytes::link_at, gd_grammar::specs::Readers::steps))]
 fn link<'a>(bytes: &mut Bytes<'a>) -> Result<Option<Link>, FieldFault>
     ensures { Gives (λ link. (link, bytes.new)) result (link_at bytes.old) }
 {
-    if flag(bytes)? {
-        some_link(bytes)
-    } else {
-        Ok(None)
+    let fault = bytes.fault(FieldWhy::Field);
+    match bytes.byte()? {
+        0 => Ok(None),
+        1 => some_link(bytes),
+        _ => Err(fault),
     }
 }
 
-#[tactic(auto, unfolding(gd_snapshots::specs::ObjectBytes::some_link_at))]
+#[tactic(auto, unfolding(gd_snapshots::specs::ObjectBytes::some_link_at, gd_grammar::specs::Readers::steps))]
 fn some_link<'a>(bytes: &mut Bytes<'a>) -> Result<Option<Link>, FieldFault>
     ensures { Gives (λ link. (link, bytes.new)) result (some_link_at bytes.old) }
 {
@@ -183,22 +184,21 @@ fn some_link<'a>(bytes: &mut Bytes<'a>) -> Result<Option<Link>, FieldFault>
     Ok(Some(Link { parent, dx, dy }))
 }
 
-/// Whether it is high, and the stamp.
-#[tactic(auto, unfolding(gd_snapshots::specs::ObjectBytes::rank_at))]
+/// The stamp behind a 1 where it is high, and behind a 0 where it is low.
+#[tactic(auto, unfolding(gd_snapshots::specs::ObjectBytes::rank_at, gd_grammar::specs::Readers::steps))]
 fn rank<'a>(bytes: &mut Bytes<'a>) -> Result<Rank, FieldFault>
     ensures { Gives (λ rank. (rank, bytes.new)) result (rank_at bytes.old) }
 {
-    let high = flag(bytes)?;
-    let stamp = bytes.stamp()?;
-    Ok(rank_of(high, stamp))
-}
-
-fn rank_of(high: bool, stamp: Stamp) -> Rank
-    ensures { result ≡ rank_of high stamp }
-{
-    if high {
-        Rank::High(stamp)
-    } else {
-        Rank::Low(stamp)
+    let fault = bytes.fault(FieldWhy::Field);
+    match bytes.byte()? {
+        0 => {
+            let stamp = bytes.stamp()?;
+            Ok(Rank::Low(stamp))
+        }
+        1 => {
+            let stamp = bytes.stamp()?;
+            Ok(Rank::High(stamp))
+        }
+        _ => Err(fault),
     }
 }

@@ -3,7 +3,7 @@ ghost use Rattle.std.specs.List.{AllByRecursion};
 ghost use Rattle.std.specs.Prelude.{◌≡◌, ◌≤◌, ◌<◌, ◌+◌, ◌*◌, ◌^◌, ◌++◌, ◌∷◌, [], length};
 ghost use Rattle.gd_grammar.specs.FieldBytes.{signed_bytes, word_bytes, each_bytes};
 ghost use Rattle.gd_grammar.specs.declared.sizes.TheConstants.{EVENT_BYTES};
-ghost use Rattle.gd_snapshots.specs.ObjectBytes.{kind_byte, fill_bytes, flag_byte, link_bytes};
+ghost use Rattle.gd_snapshots.specs.ObjectBytes.{kind_byte, flag_byte, link_bytes};
 ghost use Rattle.gd_snapshots.specs.ObjectBytes.{rank_bytes, object_bytes};
 ghost use Rattle.gd_snapshots.specs.SnapshotBytes.{front_bytes, known_bytes, placed_bytes};
 ghost use Rattle.gd_snapshots.specs.Snapshots.{IsKnown};
@@ -13,7 +13,7 @@ use crate::snapshot::Snapshot;
 use gd_base::Stamp;
 use gd_model::{Kind, Link, Object, Rank};
 use gd_snapshots::Known;
-use gd_wire::{EventBytes, NO_FILL};
+use gd_wire::EventBytes;
 
 /// The kind of a group, behind those of shapes.
 const GROUP: u8 = 5;
@@ -77,7 +77,7 @@ fn put_object(object: &Object, out: &mut EventBytes)
 {
     put_form(object, out);
     out.put_word(object.stroke);
-    put_fill(object.fill, out);
+    out.put_fill(object.fill);
     out.put_byte(object.width);
     out.put_text(object.label.as_str());
     put_link(object.link, out);
@@ -107,18 +107,6 @@ fn put_kind(kind: Kind, out: &mut EventBytes)
     match kind {
         Kind::Shape(shape) => out.put_shape(shape),
         Kind::Group => out.put_byte(GROUP),
-    }
-}
-
-/// A colour, or the word that stands for no fill.
-fn put_fill(fill: Option<u32>, out: &mut EventBytes)
-    requires { length out.old + 4 ≤ EVENT_BYTES }
-    ensures bytes { out.new ≡ out.old ++ fill_bytes fill }
-    ensures grown { length out.new ≡ length out.old + 4 }
-{
-    match fill {
-        Some(colour) => out.put_word(colour),
-        None => out.put_word(NO_FILL),
     }
 }
 

@@ -5,13 +5,13 @@ ghost use Rattle.std.specs.Bool.{OnFalse};
 ghost use Rattle.gd_history.specs.Waits.{is_asked};
 
 use std::alloc::{AllocError, Global};
-use std::collections::BTreeSet;
+use std::collections::HashSet;
 use std::marker::Model;
 
-/// Keys in order.
+/// Keys, found by their hashes: each is asked for many times, and in no order.
 #[derive(Drop)]
 pub(crate) struct Asked {
-    keys: BTreeSet<u64>,
+    keys: HashSet<u64>,
 }
 
 impl Model for Asked {
@@ -28,7 +28,7 @@ impl Asked {
         ensures { result ≡ [] }
     {
         Asked {
-            keys: BTreeSet::new(alloc),
+            keys: HashSet::new(alloc),
         }
     }
 

@@ -1,6 +1,9 @@
 -- JSON as bytes. It is compact: nothing stands between its parts. An object is a list of fields, each a key and a value that
 -- is written already.
 use Rattle.std.specs.Prelude.{ℕ, Bool, ◌||◌, ◌==◌, List, [], ◌∷◌, ◌++◌, map, flat_map, codes, if◌then◌else◌}
+use Rattle.std.specs.Cmp.Lexicographic.{slice_cmp}
+use Rattle.std.specs.List.{fold}
+use Rattle.std.specs.Ordering.{match_ordering, nat_cmp}
 
 -- a quote or a backslash
 abbrev pub is_marked : ℕ → Bool
@@ -35,6 +38,17 @@ array values = codes "[" ++ with_commas values ++ codes "]"
 -- a key, and its value
 abbrev pub Field : Type 0
 Field = List ℕ × List ℕ
+
+-- one field more, in the order of the bytes of the keys. A key stands once, with its last value
+unfoldable pub put_field : List Field → Field → List Field
+put_field [] f = f ∷ []
+put_field (g ∷ gs) f = match_ordering (slice_cmp nat_cmp f.0 g.0) (f ∷ g ∷ gs) ((g.0, f.1) ∷ gs) (g ∷ put_field gs f)
+
+abbrev pub put_all : List Field → List Field → List Field
+put_all fields fs = fold put_field fields fs
+
+abbrev pub in_order : List Field → List Field
+in_order fs = put_all [] fs
 
 abbrev pub field : Field → List ℕ
 field f = plain f.0 ++ codes ":" ++ f.1

@@ -1,12 +1,13 @@
 -- Worked rows: items and events, and their JSON, written by hand.
-use Rattle.std.specs.Prelude.{ℕ, ℤ, pos, negsuc, List, [], ◌∷◌, ◌++◌, codes, Some, None}
+use Rattle.std.specs.Prelude.{ℕ, ℤ, pos, negsuc, List, [], ◌∷◌, ◌++◌, codes, Some, None, true}
 use Rattle.gd_base.specs.Stamps.{Stamp}
 use Rattle.gd_base.specs.declared.item.Item.{Item}
 use Rattle.gd_base.specs.declared.member.Member.{Member}
 use Rattle.gd_base.specs.declared.shape.Shape.TheVariants.{Rect, Ellipse, Line, Text}
-use Rattle.gd_base.specs.declared.style.Style.TheVariants.{Stroke, Fill, Width}
-use Rattle.gd_events.specs.declared.op.Op.{Op}
-use Rattle.gd_events.specs.declared.op.Op.TheVariants.{Create, Delete, Move, Resize, Restyle, Retext, Group, Ungroup, Raise, Lower}
+use Rattle.gd_base.specs.declared.content.Content.TheVariants.{ToPlace, ToSize, ToStroke, ToFill, ToWidth, ToText, ToFlag, ToRank}
+use Rattle.gd_base.specs.declared.content.Side.TheVariants.{Bottom, Top}
+use Rattle.gd_base.specs.declared.op.Op.TheVariants.{Create, Delete, Set, Group}
+use Rattle.gd_events.specs.Ops.{Op}
 use Rattle.gd_events.specs.Events.{Event}
 
 abbrev pub at_stamp : ℕ → ℕ → Stamp
@@ -81,18 +82,18 @@ events_of_json = (
   codes "{\"clock\":7,\"h\":-8,\"kind\":\"text\",\"label\":" ++ odd_label_json ++ codes ",\"op\":\"create\",\"seq\":1,\"site\":3,\"w\":7,\"x\":-5,\"y\":6}",
 )
     ∷ (event 8 3 2 (Delete (at_stamp 7 16)), codes "{\"clock\":8,\"id\":\"7.16\",\"op\":\"delete\",\"seq\":2,\"site\":3}")
-    ∷ (event 9 3 3 (Move (at_stamp 7 3) (pos 2147483647) (negsuc 2147483646)), codes "{\"clock\":9,\"id\":\"7.3\",\"op\":\"move\",\"seq\":3,\"site\":3,\"x\":2147483647,\"y\":-2147483647}")
-    ∷ (event 10 3 4 (Resize (at_stamp 7 3) (pos 11) (pos 12)), codes "{\"clock\":10,\"h\":12,\"id\":\"7.3\",\"op\":\"resize\",\"seq\":4,\"site\":3,\"w\":11}")
-    ∷ (event 11 3 5 (Restyle (at_stamp 7 3) (Stroke 0x00AB0C)), codes "{\"clock\":11,\"id\":\"7.3\",\"op\":\"restyle\",\"seq\":5,\"site\":3,\"stroke\":\"00AB0C\"}")
-    ∷ (event 12 3 6 (Restyle (at_stamp 7 3) (Fill (Some 0))), codes "{\"clock\":12,\"fill\":\"000000\",\"id\":\"7.3\",\"op\":\"restyle\",\"seq\":6,\"site\":3}")
-    ∷ (event 13 3 7 (Restyle (at_stamp 7 3) (Fill None)), codes "{\"clock\":13,\"fill\":null,\"id\":\"7.3\",\"op\":\"restyle\",\"seq\":7,\"site\":3}")
-    ∷ (event 14 3 8 (Restyle (at_stamp 7 3) (Width 64)), codes "{\"clock\":14,\"id\":\"7.3\",\"op\":\"restyle\",\"seq\":8,\"site\":3,\"width\":64}")
-    ∷ (event 15 3 9 (Retext (at_stamp 7 3) odd_label), codes "{\"clock\":15,\"id\":\"7.3\",\"label\":" ++ odd_label_json ++ codes ",\"op\":\"retext\",\"seq\":9,\"site\":3}")
+    ∷ (event 9 3 3 (Set (at_stamp 7 3) (ToPlace (pos 2147483647) (negsuc 2147483646))), codes "{\"clock\":9,\"id\":\"7.3\",\"op\":\"move\",\"seq\":3,\"site\":3,\"x\":2147483647,\"y\":-2147483647}")
+    ∷ (event 10 3 4 (Set (at_stamp 7 3) (ToSize (pos 11) (pos 12))), codes "{\"clock\":10,\"h\":12,\"id\":\"7.3\",\"op\":\"resize\",\"seq\":4,\"site\":3,\"w\":11}")
+    ∷ (event 11 3 5 (Set (at_stamp 7 3) (ToStroke 0x00AB0C)), codes "{\"clock\":11,\"id\":\"7.3\",\"op\":\"restyle\",\"seq\":5,\"site\":3,\"stroke\":\"00AB0C\"}")
+    ∷ (event 12 3 6 (Set (at_stamp 7 3) (ToFill (Some 0))), codes "{\"clock\":12,\"fill\":\"000000\",\"id\":\"7.3\",\"op\":\"restyle\",\"seq\":6,\"site\":3}")
+    ∷ (event 13 3 7 (Set (at_stamp 7 3) (ToFill None)), codes "{\"clock\":13,\"fill\":null,\"id\":\"7.3\",\"op\":\"restyle\",\"seq\":7,\"site\":3}")
+    ∷ (event 14 3 8 (Set (at_stamp 7 3) (ToWidth 64)), codes "{\"clock\":14,\"id\":\"7.3\",\"op\":\"restyle\",\"seq\":8,\"site\":3,\"width\":64}")
+    ∷ (event 15 3 9 (Set (at_stamp 7 3) (ToText odd_label)), codes "{\"clock\":15,\"id\":\"7.3\",\"label\":" ++ odd_label_json ++ codes ",\"op\":\"retext\",\"seq\":9,\"site\":3}")
     ∷ (
       event 16 3 10 (Group (member 2 1 (pos 0) (negsuc 8) ∷ member 7 3 (pos 10) (pos 0) ∷ [])),
       codes "{\"clock\":16,\"members\":[{\"dx\":0,\"dy\":-9,\"id\":\"2.1\"},{\"dx\":10,\"dy\":0,\"id\":\"7.3\"}],\"op\":\"group\",\"seq\":10,\"site\":3}",
     )
-    ∷ (event 17 3 11 (Ungroup (at_stamp 16 3)), codes "{\"clock\":17,\"id\":\"16.3\",\"op\":\"ungroup\",\"seq\":11,\"site\":3}")
-    ∷ (event 18 3 12 (Raise (at_stamp 7 3)), codes "{\"clock\":18,\"id\":\"7.3\",\"op\":\"raise\",\"seq\":12,\"site\":3}")
-    ∷ (event 281474976710655 16 65535 (Lower (at_stamp 7 3)), codes "{\"clock\":281474976710655,\"id\":\"7.3\",\"op\":\"lower\",\"seq\":65535,\"site\":16}")
+    ∷ (event 17 3 11 (Set (at_stamp 16 3) (ToFlag true)), codes "{\"clock\":17,\"id\":\"16.3\",\"op\":\"ungroup\",\"seq\":11,\"site\":3}")
+    ∷ (event 18 3 12 (Set (at_stamp 7 3) (ToRank Top)), codes "{\"clock\":18,\"id\":\"7.3\",\"op\":\"raise\",\"seq\":12,\"site\":3}")
+    ∷ (event 281474976710655 16 65535 (Set (at_stamp 7 3) (ToRank Bottom)), codes "{\"clock\":281474976710655,\"id\":\"7.3\",\"op\":\"lower\",\"seq\":65535,\"site\":16}")
     ∷ []

@@ -8,8 +8,8 @@ use Rattle.gd_base.specs.Stamps.{Stamp}
 use Rattle.gd_base.specs.declared.member.Member.{Member}
 use Rattle.gd_base.specs.declared.refusal.EditRefusal.{EditRefusal}
 use Rattle.gd_base.specs.declared.refusal.EditRefusal.TheVariants.{SameMember, NotTop, TooFar}
-use Rattle.gd_events.specs.declared.op.Op.{Op}
-use Rattle.gd_events.specs.declared.op.Op.TheVariants as op
+use Rattle.gd_base.specs.declared.op.Op.TheVariants as op
+use Rattle.gd_events.specs.Ops.{Op}
 use Rattle.gd_events.specs.Sound.{is_shift_in_range}
 use Rattle.gd_reference.specs.Judging.{Target, targets, with_another, are_apart, is_other, member_at, by_id, grouped}
 use Rattle.gd_judging.specs.declared.groups.Named.{Named}

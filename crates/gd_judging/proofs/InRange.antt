@@ -2,20 +2,28 @@
 use Rattle.std.proofs.Common.{◌≡◌, ℤ, Bool, true, false, cond, ◌&&◌, Some, None, Ok, Err, refl, sym, ap}
 use Rattle.gd_base.specs.Ranges.{place_limit, is_within}
 use Rattle.gd_base.specs.Stamps.{Stamp}
+use Rattle.gd_base.specs.declared.content.Content.TheVariants.{ToPlace}
 use Rattle.gd_base.specs.declared.member.Member.{Member}
+use Rattle.gd_base.specs.declared.op.Op.TheVariants.{Set}
 use Rattle.gd_base.specs.declared.refusal.EditRefusal.TheVariants.{TooFar}
-use Rattle.gd_events.specs.declared.op.Op.TheVariants.{Move}
+use Rattle.gd_events.specs.Ops.{Op}
 use Rattle.gd_reference.specs.Judging.{moved_to}
 use Rattle.gd_judging.specs.Targets.{in_range}
 
-moved_by : (id : Stamp) (t : Bool) (p q : ℤ × ℤ) → cond t (Some p) None ≡ Some q → Ok (Move id q.0 q.1) ≡ cond t (Ok (Move id p.0 p.1)) (Err TooFar)
-moved_by id true p q h = let e : p ≡ q = cc in ap (λ (r : ℤ × ℤ). Ok (Move id r.0 r.1)) (sym e)
+-- what moves an object to a place
+abbrev move_to : Stamp → ℤ × ℤ → Op
+move_to id p = Set id (ToPlace p.0 p.1)
+
+moved_by : (id : Stamp) (t : Bool) (p q : ℤ × ℤ) → cond t (Some p) None ≡ Some q
+    → Ok (move_to id q) ≡ cond t (Ok (move_to id p)) (Err TooFar)
+moved_by id true p q h = let e : p ≡ q = cc in ap (λ (r : ℤ × ℤ). Ok (move_to id r)) (sym e)
 moved_by id false p q h = cc
 
-pub moved_some : (id : Stamp) (a b x y : ℤ) → in_range a b ≡ Some (x, y) → Ok (Move id x y) ≡ moved_to id a b
+pub moved_some : (id : Stamp) (a b x y : ℤ) → in_range a b ≡ Some (x, y) → Ok (Set id (ToPlace x y)) ≡ moved_to id a b
 moved_some id a b x y h = moved_by id (is_within place_limit a && is_within place_limit b) (a, b) (x, y) h
 
-unmoved_by : (id : Stamp) (t : Bool) (p : ℤ × ℤ) → cond t (Some p) None ≡ None → Err TooFar ≡ cond t (Ok (Move id p.0 p.1)) (Err TooFar)
+unmoved_by : (id : Stamp) (t : Bool) (p : ℤ × ℤ) → cond t (Some p) None ≡ None
+    → Err TooFar ≡ cond t (Ok (move_to id p)) (Err TooFar)
 unmoved_by id true p h = cc
 unmoved_by id false p h = refl
 

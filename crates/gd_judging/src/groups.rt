@@ -9,7 +9,7 @@ ghost use Rattle.gd_base.specs.Stamps.{is_before};
 ghost use Rattle.gd_base.specs.declared.ranges.TheConstants.{SESSION_EVENTS, MOST_MEMBERS};
 ghost use Rattle.gd_events.specs.Sound.{is_shift_in_range};
 ghost use Rattle.gd_model.specs.Board.{listed};
-ghost use Rattle.gd_canvas.specs.Slots.{board_of};
+ghost use Rattle.gd_slots.specs.Slots.{board_of};
 ghost use Rattle.gd_reference.specs.Judging.{Target, target, targets, with_targets, grouped, are_apart, is_other};
 ghost use Rattle.gd_judging.specs.Targets.{told, as_named, as_member, rising};
 

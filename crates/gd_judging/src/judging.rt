@@ -5,12 +5,12 @@ ghost use Rattle.std.specs.FinMap as map_of;
 ghost use Rattle.gd_base.specs.Ranges.{place_limit, is_within};
 ghost use Rattle.gd_base.specs.declared.ranges.TheConstants.{SESSION_EVENTS};
 ghost use Rattle.gd_model.specs.Board.{listed};
-ghost use Rattle.gd_canvas.specs.Slots.{board_of};
-ghost use Rattle.gd_reference.specs.Judging.{target, with_target, of_shape, of_group, moved_to, judged_over};
+ghost use Rattle.gd_slots.specs.Slots.{board_of};
+ghost use Rattle.gd_reference.specs.Judging.{target, with_target, of_shape, of_group, moved_to, set_in, judged_over};
 ghost use Rattle.gd_judging.specs.Targets.{told, in_range};
 
 use crate::groups::group;
-use gd_base::{Edit, EditRefusal, PLACE_LIMIT, Place, Stamp};
+use gd_base::{Content, Edit, EditRefusal, Label, PLACE_LIMIT, Place, Side, Stamp};
 use gd_canvas::{Canvas, Kind};
 use gd_events::Op;
 use gd_view::{Shown, shown};
@@ -21,42 +21,33 @@ use gd_view::{Shown, shown};
 /// group names an object that is in a group; `TooFar` where the own place of a moved object, or the shift of a member,
 /// would leave its range. No other refusal comes. It takes no memory.
 ///
-/// Places of new shapes, sizes, styles and the number of ids are taken as they are.
+/// Places of new shapes, sizes, looks and the number of ids are taken as they are.
 pub fn judge(canvas: &Canvas, edit: &Edit) -> Result<Op, EditRefusal>
     requires few { map_of.len (board_of canvas.now) ≤ SESSION_EVENTS }
     ensures { result ≡ judged_over (target (listed (board_of canvas.now))) edit.now }
 {
-    match *edit {
+    match edit {
         Edit::Create {
             kind,
             x,
             y,
             w,
             h,
-            ref label,
+            label,
         } => {
             let label = label.copy();
             Ok(Op::Create {
-                kind,
-                x,
-                y,
-                w,
-                h,
+                kind: *kind,
+                x: *x,
+                y: *y,
+                w: *w,
+                h: *h,
                 label,
             })
         }
-        Edit::Delete { id } => of_any(target(canvas, id), Op::Delete { id }),
-        Edit::Move { id, x, y } => moved(target(canvas, id), id, x, y),
-        Edit::Resize { id, w, h } => of_shape(target(canvas, id), Op::Resize { id, w, h }),
-        Edit::Restyle { id, style } => of_shape(target(canvas, id), Op::Restyle { id, style }),
-        Edit::Retext { id, ref label } => {
-            let label = label.copy();
-            of_shape(target(canvas, id), Op::Retext { id, label })
-        }
-        Edit::Group { ref ids } => group(canvas, ids.as_slice()),
-        Edit::Ungroup { id } => of_group(target(canvas, id), Op::Ungroup { id }),
-        Edit::Raise { id } => of_any(target(canvas, id), Op::Raise { id }),
-        Edit::Lower { id } => of_any(target(canvas, id), Op::Lower { id }),
+        Edit::Delete { id } => of_any(target(canvas, *id), Op::Delete { id: *id }),
+        Edit::Set { id, content } => set(target(canvas, *id), *id, content),
+        Edit::Group { members } => group(canvas, members.as_slice()),
     }
 }
 
@@ -79,43 +70,66 @@ fn of_any(target: Option<Shown>, change: Op) -> Result<Op, EditRefusal>
     }
 }
 
-/// The change of a shape, where it is shown.
-fn of_shape(target: Option<Shown>, change: Op) -> Result<Op, EditRefusal>
-    ensures { result ≡ with_target (option_map told target) (λ t. of_shape change t.kind) }
+/// What sets a content in an object, where it is shown.
+fn set(target: Option<Shown>, id: Stamp, content: &Content<Label, Side>) -> Result<Op, EditRefusal>
+    ensures { result ≡ with_target (option_map told target) (set_in id content.now) }
 {
     match target {
-        Some(shown) => match shown.kind {
-            Kind::Shape(_) => Ok(change),
-            Kind::Group => Err(EditRefusal::NotShape),
-        },
+        Some(shown) => set_in(&shown, id, content),
         None => Err(EditRefusal::NoObject),
     }
 }
 
-/// The change of a group, where it is shown.
-fn of_group(target: Option<Shown>, change: Op) -> Result<Op, EditRefusal>
-    ensures { result ≡ with_target (option_map told target) (λ t. of_group change t.kind) }
+/// What sets a content in an object that is shown, or why it is refused.
+fn set_in(shown: &Shown, id: Stamp, content: &Content<Label, Side>) -> Result<Op, EditRefusal>
+    ensures { result ≡ set_in id content.now (told shown.now) }
 {
-    match target {
-        Some(shown) => match shown.kind {
-            Kind::Shape(_) => Err(EditRefusal::NotGroup),
-            Kind::Group => Ok(change),
-        },
-        None => Err(EditRefusal::NoObject),
+    let change = Op::Set {
+        id,
+        content: content.copy(),
+    };
+    match content {
+        Content::ToPlace { x, y } => moved(shown.above, id, *x, *y),
+        Content::ToRank(_) => Ok(change),
+        Content::ToFlag(_) => of_group(shown.kind, change),
+        Content::ToSize { .. }
+        | Content::ToStroke(_)
+        | Content::ToFill(_)
+        | Content::ToWidth(_)
+        | Content::ToText(_) => of_shape(shown.kind, change),
     }
 }
 
-/// The move of an object that is to be shown there.
-fn moved(target: Option<Shown>, id: Stamp, x: i32, y: i32) -> Result<Op, EditRefusal>
-    ensures { result ≡ with_target (option_map told target)
-        (λ t. moved_to id (x -ℤ t.above.dx) (y -ℤ t.above.dy)) }
+/// The change of an object of that kind, which has to be a shape.
+fn of_shape(kind: Kind, change: Op) -> Result<Op, EditRefusal>
+    ensures { result ≡ of_shape change kind }
 {
-    match target {
-        Some(shown) => match own_place(shown.above, x, y) {
-            Some((x, y)) => Ok(Op::Move { id, x, y }),
-            None => Err(EditRefusal::TooFar),
-        },
-        None => Err(EditRefusal::NoObject),
+    match kind {
+        Kind::Shape(_) => Ok(change),
+        Kind::Group => Err(EditRefusal::NotShape),
+    }
+}
+
+/// The change of an object of that kind, which has to be a group.
+fn of_group(kind: Kind, change: Op) -> Result<Op, EditRefusal>
+    ensures { result ≡ of_group change kind }
+{
+    match kind {
+        Kind::Shape(_) => Err(EditRefusal::NotGroup),
+        Kind::Group => Ok(change),
+    }
+}
+
+/// The move of an object that is to be shown there, `above` away from its own place.
+fn moved(above: Place, id: Stamp, x: i32, y: i32) -> Result<Op, EditRefusal>
+    ensures { result ≡ moved_to id (x -ℤ above.x) (y -ℤ above.y) }
+{
+    match own_place(above, x, y) {
+        Some((x, y)) => Ok(Op::Set {
+            id,
+            content: Content::ToPlace { x, y },
+        }),
+        None => Err(EditRefusal::TooFar),
     }
 }
 

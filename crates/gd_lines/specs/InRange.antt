@@ -1,14 +1,15 @@
 -- The ranges of what is read: of an edit its numbers, its ids, its label and how many members its group has; of other
 -- commands the focus and the name; and in a rehearsal the sites, and what a site is asked for.
-use Rattle.std.specs.Prelude.{◌≡◌, ℕ, ◌≤◌, ◌&&◌, true, Some, length}
+use Rattle.std.specs.Prelude.{◌≡◌, ◌≤◌, ◌&&◌, true, Some, length}
 use Rattle.std.specs.List.{AllByRecursion}
 use Rattle.gd_base.specs.Stamps.{IsStamp}
 use Rattle.gd_base.specs.Sites.{IsSite}
 use Rattle.gd_base.specs.declared.ranges.TheConstants.{MOST_MEMBERS}
 use Rattle.gd_base.specs.Labels.{IsLabel, is_name}
-use Rattle.gd_base.specs.Ranges.{place_limit, size_limit, is_within, is_style}
-use Rattle.gd_base.specs.declared.edit.Edit.{Edit}
-use Rattle.gd_base.specs.declared.edit.Edit.TheVariants as wish
+use Rattle.gd_base.specs.Ranges.{place_limit, size_limit, is_within}
+use Rattle.gd_base.specs.Contents.{IsSaid}
+use Rattle.gd_base.specs.declared.op.Op.TheVariants as op
+use Rattle.gd_lines.specs.Edits.{Edit}
 use Rattle.gd_lines.specs.declared.command.Command.{Command}
 use Rattle.gd_lines.specs.declared.command.Command.TheVariants as command
 use Rattle.gd_lines.specs.declared.command.ScriptLine.{ScriptLine}
@@ -16,19 +17,13 @@ use Rattle.gd_lines.specs.declared.command.ScriptLine.TheVariants as script
 
 -- the numbers of the edit are in their ranges, its ids are stamps, its label is one, and its group has 2 to 32 members
 abbrev pub IsEdit : Edit → Type 0
-IsEdit (wish.Create kind x y w h label) =
+IsEdit (op.Create kind x y w h label) =
     (is_within place_limit x && (is_within place_limit y
     && (is_within size_limit w && is_within size_limit h)) ≡ true)
     × IsLabel label
-IsEdit (wish.Delete id) = IsStamp id
-IsEdit (wish.Move id x y) = IsStamp id × (is_within place_limit x && is_within place_limit y ≡ true)
-IsEdit (wish.Resize id w h) = IsStamp id × (is_within size_limit w && is_within size_limit h ≡ true)
-IsEdit (wish.Restyle id style) = IsStamp id × (is_style style ≡ true)
-IsEdit (wish.Retext id label) = IsStamp id × IsLabel label
-IsEdit (wish.Group ids) = (2 ≤ length ids) × (length ids ≤ MOST_MEMBERS) × AllByRecursion IsStamp ids
-IsEdit (wish.Ungroup id) = IsStamp id
-IsEdit (wish.Raise id) = IsStamp id
-IsEdit (wish.Lower id) = IsStamp id
+IsEdit (op.Delete id) = IsStamp id
+IsEdit (op.Set id content) = IsStamp id × IsSaid content
+IsEdit (op.Group ids) = (2 ≤ length ids) × (length ids ≤ MOST_MEMBERS) × AllByRecursion IsStamp ids
 
 abbrev pub IsCommand : Command → Type 0
 IsCommand (command.Edit edit) = IsEdit edit

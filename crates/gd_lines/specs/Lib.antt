@@ -1,5 +1,9 @@
 pub mod LineWords
 pub mod WordKinds
+pub mod Reading
+pub mod Readers
+pub mod Rows
+pub mod Edits
 pub mod Lines
 pub mod ScriptLines
 pub mod InRange

@@ -3,8 +3,6 @@
 
 mod command;
 mod reply;
-mod verb;
 
 pub use command::{Command, LONGEST_LINE, ScriptLine};
 pub use reply::Reply;
-pub use verb::{ScriptVerb, Verb};

@@ -6,8 +6,9 @@ use Rattle.gd_effects.specs.Crashes.{Adds, AddsTorn, Stands}
 use Rattle.gd_events.specs.Events.{EventValue}
 use Rattle.gd_grammar.specs.Closing.{gate_place}
 use Rattle.gd_grammar.specs.Kinds.{LogKind, FitsIn}
-use Rattle.gd_grammar.specs.HeaderBytes.{Header, IsHeader, has_version}
+use Rattle.gd_grammar.specs.HeaderBytes.{Header, IsHeader}
 use Rattle.gd_grammar.specs.LogBytes.{LogMisread, left_of, turn_fault}
+use Rattle.gd_grammar.specs.Versions.{has_version}
 use Rattle.gd_outside.specs.Seen.{SeenJournal}
 
 -- each event is sound, can be spelled in the header's version, and is the next one behind these and those before it

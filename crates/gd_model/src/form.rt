@@ -1,16 +1,18 @@
-use crate::content::Content;
-use crate::object::Body;
-use gd_base::{Members, Stamp};
+use crate::content::Held;
+use crate::object::Object;
+use crate::ties::Ties;
+use gd_base::Stamp;
 
-/// What an operation does. The definitions and the code go by these four forms.
+/// What an operation does. The definitions and the code go by these three forms.
 #[derive(Drop)]
 pub enum Form {
     /// The content goes into the object of that id, where it has the part.
-    Sets(Stamp, Content),
-    /// A new object, with the event's stamp as its id, where that id is absent.
-    Creates(Body),
-    /// The object of that id goes.
-    Deletes(Stamp),
-    /// A new group, with the event's stamp as its id, where that id is absent. Each member is linked to it.
-    Groups(Members),
+    Sets(Stamp, Held),
+    /// The object stands under that id, where the id is absent, and each other object that is tied has its new link.
+    Puts(Stamp, Object, Ties),
+    /// The object of that id goes, where it is there, and each other object that is tied has its new link.
+    Takes(Stamp, Ties),
 }
+
+/// What stood where an event was applied: the form that takes it back, or None where the event had no effect.
+pub type Before = Option<Form>;

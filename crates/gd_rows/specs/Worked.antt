@@ -1,12 +1,13 @@
 -- Worked rows: logs of a few events, byte by byte, and what is printed of them.
-use Rattle.std.specs.Prelude.{ℕ, ℤ, pos, negsuc, Bool, false, Option, List, [], ◌∷◌, ◌++◌, map, take, set, codes, Some, None}
+use Rattle.std.specs.Prelude.{ℕ, ℤ, pos, negsuc, Bool, true, false, Option, List, [], ◌∷◌, ◌++◌, map, take, set, codes, Some, None}
 use Rattle.gd_base.specs.Stamps.{Stamp}
+use Rattle.gd_base.specs.declared.content.Content.TheVariants.{ToPlace, ToSize, ToStroke, ToFill, ToWidth, ToText, ToFlag, ToRank}
+use Rattle.gd_base.specs.declared.content.Side.TheVariants.{Bottom, Top}
 use Rattle.gd_base.specs.declared.member.Member.{Member}
+use Rattle.gd_base.specs.declared.op.Op.TheVariants.{Create, Delete, Set, Group}
 use Rattle.gd_base.specs.declared.shape.Shape.TheVariants.{Rect, Ellipse}
-use Rattle.gd_base.specs.declared.style.Style.TheVariants.{Stroke, Fill, Width}
 use Rattle.gd_base.specs.declared.version.Version.TheVariants.{One, Two}
-use Rattle.gd_events.specs.declared.op.Op.{Op}
-use Rattle.gd_events.specs.declared.op.Op.TheVariants.{Create, Delete, Move, Resize, Restyle, Retext, Group, Ungroup, Raise, Lower}
+use Rattle.gd_events.specs.Ops.{Op}
 use Rattle.gd_events.specs.Events.{Event}
 use Rattle.gd_base.specs.declared.fault.LogWhy.{LogWhy}
 use Rattle.gd_base.specs.declared.fault.LogWhy.TheVariants.{Short, Magic, Version, Field, FutureId, MemberOrder, NoSite, Turn, Backdated}
@@ -80,7 +81,7 @@ moved_log =
 abbrev pub moved_events : List Event
 moved_events =
     event 1 1 1 (Create Rect (pos 0) (pos 0) (pos 10) (pos 10) (97 ∷ 32 ∷ 98 ∷ []))
-    ∷ event 2 1 2 (Move (at_stamp 1 1) (negsuc 6) (pos 8))
+    ∷ event 2 1 2 (Set (at_stamp 1 1) (ToPlace (negsuc 6) (pos 8)))
     ∷ []
 
 abbrev pub moved_text : List (List ℕ)
@@ -106,12 +107,12 @@ styled_log =
 abbrev pub styled_events : List Event
 styled_events =
     event 1 1 1 (Create Ellipse (pos 0) (pos 0) (pos 20) (pos 20) [])
-    ∷ event 2 1 2 (Resize (at_stamp 1 1) (negsuc 4) (pos 30))
-    ∷ event 3 1 3 (Restyle (at_stamp 1 1) (Stroke 0x00AB0C))
-    ∷ event 4 1 4 (Restyle (at_stamp 1 1) (Fill (Some 0xFF8000)))
-    ∷ event 5 1 5 (Restyle (at_stamp 1 1) (Width 64))
-    ∷ event 6 1 6 (Retext (at_stamp 1 1) (99 ∷ 97 ∷ 102 ∷ 195 ∷ 169 ∷ []))
-    ∷ event 7 1 7 (Restyle (at_stamp 1 2) (Fill None))
+    ∷ event 2 1 2 (Set (at_stamp 1 1) (ToSize (negsuc 4) (pos 30)))
+    ∷ event 3 1 3 (Set (at_stamp 1 1) (ToStroke 0x00AB0C))
+    ∷ event 4 1 4 (Set (at_stamp 1 1) (ToFill (Some 0xFF8000)))
+    ∷ event 5 1 5 (Set (at_stamp 1 1) (ToWidth 64))
+    ∷ event 6 1 6 (Set (at_stamp 1 1) (ToText (99 ∷ 97 ∷ 102 ∷ 195 ∷ 169 ∷ [])))
+    ∷ event 7 1 7 (Set (at_stamp 1 2) (ToFill None))
     ∷ []
 
 abbrev pub styled_text : List (List ℕ)
@@ -126,15 +127,15 @@ ranked_by op =
     event 1 1 1 (Create Rect (pos 0) (pos 0) (pos 10) (pos 10) [])
     ∷ event 2 1 2 (Create Ellipse (pos 0) (pos 0) (pos 20) (pos 20) [])
     ∷ event 5 1 3 op
-    ∷ event 4 2 1 (Raise (at_stamp 2 1))
+    ∷ event 4 2 1 (Set (at_stamp 2 1) (ToRank Top))
     ∷ []
 
 -- the rect is raised, or the ellipse is lowered: in both the ellipse lies below the rect
 abbrev pub rank_events : List Event
-rank_events = ranked_by (Raise (at_stamp 1 1))
+rank_events = ranked_by (Set (at_stamp 1 1) (ToRank Top))
 
 abbrev pub ellipse_lowered : List Event
-ellipse_lowered = ranked_by (Lower (at_stamp 2 1))
+ellipse_lowered = ranked_by (Set (at_stamp 2 1) (ToRank Bottom))
 
 abbrev pub rank_text : List (List ℕ)
 rank_text =
@@ -153,9 +154,9 @@ regrouped_events =
     event 1 1 1 (square (pos 0))
     ∷ event 2 1 2 (square (pos 20))
     ∷ event 3 1 3 (Group (member 1 1 (pos 0) (pos 0) ∷ member 2 1 (pos 0) (pos 0) ∷ []))
-    ∷ event 4 1 4 (Move (at_stamp 3 1) (pos 5) (pos 7))
+    ∷ event 4 1 4 (Set (at_stamp 3 1) (ToPlace (pos 5) (pos 7)))
     ∷ event 5 1 5 (Group (member 1 1 (pos 5) (pos 7) ∷ member 2 1 (pos 5) (pos 7) ∷ []))
-    ∷ event 4 2 1 (Ungroup (at_stamp 3 1))
+    ∷ event 4 2 1 (Set (at_stamp 3 1) (ToFlag true))
     ∷ event 5 2 2 (Group (member 1 1 (pos 5) (pos 7) ∷ member 2 1 (pos 5) (pos 7) ∷ []))
     ∷ []
 
@@ -180,11 +181,11 @@ nested_events =
     ∷ event 5 1 5 (Group (member 1 1 (pos 0) (pos 0) ∷ member 2 1 (pos 0) (pos 0) ∷ []))
     ∷ event 6 1 6 (Group (member 3 1 (pos 10) (pos 1) ∷ member 4 1 (pos 20) (pos 2) ∷ []))
     ∷ event 7 1 7 (Group (member 5 1 (pos 0) (pos 0) ∷ member 6 1 (pos 100) (pos 0) ∷ []))
-    ∷ event 8 1 8 (Move (at_stamp 6 1) (pos 1000) (pos 40))
-    ∷ event 9 1 9 (Move (at_stamp 7 1) (pos 10000) (negsuc 99))
+    ∷ event 8 1 8 (Set (at_stamp 6 1) (ToPlace (pos 1000) (pos 40)))
+    ∷ event 9 1 9 (Set (at_stamp 7 1) (ToPlace (pos 10000) (negsuc 99)))
     ∷ event 10 1 10 (Delete (at_stamp 5 1))
-    ∷ event 11 1 11 (Ungroup (at_stamp 6 1))
-    ∷ event 12 1 12 (Raise (at_stamp 3 1))
+    ∷ event 11 1 11 (Set (at_stamp 6 1) (ToFlag true))
+    ∷ event 12 1 12 (Set (at_stamp 3 1) (ToRank Top))
     ∷ []
 
 abbrev pub nested_text : List (List ℕ)
@@ -204,7 +205,7 @@ effect_before_cause =
 
 -- a rect, its moves, and the moves and the delete of another site that come late
 abbrev pub move_to : ℕ → ℕ → ℤ → Event
-move_to clock site x = event clock site clock (Move (at_stamp 1 1) x x)
+move_to clock site x = event clock site clock (Set (at_stamp 1 1) (ToPlace x x))
 
 abbrev pub last_move : Event
 last_move = move_to 3 1 (pos 60)
@@ -223,9 +224,9 @@ abbrev pub tied_held : List Event
 tied_held =
     event 1 1 1 (square (pos 0))
     ∷ event 2 1 2 (square (pos 20))
-    ∷ event 3 1 3 (Raise (at_stamp 1 1))
+    ∷ event 3 1 3 (Set (at_stamp 1 1) (ToRank Top))
     ∷ event 4 1 4 (Group (member 1 1 (pos 0) (pos 0) ∷ member 2 1 (pos 0) (pos 0) ∷ []))
-    ∷ event 5 1 5 (Move (at_stamp 4 1) (pos 5) (pos 5))
+    ∷ event 5 1 5 (Set (at_stamp 4 1) (ToPlace (pos 5) (pos 5)))
     ∷ event 1 2 1 (square (pos 40))
     ∷ []
 
@@ -235,7 +236,7 @@ late_group = event 3 2 2 (Group (member 1 2 (pos 0) (pos 0) ∷ member 2 1 (pos 
 abbrev pub undone_by_the_group : List Event
 undone_by_the_group =
     event 4 1 4 (Group (member 1 1 (pos 0) (pos 0) ∷ member 2 1 (pos 0) (pos 0) ∷ []))
-    ∷ event 5 1 5 (Move (at_stamp 4 1) (pos 5) (pos 5))
+    ∷ event 5 1 5 (Set (at_stamp 4 1) (ToPlace (pos 5) (pos 5)))
     ∷ []
 
 abbrev pub end_alone : List (List ℕ)
@@ -276,7 +277,7 @@ grouped_log =
 abbrev pub grouped_events : List Event
 grouped_events =
     event 3 1 1 (Group (member 1 2 (pos 5) (negsuc 6) ∷ member 2 1 (pos 1000000000) (negsuc 999999999) ∷ []))
-    ∷ event 4 2 1 (Ungroup (at_stamp 3 1))
+    ∷ event 4 2 1 (Set (at_stamp 3 1) (ToFlag true))
     ∷ []
 
 -- a group whose second member isn't above its first
@@ -313,7 +314,7 @@ abbrev pub lowered_log : List ℕ
 lowered_log = set (begun_log (10 ∷ 0 ∷ 0 ∷ 0 ∷ 0 ∷ 0 ∷ 1 ∷ 1 ∷ [])) 4 2
 
 abbrev pub lowered_events : List Event
-lowered_events = event 3 1 1 (Lower (at_stamp 1 1)) ∷ []
+lowered_events = event 3 1 1 (Set (at_stamp 1 1) (ToRank Bottom)) ∷ []
 
 -- why bytes are no log, and how many of them stand from the fault's place on
 abbrev pub fault_at : LogWhy → ℕ → LogMisread

@@ -1,12 +1,12 @@
 -- Worked rows of taking back: what edits leave to take back, and what an undo does then.
-use Rattle.std.specs.Prelude.{ℕ, zero, suc, ◌-◌, pos, negsuc, List, [], ◌∷◌, ◌++◌, map, replicate, codes, Some, None}
-use Rattle.gd_base.specs.declared.edit.Edit.{Edit}
-use Rattle.gd_base.specs.declared.edit.Edit.TheVariants as wish
+use Rattle.std.specs.Prelude.{ℕ, zero, suc, ◌-◌, pos, negsuc, true, List, [], ◌∷◌, ◌++◌, map, replicate, codes, Some, None}
+use Rattle.gd_base.specs.declared.content.Content.TheVariants.{ToPlace, ToSize, ToStroke, ToFill, ToWidth, ToText, ToFlag, ToRank}
+use Rattle.gd_base.specs.declared.content.Side.TheVariants.{Bottom, Top}
+use Rattle.gd_base.specs.declared.op.Op.TheVariants as op
 use Rattle.gd_base.specs.declared.shape.Shape.TheVariants.{Rect, Ellipse}
-use Rattle.gd_base.specs.declared.style.Style.TheVariants.{Stroke, Fill, Width}
 use Rattle.gd_effects.specs.Effects.{printed}
-use Rattle.gd_events.specs.declared.op.Op.TheVariants as op
 use Rattle.gd_events.specs.Events.{Event}
+use Rattle.gd_lines.specs.Edits.{Edit}
 use Rattle.gd_lines.specs.declared.command.Command.TheVariants as command
 use Rattle.gd_reference.specs.Backs.{Back, Never, Takes}
 use Rattle.gd_reference.specs.NodeRun.{HeardLine, site_after}
@@ -47,8 +47,8 @@ all_back_printed =
 abbrev pub all_back_held : List Event
 all_back_held =
     first_rect
-    ∷ event 2 1 2 (op.Move (at_stamp 1 1) (pos 50) (pos 60))
-    ∷ event 3 1 3 (op.Move (at_stamp 1 1) (pos 0) (pos 0))
+    ∷ event 2 1 2 (op.Set (at_stamp 1 1) (ToPlace (pos 50) (pos 60)))
+    ∷ event 3 1 3 (op.Set (at_stamp 1 1) (ToPlace (pos 0) (pos 0)))
     ∷ event 4 1 4 (op.Delete (at_stamp 1 1))
     ∷ []
 
@@ -65,7 +65,7 @@ far_edits = edge_edits ++ move_to 2 1 5 5 ∷ []
 
 -- an undo, which is refused, and a raise
 abbrev pub far_raised : List HeardLine
-far_raised = edits far_edits ++ undoes 1 ++ edits (wish.Raise (at_stamp 2 1) ∷ [])
+far_raised = edits far_edits ++ undoes 1 ++ edits (op.Set (at_stamp 2 1) (ToRank Top) ∷ [])
 
 abbrev pub far_printed : List ℕ
 far_printed =
@@ -77,9 +77,9 @@ far_backs =
     ∷ Takes (move_to 2 1 1000000020 0)
     ∷ Takes (move_to 1 1 1000000000 0)
     ∷ Takes (move_to 3 1 0 0)
-    ∷ Takes (wish.Ungroup (at_stamp 3 1))
-    ∷ Takes (wish.Delete (at_stamp 2 1))
-    ∷ Takes (wish.Delete (at_stamp 1 1))
+    ∷ Takes (op.Set (at_stamp 3 1) (ToFlag true))
+    ∷ Takes (op.Delete (at_stamp 2 1))
+    ∷ Takes (op.Delete (at_stamp 1 1))
     ∷ []
 
 -- site 2 deletes that member meanwhile
@@ -87,26 +87,26 @@ abbrev pub far_gone : SlowSite
 far_gone =
     (after 2 7
     (map (λ w. At 1 (Edits w)) far_edits
-    ++ Send 1 2 ∷ Deliver 0 ∷ At 2 (Edits (wish.Delete (at_stamp 2 1))) ∷ Send 2 1 ∷ Deliver 1 ∷ [])).at 1
+    ++ Send 1 2 ∷ Deliver 0 ∷ At 2 (Edits (op.Delete (at_stamp 2 1))) ∷ Send 2 1 ∷ Deliver 1 ∷ [])).at 1
 
 -- moves to the ends of the range, and one behind them
 abbrev pub near_moves : List Edit
 near_moves =
-    wish.Move (at_stamp 1 1) (pos 1000000000) (negsuc 999999999)
-    ∷ wish.Move (at_stamp 1 1) (negsuc 999999999) (pos 1000000000)
+    op.Set (at_stamp 1 1) (ToPlace (pos 1000000000) (negsuc 999999999))
+    ∷ op.Set (at_stamp 1 1) (ToPlace (negsuc 999999999) (pos 1000000000))
     ∷ []
 
 abbrev pub far_moves : List Edit
 far_moves =
-    wish.Move (at_stamp 1 1) (pos 1000000001) (pos 0)
-    ∷ wish.Move (at_stamp 1 1) (negsuc 1000000000) (pos 0)
-    ∷ wish.Move (at_stamp 1 1) (pos 0) (pos 1000000001)
-    ∷ wish.Move (at_stamp 1 1) (pos 0) (negsuc 1000000000)
+    op.Set (at_stamp 1 1) (ToPlace (pos 1000000001) (pos 0))
+    ∷ op.Set (at_stamp 1 1) (ToPlace (negsuc 1000000000) (pos 0))
+    ∷ op.Set (at_stamp 1 1) (ToPlace (pos 0) (pos 1000000001))
+    ∷ op.Set (at_stamp 1 1) (ToPlace (pos 0) (negsuc 1000000000))
     ∷ []
 
 -- a rect that is raised
 abbrev pub raised : List HeardLine
-raised = edits (new_rect (pos 0) ∷ wish.Raise (at_stamp 1 1) ∷ [])
+raised = edits (new_rect (pos 0) ∷ op.Set (at_stamp 1 1) (ToRank Top) ∷ [])
 
 -- ---- the back of each kind of edit
 
@@ -116,12 +116,12 @@ abbrev pub dressed : SlowSite
 dressed =
     behind
     (edits
-    (wish.Create Rect (pos 1) (pos 2) (pos 3) (pos 4) (codes "old")
+    (op.Create Rect (pos 1) (pos 2) (pos 3) (pos 4) (codes "old")
     ∷ new_rect (pos 20)
     ∷ new_rect (pos 40)
-    ∷ wish.Restyle (at_stamp 1 1) (Stroke 0x00AB0C)
-    ∷ wish.Restyle (at_stamp 1 1) (Fill (Some 0xFF8000))
-    ∷ wish.Restyle (at_stamp 1 1) (Width 9)
+    ∷ op.Set (at_stamp 1 1) (ToStroke 0x00AB0C)
+    ∷ op.Set (at_stamp 1 1) (ToFill (Some 0xFF8000))
+    ∷ op.Set (at_stamp 1 1) (ToWidth 9)
     ∷ group_of 1 1 2 1
     ∷ move_to 7 1 100 200
     ∷ []))
@@ -139,46 +139,46 @@ dressed_text =
 abbrev pub dressed_backs : List Back
 dressed_backs =
     Takes (move_to 7 1 0 0)
-    ∷ Takes (wish.Ungroup (at_stamp 7 1))
-    ∷ Takes (wish.Restyle (at_stamp 1 1) (Width 1))
-    ∷ Takes (wish.Restyle (at_stamp 1 1) (Fill None))
-    ∷ Takes (wish.Restyle (at_stamp 1 1) (Stroke 0))
-    ∷ Takes (wish.Delete (at_stamp 3 1))
-    ∷ Takes (wish.Delete (at_stamp 2 1))
-    ∷ Takes (wish.Delete (at_stamp 1 1))
+    ∷ Takes (op.Set (at_stamp 7 1) (ToFlag true))
+    ∷ Takes (op.Set (at_stamp 1 1) (ToWidth 1))
+    ∷ Takes (op.Set (at_stamp 1 1) (ToFill None))
+    ∷ Takes (op.Set (at_stamp 1 1) (ToStroke 0))
+    ∷ Takes (op.Delete (at_stamp 3 1))
+    ∷ Takes (op.Delete (at_stamp 2 1))
+    ∷ Takes (op.Delete (at_stamp 1 1))
     ∷ []
 
 -- edits, and what takes each back; the next stamp is 9.1
 abbrev pub takeable : List (Edit × Edit)
 takeable =
-    (wish.Create Ellipse (pos 0) (pos 0) (pos 1) (pos 1) [], wish.Delete (at_stamp 9 1))
+    (op.Create Ellipse (pos 0) (pos 0) (pos 1) (pos 1) [], op.Delete (at_stamp 9 1))
     ∷ (move_to 1 1 7 8, move_to 1 1 101 202)
     ∷ (move_to 7 1 0 0, move_to 7 1 100 200)
-    ∷ (wish.Resize (at_stamp 1 1) (pos 5) (negsuc 5), wish.Resize (at_stamp 1 1) (pos 3) (pos 4))
-    ∷ (wish.Restyle (at_stamp 1 1) (Stroke 7), wish.Restyle (at_stamp 1 1) (Stroke 0x00AB0C))
-    ∷ (wish.Restyle (at_stamp 1 1) (Fill None), wish.Restyle (at_stamp 1 1) (Fill (Some 0xFF8000)))
-    ∷ (wish.Restyle (at_stamp 3 1) (Fill (Some 7)), wish.Restyle (at_stamp 3 1) (Fill None))
-    ∷ (wish.Restyle (at_stamp 1 1) (Width 7), wish.Restyle (at_stamp 1 1) (Width 9))
-    ∷ (wish.Retext (at_stamp 1 1) [], wish.Retext (at_stamp 1 1) (codes "old"))
-    ∷ (wish.Retext (at_stamp 3 1) (codes "new"), wish.Retext (at_stamp 3 1) [])
-    ∷ (group_of 3 1 7 1, wish.Ungroup (at_stamp 9 1))
+    ∷ (op.Set (at_stamp 1 1) (ToSize (pos 5) (negsuc 5)), op.Set (at_stamp 1 1) (ToSize (pos 3) (pos 4)))
+    ∷ (op.Set (at_stamp 1 1) (ToStroke 7), op.Set (at_stamp 1 1) (ToStroke 0x00AB0C))
+    ∷ (op.Set (at_stamp 1 1) (ToFill None), op.Set (at_stamp 1 1) (ToFill (Some 0xFF8000)))
+    ∷ (op.Set (at_stamp 3 1) (ToFill (Some 7)), op.Set (at_stamp 3 1) (ToFill None))
+    ∷ (op.Set (at_stamp 1 1) (ToWidth 7), op.Set (at_stamp 1 1) (ToWidth 9))
+    ∷ (op.Set (at_stamp 1 1) (ToText []), op.Set (at_stamp 1 1) (ToText (codes "old")))
+    ∷ (op.Set (at_stamp 3 1) (ToText (codes "new")), op.Set (at_stamp 3 1) (ToText []))
+    ∷ (group_of 3 1 7 1, op.Set (at_stamp 9 1) (ToFlag true))
     ∷ []
 
 -- edits that are never taken back
 abbrev pub untakeable : List Edit
 untakeable =
-    wish.Delete (at_stamp 1 1)
-    ∷ wish.Ungroup (at_stamp 7 1)
-    ∷ wish.Raise (at_stamp 1 1)
-    ∷ wish.Lower (at_stamp 1 1)
+    op.Delete (at_stamp 1 1)
+    ∷ op.Set (at_stamp 7 1) (ToFlag true)
+    ∷ op.Set (at_stamp 1 1) (ToRank Top)
+    ∷ op.Set (at_stamp 1 1) (ToRank Bottom)
     ∷ []
 
 -- edits that are refused: no such object, a group, a shape, and a member
 abbrev pub unacceptable : List Edit
 unacceptable =
     move_to 9 9 0 0
-    ∷ wish.Restyle (at_stamp 7 1) (Width 7)
-    ∷ wish.Ungroup (at_stamp 3 1)
+    ∷ op.Set (at_stamp 7 1) (ToWidth 7)
+    ∷ op.Set (at_stamp 3 1) (ToFlag true)
     ∷ group_of 1 1 3 1
     ∷ []
 
@@ -191,7 +191,7 @@ creates n = edits (replicate n (new_rect (pos 0)))
 -- so many deletes, from the object of that clock on to those before it
 abbrev pub deletes : ℕ → ℕ → List Back
 deletes zero clock = []
-deletes (suc n) clock = Takes (wish.Delete (at_stamp clock 1)) ∷ deletes n (clock - 1)
+deletes (suc n) clock = Takes (op.Delete (at_stamp clock 1)) ∷ deletes n (clock - 1)
 
 -- ---- two sites
 
@@ -205,10 +205,10 @@ undone_world = after 2 7 (moved_steps ++ At 1 Undoes ∷ Send 1 2 ∷ Deliver 1 
 -- site 2 deletes the object meanwhile
 abbrev pub gone_site : SlowSite
 gone_site =
-    (after 2 7 (moved_steps ++ At 2 (Edits (wish.Delete (at_stamp 1 1))) ∷ Send 2 1 ∷ Deliver 1 ∷ [])).at 1
+    (after 2 7 (moved_steps ++ At 2 (Edits (op.Delete (at_stamp 1 1))) ∷ Send 2 1 ∷ Deliver 1 ∷ [])).at 1
 
 abbrev pub moved_backs : List Back
-moved_backs = Takes (move_to 1 1 0 0) ∷ Takes (wish.Delete (at_stamp 1 1)) ∷ []
+moved_backs = Takes (move_to 1 1 0 0) ∷ Takes (op.Delete (at_stamp 1 1)) ∷ []
 
 -- site 1 stops within the undo, and begins anew when so much of it was stored
 abbrev pub stopped_world : ℕ → World

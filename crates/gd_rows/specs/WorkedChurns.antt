@@ -2,15 +2,16 @@
 --
 -- The draws are worked by the public definition of PCG32 and of its seeds, and all else by hand.
 use Prim.Native.String.{String}
-use Rattle.std.specs.Prelude.{ℕ, zero, suc, pos, List, [], ◌∷◌, ◌++◌, length, map, replicate, codes, Option, Some, None}
+use Rattle.std.specs.Prelude.{ℕ, zero, suc, pos, true, List, [], ◌∷◌, ◌++◌, length, map, replicate, codes, Option, Some, None}
 use Rattle.rand_pcg.specs.Lcg.{Lcg}
 use Rattle.rand_pcg.specs.Pcg.{pcg32}
 use Rattle.gd_base.specs.Stamps.{Stamp}
-use Rattle.gd_base.specs.declared.edit.Edit.{Edit}
-use Rattle.gd_base.specs.declared.edit.Edit.TheVariants as wish
+use Rattle.gd_base.specs.declared.content.Content.TheVariants.{ToStroke, ToFlag, ToRank}
+use Rattle.gd_base.specs.declared.content.Side.TheVariants.{Top}
+use Rattle.gd_base.specs.declared.op.Op.TheVariants as op
 use Rattle.gd_base.specs.declared.refusal.Refusal.TheVariants.{NoObject}
 use Rattle.gd_base.specs.declared.shape.Shape.TheVariants.{Rect}
-use Rattle.gd_base.specs.declared.style.Style.TheVariants.{Stroke}
+use Rattle.gd_lines.specs.Edits.{Edit}
 use Rattle.gd_lines.specs.declared.command.Command.TheVariants as command
 use Rattle.gd_lines.specs.declared.command.ScriptLine.{ScriptLine}
 use Rattle.gd_lines.specs.declared.command.ScriptLine.TheVariants as script
@@ -38,7 +39,7 @@ abbrev pub edit_at : ℕ → Edit → Option ScriptLine
 edit_at site edit = Some (script.At site (command.Edit edit))
 
 abbrev pub create_at : ℕ → ℕ → ℕ → Option ScriptLine
-create_at site x y = edit_at site (wish.Create Rect (pos x) (pos y) (pos 10) (pos 10) [])
+create_at site x y = edit_at site (op.Create Rect (pos x) (pos y) (pos 10) (pos 10) [])
 
 abbrev pub three_made : List Stamp
 three_made = at_stamp 1 1 ∷ at_stamp 2 3 ∷ at_stamp 5 2 ∷ []
@@ -55,11 +56,11 @@ abbrev pub drawn_table : List (Option ScriptLine × ℕ)
 drawn_table =
     replicate 4 (create_at 3 253 497, 1297502356)
     ++ replicate 3 (edit_at 3 (move_to 5 2 497 356), 3230469346)
-    ++ (edit_at 3 (wish.Delete (at_stamp 5 2)), 77906497)
-    ∷ (edit_at 3 (wish.Raise (at_stamp 5 2)), 77906497)
-    ∷ (edit_at 3 (wish.Group (at_stamp 5 2 ∷ at_stamp 2 3 ∷ [])), 1297502356)
-    ∷ (edit_at 3 (wish.Ungroup (at_stamp 5 2)), 77906497)
-    ∷ (edit_at 3 (wish.Restyle (at_stamp 5 2) (Stroke 10797633)), 1297502356)
+    ++ (edit_at 3 (op.Delete (at_stamp 5 2)), 77906497)
+    ∷ (edit_at 3 (op.Set (at_stamp 5 2) (ToRank Top)), 77906497)
+    ∷ (edit_at 3 (op.Group (at_stamp 5 2 ∷ at_stamp 2 3 ∷ [])), 1297502356)
+    ∷ (edit_at 3 (op.Set (at_stamp 5 2) (ToFlag true)), 77906497)
+    ∷ (edit_at 3 (op.Set (at_stamp 5 2) (ToStroke 10797633)), 1297502356)
     ∷ replicate 2 (Some (script.Send 3 2), 77906497)
     ++ replicate 2 (Some (script.Deliver 4), 77906497)
 
@@ -97,7 +98,7 @@ group_lines =
     ∷ None
     ∷ create_at 1 957 752
     ∷ create_at 1 766 933
-    ∷ edit_at 1 (wish.Group (at_stamp 1 1 ∷ at_stamp 2 1 ∷ []))
+    ∷ edit_at 1 (op.Group (at_stamp 1 1 ∷ at_stamp 2 1 ∷ []))
     ∷ Some (script.Send 1 4)
     ∷ Some (script.Deliver 1)
     ∷ edit_at 4 (move_to 2 1 794 211)
@@ -114,10 +115,10 @@ eight_lines =
     ∷ create_at 4 563 593
     ∷ Some (script.Send 4 3)
     ∷ Some (script.Deliver 1)
-    ∷ edit_at 2 (wish.Delete (at_stamp 1 4))
+    ∷ edit_at 2 (op.Delete (at_stamp 1 4))
     ∷ edit_at 3 (move_to 1 4 617 21)
-    ∷ edit_at 4 (wish.Raise (at_stamp 1 4))
-    ∷ edit_at 3 (wish.Delete (at_stamp 1 4))
+    ∷ edit_at 4 (op.Set (at_stamp 1 4) (ToRank Top))
+    ∷ edit_at 3 (op.Delete (at_stamp 1 4))
     ∷ []
 
 -- ---- what is printed
@@ -197,7 +198,7 @@ counts_printed =
 abbrev pub making : List (ScriptLine × List Reply × List Stamp)
 making =
     (script.At 1 (command.Edit (new_rect (pos 0))), reply.Done (at_stamp 1 1) ∷ [], at_stamp 1 1 ∷ [])
-    ∷ (script.At 1 (command.Edit (wish.Group (at_stamp 1 1 ∷ at_stamp 2 1 ∷ []))), reply.Done (at_stamp 3 1) ∷ [], at_stamp 3 1 ∷ [])
+    ∷ (script.At 1 (command.Edit (op.Group (at_stamp 1 1 ∷ at_stamp 2 1 ∷ []))), reply.Done (at_stamp 3 1) ∷ [], at_stamp 3 1 ∷ [])
     ∷ (script.At 1 (command.Edit (new_rect (pos 0))), reply.Refused NoObject ∷ [], [])
     ∷ (script.At 1 (command.Edit (move_to 1 1 5 5)), reply.Done (at_stamp 2 1) ∷ [], [])
     ∷ []
@@ -208,4 +209,4 @@ one_made site = after 4 1 (At site (Edits (new_rect (pos 0))) ∷ [])
 
 -- one site has made a rect and deleted it, so it shows what the others show
 abbrev pub one_gone : World
-one_gone = after 4 1 (At 1 (Edits (new_rect (pos 0))) ∷ At 1 (Edits (wish.Delete (at_stamp 1 1))) ∷ [])
+one_gone = after 4 1 (At 1 (Edits (new_rect (pos 0))) ∷ At 1 (Edits (op.Delete (at_stamp 1 1))) ∷ [])

@@ -1,11 +1,12 @@
 -- Worked rows of edits: what each becomes over what a site holds, and why it is refused.
-use Rattle.std.specs.Prelude.{ℕ, pos, negsuc, List, [], ◌∷◌, ◌++◌, Result, Ok, Err}
-use Rattle.gd_base.specs.declared.edit.Edit.{Edit}
-use Rattle.gd_base.specs.declared.edit.Edit.TheVariants as wish
+use Rattle.std.specs.Prelude.{ℕ, pos, negsuc, true, List, [], ◌∷◌, ◌++◌, Result, Ok, Err}
+use Rattle.gd_base.specs.declared.content.Content.TheVariants.{ToPlace, ToSize, ToFlag, ToRank}
+use Rattle.gd_base.specs.declared.content.Side.TheVariants.{Bottom, Top}
+use Rattle.gd_base.specs.declared.op.Op.TheVariants as op
 use Rattle.gd_base.specs.declared.refusal.EditRefusal.{EditRefusal}
 use Rattle.gd_base.specs.declared.refusal.EditRefusal.TheVariants as why
-use Rattle.gd_events.specs.declared.op.Op.{Op}
-use Rattle.gd_events.specs.declared.op.Op.TheVariants as op
+use Rattle.gd_events.specs.Ops.{Op}
+use Rattle.gd_lines.specs.Edits.{Edit}
 use Rattle.gd_reference.specs.SlowSite.{SlowSite}
 use Rattle.gd_reference.specs.World.{Step, Edits, At, after}
 use Rattle.gd_rows.specs.Worked.{at_stamp, event, member}
@@ -27,20 +28,20 @@ grouped_site = (after 1 7 grouped_steps).at 1
 abbrev pub grouped_edits : List (Edit × Result Op EditRefusal)
 grouped_edits =
     -- a place is the one to be shown at, and the members of a group stand by their ids
-    (move_to 1 1 50 50, Ok (op.Move (at_stamp 1 1) (pos 45) (pos 43)))
+    (move_to 1 1 50 50, Ok (op.Set (at_stamp 1 1) (ToPlace (pos 45) (pos 43))))
     ∷ (group_of 4 1 3 1, Ok (op.Group (member 3 1 (pos 0) (pos 0) ∷ member 4 1 (pos 0) (pos 0) ∷ [])))
-    ∷ (wish.Lower (at_stamp 4 1), Ok (op.Lower (at_stamp 4 1)))
-    ∷ (wish.Lower (at_stamp 9 1), Err why.NoObject)
+    ∷ (op.Set (at_stamp 4 1) (ToRank Bottom), Ok (op.Set (at_stamp 4 1) (ToRank Bottom)))
+    ∷ (op.Set (at_stamp 9 1) (ToRank Bottom), Err why.NoObject)
     ∷ (group_of 9 1 9 1, Err why.NoObject)
-    ∷ (wish.Resize (at_stamp 4 1) (pos 1) (pos 1), Err why.NotShape)
-    ∷ (wish.Ungroup (at_stamp 1 1), Err why.NotGroup)
-    ∷ (wish.Group (at_stamp 3 1 ∷ at_stamp 1 1 ∷ at_stamp 1 1 ∷ []), Err why.SameMember)
+    ∷ (op.Set (at_stamp 4 1) (ToSize (pos 1) (pos 1)), Err why.NotShape)
+    ∷ (op.Set (at_stamp 1 1) (ToFlag true), Err why.NotGroup)
+    ∷ (op.Group (at_stamp 3 1 ∷ at_stamp 1 1 ∷ at_stamp 1 1 ∷ []), Err why.SameMember)
     ∷ (group_of 1 1 3 1, Err why.NotTop)
     ∷ []
 
 -- the group is dissolved at the greatest place
 abbrev pub far_steps : List Step
-far_steps = grouped_steps ++ At 1 (Edits (move_to 4 1 1000000000 0)) ∷ At 1 (Edits (wish.Ungroup (at_stamp 4 1))) ∷ []
+far_steps = grouped_steps ++ At 1 (Edits (move_to 4 1 1000000000 0)) ∷ At 1 (Edits (op.Set (at_stamp 4 1) (ToFlag true))) ∷ []
 
 abbrev pub far_site : SlowSite
 far_site = (after 1 7 far_steps).at 1
@@ -50,8 +51,8 @@ far_edits = (
   group_of 1 1 2 1,
   Ok (op.Group (member 1 1 (pos 1000000000) (pos 0) ∷ member 2 1 (pos 1000000000) (pos 0) ∷ [])),
 )
-    ∷ (wish.Ungroup (at_stamp 4 1), Err why.NoObject)
-    ∷ (wish.Move (at_stamp 1 1) (negsuc 0) (pos 0), Err why.TooFar)
+    ∷ (op.Set (at_stamp 4 1) (ToFlag true), Err why.NoObject)
+    ∷ (op.Set (at_stamp 1 1) (ToPlace (negsuc 0) (pos 0)), Err why.TooFar)
     ∷ []
 
 -- the two are grouped there, and that group is dissolved one place further
@@ -60,7 +61,7 @@ farther_steps =
     far_steps
     ++ At 1 (Edits (group_of 1 1 2 1))
     ∷ At 1 (Edits (move_to 8 1 1 0))
-    ∷ At 1 (Edits (wish.Ungroup (at_stamp 8 1)))
+    ∷ At 1 (Edits (op.Set (at_stamp 8 1) (ToFlag true)))
     ∷ []
 
 abbrev pub farther_site : SlowSite
@@ -70,7 +71,7 @@ farther_site = (after 1 7 farther_steps).at 1
 
 -- a site that holds an event of another site with that clock
 abbrev pub listener_at : ℕ → SlowSite
-listener_at clock = record listener { held = event clock 2 1 (op.Raise (at_stamp 1 2)) ∷ [] }
+listener_at clock = record listener { held = event clock 2 1 (op.Set (at_stamp 1 2) (ToRank Top)) ∷ [] }
 
 abbrev pub raised : Op
-raised = op.Raise (at_stamp 1 1)
+raised = op.Set (at_stamp 1 1) (ToRank Top)

@@ -1,7 +1,9 @@
 -- Worked rows of typed lines: what each is read as.
 use Rattle.std.specs.Prelude.{ℕ, List, [], ◌∷◌, ◌++◌, codes, Some, None, Result, Ok, Err}
-use Rattle.gd_base.specs.declared.edit.Edit.TheVariants as edit
+use Rattle.gd_base.specs.declared.content.Content.TheVariants.{ToText, ToRank}
+use Rattle.gd_base.specs.declared.content.Side.TheVariants.{Bottom}
 use Rattle.gd_base.specs.declared.note.Note.{Note}
+use Rattle.gd_base.specs.declared.op.Op.TheVariants as op
 use Rattle.gd_base.specs.declared.refusal.LineFault.{LineFault}
 use Rattle.gd_base.specs.declared.refusal.LineFault.TheVariants as fault
 use Rattle.gd_lines.specs.declared.command.Command.{Command}
@@ -13,10 +15,10 @@ use Rattle.gd_rows.specs.Worked.{at_stamp}
 -- lines with a label and without, with spaces in front, and with a CR at the end
 abbrev pub read_lines : List (List ℕ × Command)
 read_lines =
-    (codes "text 1.2  a b ", command.Edit (edit.Retext (at_stamp 1 2) (codes " a b ")))
-    ∷ (codes "text 1.2", command.Edit (edit.Retext (at_stamp 1 2) []))
-    ∷ (codes " group 2.1  01.16" ++ 13 ∷ [], command.Edit (edit.Group (at_stamp 2 1 ∷ at_stamp 1 16 ∷ [])))
-    ∷ (codes "lower 1.1", command.Edit (edit.Lower (at_stamp 1 1)))
+    (codes "text 1.2  a b ", command.Edit (op.Set (at_stamp 1 2) (ToText (codes " a b "))))
+    ∷ (codes "text 1.2", command.Edit (op.Set (at_stamp 1 2) (ToText [])))
+    ∷ (codes " group 2.1  01.16" ++ 13 ∷ [], command.Edit (op.Group (at_stamp 2 1 ∷ at_stamp 1 16 ∷ [])))
+    ∷ (codes "lower 1.1", command.Edit (op.Set (at_stamp 1 1) (ToRank Bottom)))
     ∷ (codes "undo", command.Undo)
     ∷ (codes "focus -", command.Focus None)
     ∷ (codes "  " ++ 13 ∷ [], command.Blank)

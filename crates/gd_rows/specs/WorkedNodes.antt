@@ -1,10 +1,10 @@
 -- Worked rows of nodes: what is typed and received, and what the node does.
-use Rattle.std.specs.Prelude.{ℕ, pos, List, [], ◌∷◌, ◌++◌, map, replicate, codes, Some, Ok, Err}
+use Rattle.std.specs.Prelude.{ℕ, pos, true, List, [], ◌∷◌, ◌++◌, map, replicate, codes, Some, Ok, Err}
 use Rattle.std.specs.List.{concat}
-use Rattle.gd_base.specs.declared.edit.Edit.TheVariants as wish
+use Rattle.gd_base.specs.declared.content.Content.TheVariants.{ToFlag}
+use Rattle.gd_base.specs.declared.op.Op.TheVariants as op
 use Rattle.gd_base.specs.declared.refusal.LineFault.TheVariants.{UnknownCommand}
 use Rattle.gd_effects.specs.Effects.{Effect, Head, Print, Record, Try, Work}
-use Rattle.gd_events.specs.declared.op.Op.TheVariants.{Delete}
 use Rattle.gd_events.specs.Events.{Event}
 use Rattle.gd_grammar.specs.FrameBytes.{frame_bytes}
 use Rattle.gd_lines.specs.declared.command.Command.{Command}
@@ -38,7 +38,7 @@ abbrev pub delete_row : List ℕ
 delete_row = 0 ∷ 0 ∷ 0 ∷ 0 ∷ 0 ∷ 2 ∷ 2 ∷ 0 ∷ 2 ∷ 2 ∷ 0 ∷ 0 ∷ 0 ∷ 0 ∷ 0 ∷ 1 ∷ 2 ∷ []
 
 abbrev pub delete_event : Event
-delete_event = event 2 2 2 (Delete (at_stamp 1 2))
+delete_event = event 2 2 2 (op.Delete (at_stamp 1 2))
 
 -- the frame with both events
 abbrev pub undone_row_to : ℕ → List ℕ
@@ -166,7 +166,7 @@ noting_lines =
     ∷ Read (Err UnknownCommand)
     ∷ Read (Ok command.Blank)
     ∷ Read (Ok (command.Edit (new_rect (pos 0))))
-    ∷ Read (Ok (command.Edit (wish.Ungroup (at_stamp 1 1))))
+    ∷ Read (Ok (command.Edit (op.Set (at_stamp 1 1) (ToFlag true))))
     ∷ Read (Ok command.Quit)
     ∷ Read (Ok command.Show)
     ∷ []

@@ -1,14 +1,16 @@
 -- Worked rows of snapshots, byte by byte.
 use Rattle.std.specs.Prelude.{◌≡◌, ℕ, zero, suc, ◌+◌, ◌-◌, pos, negsuc, true, false, List, [], ◌∷◌, ◌++◌, length, set, take, Some, Err, IsOk}
 use Rattle.std.specs.List.{AllByRecursion}
+use Rattle.gd_base.specs.declared.content.Content.TheVariants.{ToPlace, ToRank}
+use Rattle.gd_base.specs.declared.content.Side.TheVariants.{Top}
 use Rattle.gd_base.specs.declared.fault.ViewWhy.{ViewWhy}
 use Rattle.gd_base.specs.declared.fault.ViewWhy.TheVariants.{Short, Magic, Version, Field, FutureId, Order, Bound}
+use Rattle.gd_base.specs.declared.op.Op.TheVariants.{Set}
 use Rattle.gd_base.specs.declared.shape.Shape.TheVariants.{Rect, Ellipse, Text}
-use Rattle.gd_events.specs.declared.op.Op.TheVariants.{Move, Raise}
 use Rattle.gd_model.specs.declared.object.Kind.TheVariants.{Shape}
 use Rattle.gd_model.specs.declared.object.Object.{Object}
 use Rattle.gd_model.specs.declared.rank.Rank.TheVariants.{Low}
-use Rattle.gd_model.specs.Objects.{new_group, new_shape, ranked}
+use Rattle.gd_model.specs.Objects.{new_group, new_shape}
 use Rattle.gd_snapshots.specs.SnapshotBytes.{snapshot_at}
 use Rattle.gd_snapshots.specs.Snapshots.{Snapshot}
 use Rattle.gd_rows.specs.Worked.{at_stamp, event}
@@ -41,8 +43,8 @@ tie_snapshot =
       site = 1;
       known = record { count = 1; sure = 1 } ∷ record { count = 1; sure = 1 } ∷ [];
       objects =
-          (at_stamp 1 1, ranked (new_shape Ellipse (pos 0) (pos 0) (pos 20) (pos 20) []) (at_stamp 1 1))
-          ∷ (at_stamp 1 2, ranked (new_shape Rect (pos 5) (pos 5) (pos 10) (pos 10) []) (at_stamp 1 2))
+          (at_stamp 1 1, new_shape (at_stamp 1 1) Ellipse (pos 0) (pos 0) (pos 20) (pos 20) [])
+          ∷ (at_stamp 1 2, new_shape (at_stamp 1 2) Rect (pos 5) (pos 5) (pos 10) (pos 10) [])
           ∷ [];
       kept = [];
     }
@@ -98,7 +100,7 @@ full_text =
     }
 
 abbrev pub full_group : Object
-full_group = record (ranked new_group (at_stamp 3 2)) { dissolved = true }
+full_group = record (new_group (at_stamp 3 2)) { dissolved = true }
 
 abbrev pub full_snapshot : Snapshot
 full_snapshot =
@@ -108,7 +110,7 @@ full_snapshot =
       known = record { count = 3; sure = 9 } ∷ record { count = 2; sure = 4 } ∷ [];
       objects = (at_stamp 1 1, full_text) ∷ (at_stamp 3 2, full_group) ∷ [];
       kept =
-          event 5 1 2 (Raise (at_stamp 1 1)) ∷ event 6 1 3 (Move (at_stamp 1 1) (pos 7) (negsuc 7)) ∷ [];
+          event 5 1 2 (Set (at_stamp 1 1) (ToRank Top)) ∷ event 6 1 3 (Set (at_stamp 1 1) (ToPlace (pos 7) (negsuc 7))) ∷ [];
     }
 
 -- ---- changed bytes

@@ -1,17 +1,18 @@
 -- Worked rows of sites and worlds: lists of steps, the frames of a site that runs ahead, and what becomes of them.
 use Rattle.std.specs.Prelude.{ℕ, ◌-◌, ℤ, pos, List, [], ◌∷◌, ◌++◌, codes, Option, Some, None}
-use Rattle.gd_base.specs.declared.edit.Edit.{Edit}
-use Rattle.gd_base.specs.declared.edit.Edit.TheVariants as wish
+use Rattle.gd_base.specs.declared.content.Content.TheVariants.{ToPlace, ToRank}
+use Rattle.gd_base.specs.declared.content.Side.TheVariants.{Bottom, Top}
 use Rattle.gd_base.specs.declared.note.Note.{Note}
+use Rattle.gd_base.specs.declared.op.Op.TheVariants as op
 use Rattle.gd_base.specs.declared.refusal.FrameFault.{FrameFault}
 use Rattle.gd_base.specs.declared.refusal.FrameFault.TheVariants as fault
 use Rattle.gd_base.specs.declared.shape.Shape.TheVariants.{Rect, Ellipse}
 use Rattle.gd_base.specs.declared.site_status.SiteStatus.{SiteStatus}
-use Rattle.gd_events.specs.declared.op.Op.TheVariants as op
 use Rattle.gd_events.specs.Events.{Event}
 use Rattle.gd_effects.specs.Effects.{Effect, Print, Record, Work}
 use Rattle.gd_grammar.specs.FrameBytes.{Frame}
 use Rattle.gd_grammar.specs.declared.frame.Head.{Head}
+use Rattle.gd_lines.specs.Edits.{Edit}
 use Rattle.gd_reference.specs.Offers.{take_frame}
 use Rattle.gd_base.specs.Notes.{no_note}
 use Rattle.gd_reference.specs.SlowSite.{SlowSite, new_site}
@@ -23,10 +24,10 @@ site_status held kept line clock = record { held = held; kept = kept; line = lin
 
 -- a rect of size 10 10
 abbrev pub new_rect : ℤ → Edit
-new_rect x = wish.Create Rect x (pos 0) (pos 10) (pos 10) []
+new_rect x = op.Create Rect x (pos 0) (pos 10) (pos 10) []
 
 abbrev pub move_to : ℕ → ℕ → ℕ → ℕ → Edit
-move_to clock site x y = wish.Move (at_stamp clock site) (pos x) (pos y)
+move_to clock site x y = op.Set (at_stamp clock site) (ToPlace (pos x) (pos y))
 
 -- the first event of site 1, where that is the rect at 0
 abbrev pub first_rect : Event
@@ -57,14 +58,14 @@ abbrev pub cover_world : World
 cover_world = after 2 7 cover_steps
 
 abbrev pub covered_move : Event
-covered_move = event 2 2 1 (op.Move (at_stamp 1 1) (pos 90) (pos 90))
+covered_move = event 2 2 1 (op.Set (at_stamp 1 1) (ToPlace (pos 90) (pos 90)))
 
 -- what site 1 holds then
 abbrev pub cover_held : List Event
 cover_held =
     first_rect
-    ∷ event 2 1 2 (op.Move (at_stamp 1 1) (pos 50) (pos 50))
-    ∷ event 3 1 3 (op.Move (at_stamp 1 1) (pos 60) (pos 60))
+    ∷ event 2 1 2 (op.Set (at_stamp 1 1) (ToPlace (pos 50) (pos 50)))
+    ∷ event 3 1 3 (op.Set (at_stamp 1 1) (ToPlace (pos 60) (pos 60)))
     ∷ covered_move
     ∷ []
 
@@ -90,20 +91,20 @@ abbrev pub new_ellipse : Event
 new_ellipse = event 2 1 2 (op.Create Ellipse (pos 0) (pos 0) (pos 20) (pos 20) [])
 
 abbrev pub covered_raise : Event
-covered_raise = event 3 1 3 (op.Raise (at_stamp 1 1))
+covered_raise = event 3 1 3 (op.Set (at_stamp 1 1) (ToRank Top))
 
 abbrev pub covering_lower : Event
-covering_lower = event 3 2 1 (op.Lower (at_stamp 1 1))
+covering_lower = event 3 2 1 (op.Set (at_stamp 1 1) (ToRank Bottom))
 
 -- all but the delivery of the late raise, and what comes after it
 abbrev pub lower_begins : List Step
 lower_begins =
     At 1 (Edits (new_rect (pos 0)))
-    ∷ At 1 (Edits (wish.Create Ellipse (pos 0) (pos 0) (pos 20) (pos 20) []))
+    ∷ At 1 (Edits (op.Create Ellipse (pos 0) (pos 0) (pos 20) (pos 20) []))
     ∷ Send 1 2
     ∷ Deliver 0
-    ∷ At 1 (Edits (wish.Raise (at_stamp 1 1)))
-    ∷ At 2 (Edits (wish.Lower (at_stamp 1 1)))
+    ∷ At 1 (Edits (op.Set (at_stamp 1 1) (ToRank Top)))
+    ∷ At 2 (Edits (op.Set (at_stamp 1 1) (ToRank Bottom)))
     ∷ Send 1 2
     ∷ []
 
@@ -147,7 +148,7 @@ lower_text =
 -- ---- two groups at once, one of which takes a member from the other
 
 abbrev pub group_of : ℕ → ℕ → ℕ → ℕ → Edit
-group_of clock site other_clock other_site = wish.Group (at_stamp clock site ∷ at_stamp other_clock other_site ∷ [])
+group_of clock site other_clock other_site = op.Group (at_stamp clock site ∷ at_stamp other_clock other_site ∷ [])
 
 -- all but the delivery of the late group
 abbrev pub closure_begins : List Step
@@ -158,7 +159,7 @@ closure_begins =
     ∷ Send 1 2
     ∷ Deliver 0
     ∷ At 2 (Edits (group_of 2 1 1 2))
-    ∷ At 1 (Edits (wish.Raise (at_stamp 1 1)))
+    ∷ At 1 (Edits (op.Set (at_stamp 1 1) (ToRank Top)))
     ∷ At 1 (Edits (group_of 1 1 2 1))
     ∷ At 1 (Edits (move_to 4 1 5 5))
     ∷ Send 2 1
@@ -185,9 +186,9 @@ abbrev pub closure_held : List Event
 closure_held =
     first_rect
     ∷ event 2 1 2 (op.Create Rect (pos 20) (pos 0) (pos 10) (pos 10) [])
-    ∷ event 3 1 3 (op.Raise (at_stamp 1 1))
+    ∷ event 3 1 3 (op.Set (at_stamp 1 1) (ToRank Top))
     ∷ event 4 1 4 (op.Group (member 1 1 (pos 0) (pos 0) ∷ member 2 1 (pos 0) (pos 0) ∷ []))
-    ∷ event 5 1 5 (op.Move (at_stamp 4 1) (pos 5) (pos 5))
+    ∷ event 5 1 5 (op.Set (at_stamp 4 1) (ToPlace (pos 5) (pos 5)))
     ∷ other_create
     ∷ late_group
     ∷ []
@@ -234,7 +235,7 @@ ahead_create = event 1 2 1 (op.Create Rect (pos 0) (pos 0) (pos 10) (pos 10) [])
 
 -- the event of that number and that clock
 abbrev pub ahead_move : ℕ → Event
-ahead_move k = event k 2 k (op.Move (at_stamp 1 2) (pos (k - 1)) (pos (k - 1)))
+ahead_move k = event k 2 k (op.Set (at_stamp 1 2) (ToPlace (pos (k - 1)) (pos (k - 1))))
 
 abbrev pub frame_of : ℕ → ℕ → List Event → Frame
 frame_of count clock events =
@@ -272,7 +273,7 @@ abbrev pub sure_site : SlowSite
 sure_site = take_frame listener sure_frame
 
 abbrev pub sure_raise : Event
-sure_raise = event 9 2 3 (op.Raise (at_stamp 1 2))
+sure_raise = event 9 2 3 (op.Set (at_stamp 1 2) (ToRank Top))
 
 abbrev pub sure_late_frame : Frame
 sure_late_frame = frame_of 3 9 (sure_raise ∷ [])

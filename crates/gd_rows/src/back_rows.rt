@@ -3,9 +3,9 @@
 
 ghost use Rattle.std.specs.Prelude.{◌≡◌, ◌∷◌, ◌++◌, [], Ok, Err, false, true, pos, take};
 ghost use Rattle.std.specs.List.{AllByRecursion};
-ghost use Rattle.gd_base.specs.declared.edit.Edit.TheVariants as wish;
+ghost use Rattle.gd_base.specs.declared.content.Content.TheVariants.{ToPlace};
+ghost use Rattle.gd_base.specs.declared.op.Op.TheVariants as op;
 ghost use Rattle.gd_base.specs.declared.refusal.EditRefusal.TheVariants as why;
-ghost use Rattle.gd_events.specs.declared.op.Op.TheVariants as op;
 ghost use Rattle.gd_lines.specs.declared.command.Command.TheVariants as command;
 ghost use Rattle.gd_model.specs.Drawing.{picture};
 ghost use Rattle.gd_reference.specs.Backs.{Never, Takes};
@@ -22,7 +22,7 @@ pub fn two_edits_are_taken_back()
         ≡ all_back_printed }
     ensures held { (behind all_back).held ≡ all_back_held }
     ensures once { (behind (made_and_moved ++ undoes 1)).backs
-        ≡ Takes (wish.Delete (at_stamp 1 1)) ∷ [] }
+        ≡ Takes (op.Delete (at_stamp 1 1)) ∷ [] }
     ensures twice { (behind (made_and_moved ++ undoes 2)).backs ≡ [] }
 {}
 
@@ -30,7 +30,7 @@ pub fn two_edits_are_taken_back()
 /// gone; nor is a raise taken back.
 pub fn some_edits_are_not_taken_back()
     ensures edge { undo (behind (edits edge_edits))
-        ≡ Ok (event 6 1 6 (op.Move (at_stamp 1 1) (pos 0) (pos 0))) }
+        ≡ Ok (event 6 1 6 (op.Set (at_stamp 1 1) (ToPlace (pos 0) (pos 0)))) }
     ensures near { AllByRecursion (λ w. is_far w ≡ false) near_moves }
     ensures far { AllByRecursion (λ w. is_far w ≡ true) far_moves }
     ensures gone { undo far_gone ≡ Err IsFar }

@@ -3,9 +3,9 @@
 
 ghost use Rattle.std.specs.Prelude.{◌≡◌, [], Ok, Err, pos};
 ghost use Rattle.std.specs.List.{AllByRecursion};
+ghost use Rattle.gd_base.specs.declared.op.Op.TheVariants as op;
 ghost use Rattle.gd_base.specs.declared.refusal.EditRefusal.TheVariants as why;
 ghost use Rattle.gd_base.specs.declared.shape.Shape.TheVariants.{Rect};
-ghost use Rattle.gd_events.specs.declared.op.Op.TheVariants as op;
 ghost use Rattle.gd_reference.specs.Judging.{judged, edit, edit_by};
 ghost use Rattle.gd_rows.specs.Worked.{event};
 ghost use Rattle.gd_rows.specs.WorkedWorlds.{new_rect, group_of};

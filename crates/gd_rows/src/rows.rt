@@ -4,7 +4,8 @@
 ghost use Rattle.std.specs.List.{AllByRecursion};
 ghost use Rattle.std.specs.Prelude.{◌≡◌, ◌++◌, ◌∷◌, [], None, Ok, Err, Some, codes, false, true, length, pos, take};
 ghost use Rattle.gd_outside.specs.declared.status.Status.TheVariants as status;
-ghost use Rattle.gd_model.specs.declared.before.Before.TheVariants.{Place};
+ghost use Rattle.gd_base.specs.declared.content.Content.TheVariants.{ToPlace};
+ghost use Rattle.gd_model.specs.declared.form.Form.TheVariants.{Sets};
 ghost use Rattle.gd_repair.specs.Repair.Outcome.{applied, dropped, reworked};
 ghost use Rattle.gd_grammar.specs.FrameBytes.{frame, frame_bytes};
 ghost use Rattle.gd_grammar.specs.Drawings.{log};
@@ -111,7 +112,11 @@ pub fn arrivals_are_counted()
 /// Where a move is dropped, its before-value is that of the move that drops it, which now finds the place that the dropped one sets.
 pub fn a_dropped_event_is_spliced_in()
     ensures { splice (at_stamp 2 2) late_move.op (at_stamp 3 1) last_move.op
-        (Place (pos 50) (pos 50)) ≡ (Place (pos 50) (pos 50), Place (pos 90) (pos 90)) }
+        (Some (Sets (at_stamp 1 1) (ToPlace (pos 50) (pos 50))))
+        ≡ (
+          Some (Sets (at_stamp 1 1) (ToPlace (pos 50) (pos 50))),
+          Some (Sets (at_stamp 1 1) (ToPlace (pos 90) (pos 90))),
+        ) }
 {}
 
 /// An event that depends on a late one through another event alone is undone with it.

@@ -3,17 +3,19 @@ use Rattle.std.proofs.Common.{◌≡◌, ℕ, zero, suc, ◌<◌, Bool, true, fa
 use Rattle.std.specs.Int.{bytes_high_first}
 use Rattle.std.specs.Prelude.{nat_le}
 use Rattle.std.proofs.lemmas.Bool.{leb-true, and_parts}
+use Rattle.gd_base.specs.declared.content.Content.TheVariants.{ToText}
+use Rattle.gd_base.specs.declared.op.Op.TheVariants.{Set}
 use Rattle.gd_base.specs.declared.shape.Shape.TheVariants.{Rect, Ellipse, Line, Text}
 use Rattle.gd_base.specs.declared.ranges.TheConstants.{WIDTH_LIMIT}
 use Rattle.gd_base.specs.Labels.{IsLabel}
 use Rattle.gd_base.specs.Ranges.{is_width}
 use Rattle.gd_base.specs.Stamps.{Stamp, IsStamp, stamp_cmp}
-use Rattle.gd_events.specs.declared.op.Op.TheVariants.{Retext}
 use Rattle.gd_events.specs.Events.{Event}
 use Rattle.gd_events.specs.Sound.{IsSound}
 use Rattle.gd_grammar.specs.Drawings.{spelling}
 use Rattle.gd_grammar.specs.FieldBytes.{AreBytes, stamp_bytes, word_bytes, signed_bytes, label_bytes, each_bytes}
 use Rattle.gd_grammar.specs.Reading.{AllFollow}
+use Rattle.gd_grammar.specs.Spelling.{fill_bytes}
 use Rattle.gd_grammar.proofs.Exact.{back_bytes}
 use Rattle.gd_model.specs.declared.object.Kind.{Kind}
 use Rattle.gd_model.specs.declared.object.Kind.TheVariants.{Shape, Group}
@@ -21,7 +23,7 @@ use Rattle.gd_model.specs.declared.object.Link.{Link}
 use Rattle.gd_model.specs.declared.object.Object.{Object}
 use Rattle.gd_model.specs.declared.rank.Rank.{Rank}
 use Rattle.gd_model.specs.declared.rank.Rank.TheVariants.{Low, High}
-use Rattle.gd_snapshots.specs.ObjectBytes.{kind_byte, fill_bytes, flag_byte, link_bytes, rank_bytes, object_bytes}
+use Rattle.gd_snapshots.specs.ObjectBytes.{kind_byte, flag_byte, link_bytes, rank_bytes, object_bytes}
 use Rattle.gd_snapshots.specs.Snapshots.{IsDrawn, IsLinkOrNone, IsPlaced, IsRank, IsSnapshot, Placed, Snapshot, id_of, stamp_of}
 use Rattle.gd_snapshots.specs.SnapshotBytes.{snapshot_magic, head_bytes, known_bytes, nothing_of, placed_bytes, snapshot_bytes}
 use Rattle.gd_snapshots.specs.declared.known.Known.{Known}
@@ -74,7 +76,7 @@ EventsAreBytes = (e : Event) → IsSound e → AreBytes (spelling e)
 
 -- an event that gives an object a label
 abbrev labelling : List ℕ → Event
-labelling text = record { stamp = record { clock = 2; site = 1 }; number = 1; op = Retext (record { clock = 1; site = 1 }) text }
+labelling text = record { stamp = record { clock = 2; site = 1 }; number = 1; op = Set (record { clock = 1; site = 1 }) (ToText text) }
 
 labelling-sound : (text : List ℕ) → IsLabel text → IsSound (labelling text)
 unfolding stamp_cmp

@@ -1,33 +1,36 @@
 -- Where the bytes of a field aren't all there, the fault is at their end: of each field of events, objects and snapshots.
-use Rattle.std.proofs.Common.{◌≡◌, ◌≢◌, ℕ, ℤ, zero, suc, Bool, true, false, cond, ltb, List, [], ◌∷◌, length, take, drop, Option, None, Result, Ok, Err, refl, ap, ◌∙◌}
-use Rattle.std.specs.Prelude.{◌==◌, ◌&&◌}
+use Rattle.std.proofs.Common.{◌≡◌, ◌≢◌, ℕ, zero, suc, Bool, true, false, cond, ltb, List, [], ◌∷◌, length, take, drop, Option, None, Result, Ok, Err, refl, ap, ◌∙◌}
+use Rattle.std.specs.Prelude.{◌==◌}
 use Rattle.gd_base.specs.declared.fault.FieldFault.{FieldFault}
 use Rattle.gd_base.specs.declared.fault.FieldWhy.{FieldWhy}
 use Rattle.gd_base.specs.declared.fault.FieldWhy.TheVariants.{Short, Magic, Version, Field, FutureId, MemberOrder}
+use Rattle.gd_base.specs.Contents.{Said}
 use Rattle.gd_base.specs.Labels.{most_label}
 use Rattle.gd_base.specs.Ranges.{place_limit, size_limit}
 use Rattle.gd_base.specs.Results.{◌>>=◌}
 use Rattle.gd_base.specs.Stamps.{Stamp}
 use Rattle.gd_base.specs.declared.version.Version as version
+use Rattle.gd_base.specs.declared.version.Version.TheVariants as versions
 use Rattle.gd_base.specs.declared.shape.Shape.TheVariants.{Rect, Ellipse, Line, Text}
-use Rattle.gd_events.specs.declared.op.Op.{Op}
-use Rattle.gd_events.specs.declared.op.Op.TheVariants as op
 use Rattle.gd_grammar.specs.Drawings as drawing
-use Rattle.gd_grammar.specs.EventBytes.{has_lower, shape_at, label_at, colour_at, fill_at, width_at, stroke_style_at, fill_style_at, width_style_at, style_at, create_at, lone_at, move_at, resize_at, restyle_at, retext_at, member_count_at, member_id_at, member_at, members_at, group_at, op_at}
+use Rattle.gd_grammar.specs.EventBytes.{most_label_in, shape_at, label_at, colour_at, fill_at, width_at, member_count_at, member_id_at}
 use Rattle.gd_grammar.specs.Fields.{byte_at, clock_at, site_at, stamp_at, id_at, number_at, signed_at, word_at, label_within}
 use Rattle.gd_grammar.specs.FrameBytes.{frame_version_at, half_at, six_at}
 use Rattle.gd_grammar.specs.HeaderBytes.{magic_at, sites_at}
 use Rattle.gd_grammar.specs.Kinds.{event_at}
-use Rattle.gd_grammar.specs.Reading.{Reads, bytes_at, fault_at, many_at, ranged, short}
-use Rattle.gd_model.specs.declared.object.Kind.TheVariants.{Shape, Group}
-use Rattle.gd_snapshots.specs.ObjectBytes.{kind_at, thin_at, flag_at, some_link_at, link_at, rank_at, object_at}
+use Rattle.gd_grammar.specs.OpBytes.{place_at, size_at, look_rows, look_at, create_at, set_at, member_at, group_at, op_rows, op_at}
+use Rattle.gd_grammar.specs.Readers.{picked, by_tag}
+use Rattle.gd_grammar.specs.Reading.{Reads, Reader, bytes_at, fault_at, many_at, pure, ranged, short, then_at}
+use Rattle.gd_grammar.specs.Versions.{has_version, since}
+use Rattle.gd_grammar.proofs.Readers.{◌&◌}
+use Rattle.gd_snapshots.specs.ObjectBytes.{kind_rows, kind_at, thin_at, flag_rows, flag_at, some_link_at, link_rows, link_at, rank_rows, rank_at, object_at}
 use Rattle.gd_snapshots.specs.SnapshotBytes.{head_at, known_at}
 
 -- a fault of bytes that aren't all there is at their end
 pub record AtEnd {A : Type 0} (r : Result A FieldFault) : Type 0 where
   pub at : (f : FieldFault) → r ≡ Err f → f.why ≡ Short → f.left ≡ 0
 
--- ---- steps
+-- ---- results
 
 end-ok : {A : Type 0} (x : A) → AtEnd (Ok x)
 end-ok x = record { at = λ f e s. absurd cc }
@@ -55,6 +58,37 @@ unfolding many_at
 end-many read kept one zero last bytes = end-ok _
 end-many read kept one (suc count) last bytes = end-then _ _ (one last bytes) (λ x. end-then _ _ (end-many read kept one count (kept x.0) x.1) (λ xs. end-ok _))
 
+-- ---- readings one behind the other, and by a tag
+
+abbrev pub Ends : {A : Type 0} → Reader A → Type 0
+Ends r = (bytes : List ℕ) → AtEnd (r bytes)
+
+end-pure : {A : Type 0} (value : A) → Ends (pure value)
+unfolding pure
+end-pure value bytes = end-ok (value, bytes)
+
+end-next : {A B : Type 0} {r : Reader A} {f : A → Reader B} → Ends r → ((a : A) → Ends (f a)) → Ends (then_at r f)
+unfolding then_at
+end-next first second bytes = end-then _ _ (first bytes) (λ x. second x.0 x.1)
+
+-- the fields of each row
+unfoldable AllEnd : {A : Type 0} → List (ℕ × Reader A) → Type 0
+AllEnd [] = Unit {0}
+AllEnd (row ∷ rows) = Ends row.1 × AllEnd rows
+
+end-picked : {A : Type 0} (rows : List (ℕ × Reader A)) → AllEnd rows → (tag : ℕ) (whole rest : List ℕ) → AtEnd (picked rows tag (fault_at Field whole) rest)
+unfolding AllEnd picked
+end-picked [] all tag whole rest = end-fault Field whole (λ e. cc)
+end-picked (row ∷ rows) all tag whole rest = end-either (tag == row.0) _ _ (all.0 rest) (end-picked rows all.1 tag whole rest)
+
+end-since : {A : Type 0} (first v : version.Version) (rows : List (ℕ × Reader A)) → AllEnd rows → AllEnd (since first v rows)
+unfolding AllEnd
+end-since first v rows all = by_test (has_version v first)
+  where
+    by_test : (b : Bool) → AllEnd (cond b rows [])
+    by_test true = all
+    by_test false = tt
+
 -- ---- fields
 
 end-bytes : (n : ℕ) (bytes : List ℕ) → AtEnd (bytes_at n bytes)
@@ -64,6 +98,10 @@ end-byte : (bytes : List ℕ) → AtEnd (byte_at bytes)
 unfolding byte_at
 end-byte [] = end-short
 end-byte (b ∷ rest) = end-ok (b, rest)
+
+end-tags : {A : Type 0} (rows : List (ℕ × Reader A)) → AllEnd rows → Ends (by_tag rows)
+unfolding by_tag then_at
+end-tags rows all bytes = end-then _ _ (end-byte bytes) (λ tag. end-picked rows all tag.0 bytes tag.1)
 
 end-clock : (bytes : List ℕ) → AtEnd (clock_at bytes)
 unfolding clock_at
@@ -127,64 +165,61 @@ end-width : (bytes : List ℕ) → AtEnd (width_at bytes)
 unfolding width_at
 end-width bytes = end-then _ _ (end-word bytes) (λ word. end-ranged _ _ bytes word.1)
 
-end-style : (bytes : List ℕ) → AtEnd (style_at bytes)
-unfolding style_at stroke_style_at fill_style_at width_style_at
-end-style bytes =
-    end-then _ _ (end-byte bytes) (λ what.
-    end-either _ _ _ (end-then _ _ (end-colour what.1) (λ colour. end-ok _)) (end-either _ _ _ (end-then _ _ (end-fill what.1) (λ fill. end-ok _))
-    (end-either _ _ _ (end-then _ _ (end-width what.1) (λ width. end-ok _)) (end-fault Field bytes (λ e. cc)))))
+end-place : Ends place_at
+unfolding place_at
+end-place = end-next (end-signed place_limit) (λ x. end-next (end-signed place_limit) (λ y. end-pure _))
 
--- a place or a size, in front of what follows
-end-pair : {B : Type 0} (limit : ℕ) (f : ℤ × List ℕ → ℤ × List ℕ → Result B FieldFault) (bytes : List ℕ) → ((a b : ℤ × List ℕ) → AtEnd (f a b))
-    → AtEnd (signed_at limit bytes >>= λ a. signed_at limit a.1 >>= f a)
-end-pair limit f bytes then = end-then _ _ (end-signed limit bytes) (λ a. end-then _ _ (end-signed limit a.1) (then a))
+end-size : Ends size_at
+unfolding size_at
+end-size = end-next (end-signed size_limit) (λ w. end-next (end-signed size_limit) (λ h. end-pure _))
 
-end-create : (v : version.Version) (bytes : List ℕ) → AtEnd (create_at v bytes)
-unfolding create_at label_at
-end-create v bytes =
-    end-then _ _ (end-shape bytes) (λ kind. end-pair place_limit _ kind.1 (λ x y. end-pair size_limit _ y.1 (λ w h. end-then _ _ (end-label _ h.1) (λ label. end-ok _))))
+end-look : Ends look_at
+unfolding look_at AllEnd
+end-look = end-tags look_rows (end-next end-colour (λ colour. end-pure _) & end-next end-fill (λ fill. end-pure _) & end-next end-width (λ width. end-pure _) & tt)
 
-end-lone : (op : Stamp → Op) (stamp : Stamp) (bytes : List ℕ) → AtEnd (lone_at op stamp bytes)
-unfolding lone_at
-end-lone op stamp bytes = end-then _ _ (end-id stamp bytes) (λ id. end-ok _)
+end-text : (v : version.Version) → Ends (label_at v)
+unfolding label_at
+end-text v = end-label (most_label_in v)
 
-end-move : (stamp : Stamp) (bytes : List ℕ) → AtEnd (move_at stamp bytes)
-unfolding move_at
-end-move stamp bytes = end-then _ _ (end-id stamp bytes) (λ id. end-pair place_limit _ id.1 (λ x y. end-ok _))
+end-create : (v : version.Version) → Ends (create_at v)
+unfolding create_at
+end-create v =
+    end-next end-shape (λ kind. end-next (end-signed place_limit) (λ x. end-next (end-signed place_limit) (λ y. end-next (end-signed size_limit) (λ w. end-next (end-signed size_limit) (λ h.
+    end-next (end-text v) (λ label. end-pure _))))))
 
-end-resize : (stamp : Stamp) (bytes : List ℕ) → AtEnd (resize_at stamp bytes)
-unfolding resize_at
-end-resize stamp bytes = end-then _ _ (end-id stamp bytes) (λ id. end-pair size_limit _ id.1 (λ w h. end-ok _))
+end-set : (stamp : Stamp) (content : Reader Said) → Ends content → Ends (set_at stamp content)
+unfolding set_at
+end-set stamp content then = end-next (end-id stamp) (λ id. end-next then (λ c. end-pure _))
 
-end-restyle : (stamp : Stamp) (bytes : List ℕ) → AtEnd (restyle_at stamp bytes)
-unfolding restyle_at
-end-restyle stamp bytes = end-then _ _ (end-id stamp bytes) (λ id. end-then _ _ (end-style id.1) (λ style. end-ok _))
-
-end-retext : (v : version.Version) (stamp : Stamp) (bytes : List ℕ) → AtEnd (retext_at v stamp bytes)
-unfolding retext_at label_at
-end-retext v stamp bytes = end-then _ _ (end-id stamp bytes) (λ id. end-then _ _ (end-label _ id.1) (λ label. end-ok _))
-
-end-count : (bytes : List ℕ) → AtEnd (member_count_at bytes)
+end-count : Ends member_count_at
 unfolding member_count_at
 end-count bytes = end-then _ _ (end-byte bytes) (λ count. end-ranged _ _ bytes count.1)
 
-end-member : (stamp : Stamp) (last : Option Stamp) (bytes : List ℕ) → AtEnd (member_at stamp last bytes)
-unfolding member_at member_id_at
-end-member stamp last bytes =
-    end-then _ _ (end-then _ _ (end-id stamp bytes) (λ id. end-either _ _ _ (end-ok id) (end-fault MemberOrder bytes (λ e. cc)))) (λ id. end-pair place_limit _ id.1 (λ dx dy. end-ok _))
+end-member-id : (stamp : Stamp) (last : Option Stamp) → Ends (member_id_at stamp last)
+unfolding member_id_at
+end-member-id stamp last bytes = end-then _ _ (end-id stamp bytes) (λ id. end-either _ _ _ (end-ok id) (end-fault MemberOrder bytes (λ e. cc)))
 
-end-group : (stamp : Stamp) (bytes : List ℕ) → AtEnd (group_at stamp bytes)
+end-member : (stamp : Stamp) (last : Option Stamp) → Ends (member_at stamp last)
+unfolding member_at
+end-member stamp last = end-next (end-member-id stamp last) (λ id. end-next (end-signed place_limit) (λ dx. end-next (end-signed place_limit) (λ dy. end-pure _)))
+
+end-group : (stamp : Stamp) → Ends (group_at stamp)
 unfolding group_at
-end-group stamp bytes = end-then _ _ (end-count bytes) (λ count. end-then _ _ (end-many _ _ (end-member stamp) count.0 None count.1) (λ members. end-ok _))
+end-group stamp = end-next end-count (λ count. end-next (end-many _ _ (end-member stamp) count None) (λ members. end-pure _))
 
-end-op : (v : version.Version) (stamp : Stamp) (bytes : List ℕ) → AtEnd (op_at v stamp bytes)
-unfolding op_at
-end-op v stamp bytes =
-    end-then _ _ (end-byte bytes) (λ tag.
-    end-either (tag.0 == 1) _ _ (end-create v tag.1) (end-either (tag.0 == 2) _ _ (end-lone op.Delete stamp tag.1) (end-either (tag.0 == 3) _ _ (end-move stamp tag.1)
-    (end-either (tag.0 == 4) _ _ (end-resize stamp tag.1) (end-either (tag.0 == 5) _ _ (end-restyle stamp tag.1) (end-either (tag.0 == 6) _ _ (end-retext v stamp tag.1)
-    (end-either (tag.0 == 7) _ _ (end-group stamp tag.1) (end-either (tag.0 == 8) _ _ (end-lone op.Ungroup stamp tag.1) (end-either (tag.0 == 9) _ _ (end-lone op.Raise stamp tag.1)
-    (end-either (tag.0 == 10 && has_lower v) _ _ (end-lone op.Lower stamp tag.1) (end-fault Field bytes (λ e. cc))))))))))))
+end-op : (v : version.Version) (stamp : Stamp) → Ends (op_at v stamp)
+unfolding op_at AllEnd
+end-op v stamp = end-tags (op_rows v stamp) (
+    end-create v
+    & end-next (end-id stamp) (λ id. end-pure _)
+    & end-set stamp _ (end-next (end-text v) (λ label. end-pure _))
+    & end-group stamp
+    & end-set stamp _ end-place
+    & end-set stamp _ end-size
+    & end-set stamp _ end-look
+    & end-set stamp _ (end-pure _)
+    & end-set stamp _ (end-pure _)
+    & end-since versions.Two v _ (end-set stamp _ (end-pure _) & tt))
 
 pub end-event : (bytes : List ℕ) → AtEnd (drawing.event_at bytes)
 unfolding event_at
@@ -192,37 +227,36 @@ end-event bytes = end-then _ _ (end-stamp bytes) (λ stamp. end-then _ _ (end-nu
 
 -- ---- objects
 
-end-kind : (bytes : List ℕ) → AtEnd (kind_at bytes)
-unfolding kind_at
-end-kind bytes =
-    end-then _ _ (end-byte bytes) (λ kind.
-    end-either (kind.0 == 1) _ _ (end-ok (Shape Rect, kind.1)) (end-either (kind.0 == 2) _ _ (end-ok (Shape Ellipse, kind.1)) (end-either (kind.0 == 3) _ _ (end-ok (Shape Line, kind.1))
-    (end-either (kind.0 == 4) _ _ (end-ok (Shape Text, kind.1)) (end-either (kind.0 == 5) _ _ (end-ok (Group, kind.1)) (end-fault Field bytes (λ e. cc)))))))
+end-kind : Ends kind_at
+unfolding kind_at AllEnd
+end-kind = end-tags kind_rows (end-pure _ & end-pure _ & end-pure _ & end-pure _ & end-pure _ & tt)
 
-end-thin : (bytes : List ℕ) → AtEnd (thin_at bytes)
-unfolding thin_at
+end-thin : Ends thin_at
+unfolding thin_at then_at
 end-thin bytes = end-then _ _ (end-byte bytes) (λ width. end-ranged _ _ bytes width.1)
 
-end-flag : (bytes : List ℕ) → AtEnd (flag_at bytes)
-unfolding flag_at
-end-flag bytes =
-    end-then _ _ (end-byte bytes) (λ flag. end-either (flag.0 == 0) _ _ (end-ok (false, flag.1)) (end-either (flag.0 == 1) _ _ (end-ok (true, flag.1)) (end-fault Field bytes (λ e. cc))))
+end-flag : Ends flag_at
+unfolding flag_at AllEnd
+end-flag = end-tags flag_rows (end-pure _ & end-pure _ & tt)
 
-end-link : (bytes : List ℕ) → AtEnd (link_at bytes)
-unfolding link_at some_link_at
-end-link bytes =
-    end-then _ _ (end-flag bytes) (λ flag. end-either _ _ _ (end-then _ _ (end-stamp flag.1) (λ parent. end-pair place_limit _ parent.1 (λ dx dy. end-ok _))) (end-ok _))
+end-some-link : Ends some_link_at
+unfolding some_link_at
+end-some-link = end-next end-stamp (λ parent. end-next (end-signed place_limit) (λ dx. end-next (end-signed place_limit) (λ dy. end-pure _)))
 
-end-rank : (bytes : List ℕ) → AtEnd (rank_at bytes)
-unfolding rank_at
-end-rank bytes = end-then _ _ (end-flag bytes) (λ high. end-then _ _ (end-stamp high.1) (λ stamp. end-ok _))
+end-link : Ends link_at
+unfolding link_at AllEnd
+end-link = end-tags link_rows (end-pure _ & end-some-link & tt)
 
-pub end-object : (bytes : List ℕ) → AtEnd (object_at bytes)
+end-rank : Ends rank_at
+unfolding rank_at AllEnd
+end-rank = end-tags rank_rows (end-next end-stamp (λ stamp. end-pure _) & end-next end-stamp (λ stamp. end-pure _) & tt)
+
+pub end-object : Ends object_at
 unfolding object_at
-end-object bytes =
-    end-then _ _ (end-kind bytes) (λ kind. end-pair place_limit _ kind.1 (λ x y. end-pair size_limit _ y.1 (λ w h. end-then _ _ (end-colour h.1) (λ stroke. end-then _ _ (end-fill stroke.1)
-    (λ fill. end-then _ _ (end-thin fill.1) (λ width. end-then _ _ (end-label most_label width.1) (λ label. end-then _ _ (end-link label.1) (λ link. end-then _ _ (end-flag link.1)
-    (λ dissolved. end-then _ _ (end-rank dissolved.1) (λ rank. end-ok _))))))))))
+end-object =
+    end-next end-kind (λ kind. end-next (end-signed place_limit) (λ x. end-next (end-signed place_limit) (λ y. end-next (end-signed size_limit) (λ w. end-next (end-signed size_limit) (λ h.
+    end-next end-colour (λ stroke. end-next end-fill (λ fill. end-next end-thin (λ width. end-next (end-label most_label) (λ label. end-next end-link (λ link. end-next end-flag (λ dissolved.
+    end-next end-rank (λ rank. end-pure _))))))))))))
 
 -- ---- the head, and what is known of a site
 

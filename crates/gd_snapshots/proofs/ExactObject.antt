@@ -1,80 +1,75 @@
 -- An object is read where its bytes stand, and nowhere else.
-use Rattle.std.proofs.Common.{◌≡◌, ℕ, Bool, true, false, cond, List, [], ◌∷◌, ◌++◌, Option, Some, None, Ok, refl, append_assoc, ◌∙◌}
+use Rattle.std.proofs.Common.{◌≡◌, ℕ, Bool, true, false, List, [], ◌∷◌, ◌++◌, Option, Some, None, Ok, refl, append_assoc, ◌∙◌}
 use Rattle.std.proofs.lemmas.Bool.{and_parts, and_from}
 use Rattle.gd_base.specs.declared.fault.FieldWhy.TheVariants.{Field}
 use Rattle.gd_base.specs.declared.shape.Shape.TheVariants.{Rect, Ellipse, Line, Text}
 use Rattle.gd_base.specs.Labels.{most_label}
 use Rattle.gd_base.specs.Ranges.{place_limit, size_limit, is_within, is_width}
-use Rattle.gd_base.specs.Stamps.{Stamp, IsStamp}
-use Rattle.gd_grammar.specs.EventBytes.{fill_at}
-use Rattle.gd_grammar.specs.Exact.{Took, Exact, Runs}
-use Rattle.gd_grammar.specs.FieldBytes.{AreBytes, stamp_bytes, word_bytes, signed_bytes, label_bytes}
+use Rattle.gd_grammar.specs.Exact.{Exact}
+use Rattle.gd_grammar.specs.FieldBytes.{word_bytes, signed_bytes, label_bytes}
 use Rattle.gd_grammar.specs.Fields.{byte_at}
-use Rattle.gd_grammar.proofs.Exact.{joined, spelt, step, taking, done, on_tag, exact_field}
-use Rattle.gd_grammar.proofs.ExactFields as fields
-use Rattle.gd_grammar.proofs.ExactFields.{IsFill, exact_byte, exact_stamp, exact_place, exact_size, exact_label_within, exact_colour, exact_fill, tag_is, no_tag}
-use Rattle.gd_grammar.proofs.Steady.{read_of}
+use Rattle.gd_grammar.specs.Reading.{then_at}
+use Rattle.gd_grammar.specs.Readers.{steps}
+use Rattle.gd_grammar.specs.Spelling.{fill_bytes}
+use Rattle.gd_grammar.proofs.Exact.{joined, taking, done, exact_field}
+use Rattle.gd_grammar.proofs.ExactFields.{exact_byte, exact_stamp, exact_place, exact_size, exact_label_within, exact_colour, exact_fill}
+use Rattle.gd_grammar.proofs.Readers.{◌&◌, TookAs, AllTook, took-pure, took-into, took-tags}
 use Rattle.gd_model.specs.declared.object.Kind.{Kind}
 use Rattle.gd_model.specs.declared.object.Kind.TheVariants.{Shape, Group}
 use Rattle.gd_model.specs.declared.object.Link.{Link}
 use Rattle.gd_model.specs.declared.object.Object.{Object}
 use Rattle.gd_model.specs.declared.rank.Rank.{Rank}
 use Rattle.gd_model.specs.declared.rank.Rank.TheVariants.{Low, High}
-use Rattle.gd_snapshots.specs.ObjectBytes.{kind_at, thin_at, flag_at, some_link_at, link_at, rank_of, rank_at, object_at, kind_byte, fill_bytes, flag_byte, link_bytes, rank_bytes, object_bytes}
+use Rattle.gd_snapshots.specs.ObjectBytes.{kind_rows, kind_at, thin_at, flag_rows, flag_at, some_link_at, link_rows, link_at, rank_rows, rank_at, object_at, kind_byte, flag_byte, link_bytes, rank_bytes, object_bytes}
 use Rattle.gd_snapshots.specs.Snapshots.{IsDrawn, IsLinkOrNone, IsRank}
 
 -- ---- the kind, the width and a flag
 
-kind-taken : (bytes rest : List ℕ) (k : ℕ) (kind : Kind) (z : Kind × List ℕ) → Runs bytes (k ∷ []) rest → k ≡ kind_byte kind → read_of (kind, rest) ≡ Ok z → Took (λ _. Unit {0}) (λ k. kind_byte k ∷ []) bytes z
-kind-taken bytes rest k kind z text is e = done (kind, rest) z e (record { sound = tt; text = tag_is k (kind_byte kind) text is })
-
 kind-written : (kind : Kind) (rest : List ℕ) → kind_at (kind_byte kind ∷ rest) ≡ Ok (kind, rest)
-unfolding kind_at byte_at
+unfolding kind_at byte_at steps
 kind-written (Shape Rect) rest = refl
 kind-written (Shape Ellipse) rest = refl
 kind-written (Shape Line) rest = refl
 kind-written (Shape Text) rest = refl
 kind-written Group rest = refl
 
-pub exact_kind : Exact kind_at (λ _. Unit {0}) (λ k. kind_byte k ∷ [])
-unfolding kind_at
-exact_kind = record {
-  written = λ kind rest s. kind-written kind rest;
-  taken = λ bytes z are e.
-      let kind = step exact_byte bytes are _ z e in
-      let at = kind-taken bytes kind.rest kind.value in
-      on_tag kind.value 1 _ _ z kind.on (at (Shape Rect) z kind.text) (λ e2.
-      on_tag kind.value 2 _ _ z e2 (at (Shape Ellipse) z kind.text) (λ e3.
-      on_tag kind.value 3 _ _ z e3 (at (Shape Line) z kind.text) (λ e4.
-      on_tag kind.value 4 _ _ z e4 (at (Shape Text) z kind.text) (λ e5.
-      on_tag kind.value 5 _ _ z e5 (at Group z kind.text) (λ e6. no_tag _ z e6)))));
-}
+kinds : AllTook (λ _. Unit {0}) (λ k. kind_byte k ∷ []) kind_rows
+unfolding AllTook
+kinds =
+    took-pure (Shape Rect) 1 tt refl
+    & took-pure (Shape Ellipse) 2 tt refl
+    & took-pure (Shape Line) 3 tt refl
+    & took-pure (Shape Text) 4 tt refl
+    & took-pure Group 5 tt refl
+    & tt
 
-pub exact_thin : Exact thin_at (λ n. is_width n ≡ true) (λ n. n ∷ [])
-unfolding thin_at
+exact_kind : Exact kind_at (λ _. Unit {0}) (λ k. kind_byte k ∷ [])
+unfolding kind_at
+exact_kind = record { written = λ kind rest s. kind-written kind rest; taken = λ bytes z are e. took-tags kind_rows kinds bytes z are e }
+
+exact_thin : Exact thin_at (λ n. is_width n ≡ true) (λ n. n ∷ [])
+unfolding thin_at then_at
 exact_thin = exact_field exact_byte (λ n. n) (λ n. n) is_width Field (λ n. is_width n ≡ true)
     (λ n s. (tt, refl, s))
     (λ n u are t. (t, refl))
 
 flag-written : (flag : Bool) (rest : List ℕ) → flag_at (flag_byte flag ∷ rest) ≡ Ok (flag, rest)
-unfolding flag_at byte_at
+unfolding flag_at byte_at steps
 flag-written false rest = refl
 flag-written true rest = refl
 
-pub exact_flag : Exact flag_at (λ _. Unit {0}) (λ b. flag_byte b ∷ [])
+flags : AllTook (λ _. Unit {0}) (λ b. flag_byte b ∷ []) flag_rows
+unfolding AllTook
+flags = took-pure false 0 tt refl & took-pure true 1 tt refl & tt
+
+exact_flag : Exact flag_at (λ _. Unit {0}) (λ b. flag_byte b ∷ [])
 unfolding flag_at
-exact_flag = record {
-  written = λ flag rest s. flag-written flag rest;
-  taken = λ bytes z are e.
-      let flag = step exact_byte bytes are _ z e in
-      on_tag flag.value 0 _ _ z flag.on (λ is h. done (false, flag.rest) z h (record { sound = tt; text = tag_is _ 0 flag.text is })) (λ e2.
-      on_tag flag.value 1 _ _ z e2 (λ is h. done (true, flag.rest) z h (record { sound = tt; text = tag_is _ 1 flag.text is })) (λ e3. no_tag _ z e3));
-}
+exact_flag = record { written = λ flag rest s. flag-written flag rest; taken = λ bytes z are e. took-tags flag_rows flags bytes z are e }
 
 -- ---- the link
 
 link-written : (link : Option Link) (rest : List ℕ) → IsLinkOrNone link → link_at (link_bytes link ++ rest) ≡ Ok (link, rest)
-unfolding link_at flag_at byte_at some_link_at
+unfolding link_at byte_at some_link_at steps
 link-written None rest s = refl
 link-written (Some link) rest s =
     let shift = and_parts (is_within place_limit link.dx) (is_within place_limit link.dy) s.1 in
@@ -84,52 +79,38 @@ link-written (Some link) rest s =
       exact_place.written link.dy rest (record { within = shift.1 }),
     ) refl
 
--- behind its flag
-link-taken : (flag : Bool) (whole bytes : List ℕ) (z : Option Link × List ℕ) → AreBytes bytes → Runs whole (flag_byte flag ∷ []) bytes → cond flag (some_link_at bytes) (read_of (None, bytes)) ≡ Ok z → Took IsLinkOrNone link_bytes whole z
-unfolding some_link_at
-link-taken false whole bytes z are flag e = done (None, bytes) z e (record { sound = tt; text = flag })
-link-taken true whole bytes z are flag e =
+link-took : TookAs IsLinkOrNone link_bytes (1, some_link_at)
+unfolding some_link_at steps
+link-took whole bytes z are flag e =
     taking exact_stamp bytes are _ z e (λ parent.
     taking exact_place parent.rest parent.left _ z parent.on (λ dx.
     taking exact_place dx.rest dx.left _ z dx.on (λ dy.
     done _ z dy.on (record { sound = (parent.sound, and_from _ _ dx.sound.within dy.sound.within); text = joined (joined (joined flag parent.text) dx.text) dy.text }))))
 
-pub exact_link : Exact link_at IsLinkOrNone link_bytes
+links : AllTook IsLinkOrNone link_bytes link_rows
+unfolding AllTook
+links = took-pure None 0 tt refl & link-took & tt
+
+exact_link : Exact link_at IsLinkOrNone link_bytes
 unfolding link_at
-exact_link = record {
-  written = link-written;
-  taken = λ bytes z are e. taking exact_flag bytes are _ z e (λ flag. link-taken flag.value bytes flag.rest z flag.left flag.text flag.on);
-}
+exact_link = record { written = link-written; taken = λ bytes z are e. took-tags link_rows links bytes z are e }
 
 -- ---- the rank
 
 rank-written : (rank : Rank) (rest : List ℕ) → IsRank rank → rank_at (rank_bytes rank ++ rest) ≡ Ok (rank, rest)
-unfolding rank_at flag_at byte_at
+unfolding rank_at byte_at steps
 rank-written (Low stamp) rest s = rw (exact_stamp.written stamp rest s) refl
 rank-written (High stamp) rest s = rw (exact_stamp.written stamp rest s) refl
 
-rank-took : (high : Bool) (stamp : Stamp) (whole rest : List ℕ) → IsStamp stamp → Runs whole (flag_byte high ∷ stamp_bytes stamp) rest → Took IsRank rank_bytes whole (rank_of high stamp, rest)
-rank-took false stamp whole rest s text = record { sound = s; text = text }
-rank-took true stamp whole rest s text = record { sound = s; text = text }
+ranks : AllTook IsRank rank_bytes rank_rows
+unfolding AllTook
+ranks = took-into Low 0 exact_stamp (λ stamp s. s) (λ stamp. refl) & took-into High 1 exact_stamp (λ stamp s. s) (λ stamp. refl) & tt
 
-pub exact_rank : Exact rank_at IsRank rank_bytes
+exact_rank : Exact rank_at IsRank rank_bytes
 unfolding rank_at
-exact_rank = record {
-  written = rank-written;
-  taken = λ bytes z are e.
-      taking exact_flag bytes are _ z e (λ high.
-      taking exact_stamp high.rest high.left _ z high.on (λ stamp.
-      done _ z stamp.on (rank-took high.value stamp.value bytes stamp.rest stamp.sound (joined high.text stamp.text))));
-}
+exact_rank = record { written = rank-written; taken = λ bytes z are e. took-tags rank_rows ranks bytes z are e }
 
 -- ---- the object
-
-fill-same : (fill : Option ℕ) → fields.fill_bytes fill ≡ fill_bytes fill
-fill-same None = refl
-fill-same (Some colour) = refl
-
-fill-written : (fill : Option ℕ) (rest : List ℕ) → IsFill fill → fill_at (fill_bytes fill ++ rest) ≡ Ok (fill, rest)
-fill-written fill rest s = rw (← fill-same fill) (exact_fill.written fill rest s)
 
 -- its parts, one behind the other
 in-turn : (front fill label link rank rest : List ℕ) (width dissolved : ℕ)
@@ -141,7 +122,7 @@ in-turn front fill label link rank rest width dissolved =
     ∙ append_assoc front fill (width ∷ (label ++ (link ++ (dissolved ∷ (rank ++ rest)))))
 
 object-written : (o : Object) (rest : List ℕ) → IsDrawn o → object_at (object_bytes o ++ rest) ≡ Ok (o, rest)
-unfolding object_at object_bytes
+unfolding object_at object_bytes steps
 object-written o rest s =
     let place = and_parts (is_within place_limit o.x) (is_within place_limit o.y) s.place in
     let size = and_parts (is_within size_limit o.w) (is_within size_limit o.h) s.size in
@@ -156,7 +137,7 @@ object-written o rest s =
       exact_size.written o.w (signed_bytes o.h ++ word_bytes o.stroke ++ tail) (record { within = size.0 }),
       exact_size.written o.h (word_bytes o.stroke ++ tail) (record { within = size.1 }),
       exact_colour.written o.stroke tail s.stroke,
-      fill-written o.fill (o.width ∷ (label_bytes o.label ++ (link_bytes o.link ++ last))) (record { within = s.fill }),
+      exact_fill.written o.fill (o.width ∷ (label_bytes o.label ++ (link_bytes o.link ++ last))) (record { within = s.fill }),
       exact_thin.written o.width (label_bytes o.label ++ (link_bytes o.link ++ last)) s.width,
       (exact_label_within most_label).written o.label (link_bytes o.link ++ last) (record { fits = s.label.fits; plain = s.label.plain }),
       exact_link.written o.link last s.link,
@@ -165,7 +146,7 @@ object-written o rest s =
     ) refl
 
 pub exact_object : Exact object_at IsDrawn object_bytes
-unfolding object_at object_bytes
+unfolding object_at object_bytes steps
 exact_object = record {
   written = object-written;
   taken = λ bytes z are e.
@@ -182,7 +163,7 @@ exact_object = record {
       taking exact_flag link.rest link.left _ z link.on (λ dissolved.
       taking exact_rank dissolved.rest dissolved.left _ z dissolved.on (λ rank.
       let front = joined (joined (joined (joined (joined kind.text x.text) y.text) w.text) h.text) stroke.text in
-      let filled = joined front (spelt fill.text (fill-same fill.value)) in
+      let filled = joined front fill.text in
       done _ z rank.on (record {
         sound = record {
           place = and_from _ _ x.sound.within y.sound.within;

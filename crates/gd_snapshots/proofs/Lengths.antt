@@ -6,24 +6,22 @@ use Rattle.std.proofs.lemmas.Bool.{leb-true, and_parts}
 use Rattle.std.proofs.lemmas.List.{length-append}
 use Rattle.gd_base.specs.Stamps.{Stamp}
 use Rattle.gd_base.specs.declared.member.Member.{Member}
+use Rattle.gd_base.specs.declared.op.Op.TheVariants.{Create, Delete, Set, Group}
 use Rattle.gd_base.specs.declared.ranges.TheConstants.{MOST_MEMBERS}
-use Rattle.gd_base.specs.declared.style.Style.{Style}
-use Rattle.gd_base.specs.declared.style.Style.TheVariants.{Stroke, Fill, Width}
 use Rattle.gd_base.specs.declared.version.Version.TheVariants.{Two}
 use Rattle.gd_events.specs.Events.{Event}
 use Rattle.gd_events.specs.Sound.{IsSound}
-use Rattle.gd_events.specs.declared.op.Op.{Op}
-use Rattle.gd_events.specs.declared.op.Op.TheVariants as op
+use Rattle.gd_events.specs.Ops.{Op}
 use Rattle.gd_grammar.specs.Drawings.{spelling}
 use Rattle.gd_grammar.specs.FieldBytes.{stamp_bytes, word_bytes, signed_bytes, label_bytes, each_bytes}
-use Rattle.gd_grammar.specs.Spelling.{style_bytes, member_bytes, members_bytes, op_bytes}
+use Rattle.gd_grammar.specs.Spelling.{fill_bytes, member_bytes, members_bytes, op_bytes}
 use Rattle.gd_grammar.proofs.DrawingKind.{two-spelled}
 use Rattle.gd_grammar.proofs.SoundFields.{HasFields, sound-fields}
 use Rattle.gd_model.specs.declared.object.Link.{Link}
 use Rattle.gd_model.specs.declared.object.Object.{Object}
 use Rattle.gd_model.specs.declared.rank.Rank.{Rank}
 use Rattle.gd_model.specs.declared.rank.Rank.TheVariants.{Low, High}
-use Rattle.gd_snapshots.specs.ObjectBytes.{kind_byte, fill_bytes, flag_byte, link_bytes, rank_bytes, object_bytes}
+use Rattle.gd_snapshots.specs.ObjectBytes.{kind_byte, flag_byte, link_bytes, rank_bytes, object_bytes}
 use Rattle.gd_snapshots.specs.SnapshotBytes.{head_bytes, known_bytes, placed_bytes}
 use Rattle.gd_snapshots.specs.Snapshots.{Placed, Snapshot}
 use Rattle.gd_snapshots.specs.declared.known.Known.{Known}
@@ -82,30 +80,18 @@ placed-least p = omega (arith, length-append (stamp_bytes p.0) (object_bytes p.1
 
 -- ---- events
 
-style-least : (style : Style) → 1 ≤ length (style_bytes style)
-style-least (Stroke colour) = omega arith
-style-least (Fill None) = omega arith
-style-least (Fill (Some colour)) = omega arith
-style-least (Width width) = omega arith
-
 members-length : (members : List Member) → length (members_bytes members) ≡ 15 * length members
 unfolding each_bytes
 members-length [] = refl
 members-length (m ∷ ms) = omega (arith, length-append (member_bytes m) (members_bytes ms), members-length ms)
 
 op-least : (stamp : Stamp) (o : Op) → HasFields Two stamp o → 8 ≤ length (op_bytes o)
-op-least stamp (op.Create kind x y w h label) s = omega arith
-op-least stamp (op.Delete id) s = omega arith
-op-least stamp (op.Move id x y) s = omega arith
-op-least stamp (op.Resize id w h) s = omega arith
-op-least stamp (op.Restyle id style) s = omega arith
-op-least stamp (op.Retext id label) s = omega arith
-op-least stamp (op.Group members) s =
+op-least stamp (Create kind x y w h label) s = omega arith
+op-least stamp (Delete id) s = omega arith
+op-least stamp (Set id content) s = omega arith
+op-least stamp (Group members) s =
     let two = leb-true 2 (length members) (and_parts (nat_le 2 (length members)) (nat_le (length members) MOST_MEMBERS) s.count).0 in
     omega (arith, two, members-length members)
-op-least stamp (op.Ungroup id) s = omega arith
-op-least stamp (op.Raise id) s = omega arith
-op-least stamp (op.Lower id) s = omega arith
 
 -- 7 of the stamp, 2 of the number, and at least 8 of the operation
 pub spelling-least : (e : Event) → IsSound e → 17 ≤ length (spelling e)

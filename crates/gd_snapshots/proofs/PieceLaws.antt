@@ -1,5 +1,5 @@
 -- The pieces of which a snapshot is read: its head, what is known of a site, a number, an id, an object and an event.
-use Rattle.std.proofs.Common.{◌≡◌, ℕ, ◌≤◌, List, length, arith}
+use Rattle.std.proofs.Common.{ℕ, ◌≤◌, List, length, arith}
 use Rattle.gd_grammar.specs.Drawings.{event_at}
 use Rattle.gd_grammar.specs.Exact.{Exact}
 use Rattle.gd_grammar.specs.Fields.{stamp_at, word_at}
@@ -11,7 +11,7 @@ use Rattle.gd_grammar.proofs.ExactFields.{exact_stamp, exact_word}
 use Rattle.gd_grammar.proofs.Steady.{Steady-weaken}
 use Rattle.gd_grammar.proofs.SteadyFields.{Steady-stamp, Steady-word}
 use Rattle.gd_snapshots.specs.ObjectBytes.{object_at}
-use Rattle.gd_snapshots.specs.Pieces.{Stands, PieceLaws}
+use Rattle.gd_snapshots.specs.Pieces.{PieceLaws}
 use Rattle.gd_snapshots.specs.SnapshotBytes.{head_at, known_at}
 use Rattle.gd_snapshots.proofs.Ends.{AtEnd, end-stamp, end-word, end-event, end-object, end-head, end-known}
 use Rattle.gd_snapshots.proofs.ExactObject.{exact_object}

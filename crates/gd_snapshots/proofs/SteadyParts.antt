@@ -1,26 +1,24 @@
 -- Each part of a snapshot is read alike whatever follows it. An object takes at most 252 bytes: 1 for its kind, 16 for the place
 -- and the size, 8 for the stroke and the fill, 1 for the width, 201 for the label, 16 for the link, 1 for whether it is dissolved,
 -- and 8 for the rank.
-use Rattle.std.proofs.Common.{ℕ, ◌+◌, true, false, cond, ◌∷◌, Some, None, Ok, Err}
+use Rattle.std.proofs.Common.{ℕ, ◌+◌, cond, ◌∷◌, Ok, Err, arith}
 use Rattle.std.specs.Prelude.{nat_le, ◌==◌}
 use Rattle.std.specs.Int.{w16, w64, from_be_bytes}
 use Rattle.gd_base.specs.declared.fault.FieldWhy.TheVariants as why
-use Rattle.gd_base.specs.declared.fault.FieldWhy.TheVariants.{Field}
-use Rattle.gd_base.specs.declared.shape.Shape.TheVariants.{Rect, Ellipse, Line, Text}
 use Rattle.gd_base.specs.Labels.{most_label}
 use Rattle.gd_base.specs.Ranges.{place_limit, size_limit, is_width}
 use Rattle.gd_base.specs.Results.{◌>>=◌}
-use Rattle.gd_grammar.specs.EventBytes.{colour_at, fill_at}
-use Rattle.gd_grammar.specs.Fields.{byte_at, site_at, stamp_at, signed_at, word_at, label_within}
+use Rattle.gd_grammar.specs.Fields.{byte_at, site_at, word_at}
 use Rattle.gd_grammar.specs.FrameBytes.{frame_version_at, half_at, six_at}
 use Rattle.gd_grammar.specs.HeaderBytes.{magic_at, sites_at}
-use Rattle.gd_grammar.specs.Reading.{fault_at, bytes_at, ranged}
+use Rattle.gd_grammar.specs.Reading.{fault_at, bytes_at, ranged, then_at}
 use Rattle.gd_grammar.specs.Steady.{Steady}
-use Rattle.gd_grammar.proofs.Steady.{Steady-then, Steady-bytes, done, behind, fault_there, either}
-use Rattle.gd_grammar.proofs.SteadyFields.{field_ne, in_range, Steady-byte, Steady-site, Steady-stamp, Steady-signed, Steady-label-within, Steady-word, Steady-magic, Steady-sites}
+use Rattle.gd_grammar.proofs.Readers.{◌&◌, Steady-pure, Steady-next, Steady-into, AllSteady, Steady-tags}
+use Rattle.gd_grammar.proofs.Steady.{Steady-then, Steady-weaken, Steady-bytes, done, behind, fault_there, either}
+use Rattle.gd_grammar.proofs.SteadyFields.{in_range, Steady-byte, Steady-site, Steady-stamp, Steady-signed, Steady-label-within, Steady-word, Steady-magic, Steady-sites}
 use Rattle.gd_grammar.proofs.SteadyOps.{Steady-colour, Steady-fill}
-use Rattle.gd_model.specs.declared.object.Kind.TheVariants.{Shape, Group}
-use Rattle.gd_snapshots.specs.ObjectBytes.{kind_at, thin_at, flag_at, some_link_at, link_at, rank_of, rank_at, object_at}
+use Rattle.gd_model.specs.declared.rank.Rank.TheVariants.{Low, High}
+use Rattle.gd_snapshots.specs.ObjectBytes.{kind_rows, kind_at, thin_at, flag_rows, flag_at, some_link_at, link_rows, link_at, rank_rows, rank_at, object_at}
 use Rattle.gd_snapshots.specs.SnapshotBytes.{snapshot_magic, head_at, known_at, number_within}
 
 -- ---- numbers
@@ -40,52 +38,39 @@ Steady-frame-version = Steady-then 1 0 byte_at (λ version bytes rest. cond (ver
 
 -- ---- the parts of an object
 
-pub Steady-kind : Steady 1 kind_at
-unfolding kind_at
-Steady-kind = Steady-then 1 0 byte_at (λ kind bytes rest. cond (kind == 1) (Ok (Shape Rect, rest)) (cond (kind == 2) (Ok (Shape Ellipse, rest)) (cond (kind == 3) (Ok (Shape Line, rest)) (cond (kind == 4) (Ok (Shape Text, rest)) (cond (kind == 5) (Ok (Group, rest)) (Err (fault_at Field bytes))))))) Steady-byte
-    (λ kind. either (kind == 1) (λ _. done 0 (Shape Rect)) (λ _. either (kind == 2) (λ _. done 0 (Shape Ellipse)) (λ _. either (kind == 3) (λ _. done 0 (Shape Line)) (λ _. either (kind == 4) (λ _. done 0 (Shape Text)) (λ _. either (kind == 5) (λ _. done 0 Group) (λ _. fault_there 0 Field field_ne))))))
+Steady-kind : Steady 1 kind_at
+unfolding kind_at AllSteady
+Steady-kind = Steady-tags 0 kind_rows (Steady-pure _ & Steady-pure _ & Steady-pure _ & Steady-pure _ & Steady-pure _ & tt)
 
-pub Steady-thin : Steady 1 thin_at
-unfolding thin_at
+Steady-thin : Steady 1 thin_at
+unfolding thin_at then_at
 Steady-thin = Steady-then 1 0 byte_at (λ width bytes rest. ranged (is_width width) width bytes rest) Steady-byte (λ width. in_range 0 _ _)
 
-pub Steady-flag : Steady 1 flag_at
-unfolding flag_at
-Steady-flag = Steady-then 1 0 byte_at (λ flag bytes rest. cond (flag == 0) (Ok (false, rest)) (cond (flag == 1) (Ok (true, rest)) (Err (fault_at Field bytes)))) Steady-byte
-    (λ flag. either (flag == 0) (λ _. done 0 false) (λ _. either (flag == 1) (λ _. done 0 true) (λ _. fault_there 0 Field field_ne)))
+Steady-flag : Steady 1 flag_at
+unfolding flag_at AllSteady
+Steady-flag = Steady-tags 0 flag_rows (Steady-pure _ & Steady-pure _ & tt)
 
-pub Steady-some-link : Steady 15 some_link_at
+Steady-some-link : Steady 15 some_link_at
 unfolding some_link_at
-Steady-some-link = Steady-then 7 8 stamp_at (λ parent _ b0. signed_at place_limit b0 >>= λ dx. signed_at place_limit dx.1 >>= λ dy. Ok (Some (record { parent = parent; dx = dx.0; dy = dy.0 }), dy.1)) Steady-stamp (λ parent. behind 8 _
-    (Steady-then 4 4 (signed_at place_limit) (λ dx _ b1. signed_at place_limit b1 >>= λ dy. Ok (Some (record { parent = parent; dx = dx; dy = dy.0 }), dy.1)) (Steady-signed place_limit) (λ dx. behind 4 _
-    (Steady-then 4 0 (signed_at place_limit) (λ dy _ b2. Ok (Some (record { parent = parent; dx = dx; dy = dy }), b2)) (Steady-signed place_limit) (λ dy. done 0 _)))))
+Steady-some-link = Steady-next 7 Steady-stamp (λ parent. Steady-next 4 (Steady-signed place_limit) (λ dx. Steady-next 4 (Steady-signed place_limit) (λ dy. Steady-pure _)))
 
-pub Steady-link : Steady 16 link_at
-unfolding link_at
-Steady-link = Steady-then 1 15 flag_at (λ flag _ rest. cond flag (some_link_at rest) (Ok (None, rest))) Steady-flag
-    (λ flag. either flag (λ _. behind 15 _ Steady-some-link) (λ _. done 15 None))
+Steady-link : Steady 16 link_at
+unfolding link_at AllSteady
+Steady-link = Steady-tags 15 link_rows (Steady-weaken 0 15 _ (omega arith) (Steady-pure _) & Steady-some-link & tt)
 
-pub Steady-rank : Steady 8 rank_at
-unfolding rank_at
-Steady-rank = Steady-then 1 7 flag_at (λ high _ b0. stamp_at b0 >>= λ stamp. Ok (rank_of high stamp.0, stamp.1)) Steady-flag (λ high. behind 7 _
-    (Steady-then 7 0 stamp_at (λ stamp _ b1. Ok (rank_of high stamp, b1)) Steady-stamp (λ stamp. done 0 _)))
+Steady-rank : Steady 8 rank_at
+unfolding rank_at AllSteady
+Steady-rank = Steady-tags 7 rank_rows (Steady-into 7 Low Steady-stamp & Steady-into 7 High Steady-stamp & tt)
 
 -- ---- an object
 
 pub Steady-object : Steady 252 object_at
 unfolding object_at
-Steady-object = Steady-then 1 251 kind_at (λ kind _ b0. signed_at place_limit b0 >>= λ x. signed_at place_limit x.1 >>= λ y. signed_at size_limit y.1 >>= λ w. signed_at size_limit w.1 >>= λ h. colour_at h.1 >>= λ stroke. fill_at stroke.1 >>= λ fill. thin_at fill.1 >>= λ width. label_within most_label width.1 >>= λ label. link_at label.1 >>= λ link. flag_at link.1 >>= λ dissolved. rank_at dissolved.1 >>= λ rank. Ok (record { kind = kind; x = x.0; y = y.0; w = w.0; h = h.0; stroke = stroke.0; fill = fill.0; width = width.0; label = label.0; link = link.0; dissolved = dissolved.0; rank = rank.0 }, rank.1)) Steady-kind (λ kind. behind 251 _
-    (Steady-then 4 247 (signed_at place_limit) (λ x _ b1. signed_at place_limit b1 >>= λ y. signed_at size_limit y.1 >>= λ w. signed_at size_limit w.1 >>= λ h. colour_at h.1 >>= λ stroke. fill_at stroke.1 >>= λ fill. thin_at fill.1 >>= λ width. label_within most_label width.1 >>= λ label. link_at label.1 >>= λ link. flag_at link.1 >>= λ dissolved. rank_at dissolved.1 >>= λ rank. Ok (record { kind = kind; x = x; y = y.0; w = w.0; h = h.0; stroke = stroke.0; fill = fill.0; width = width.0; label = label.0; link = link.0; dissolved = dissolved.0; rank = rank.0 }, rank.1)) (Steady-signed place_limit) (λ x. behind 247 _
-    (Steady-then 4 243 (signed_at place_limit) (λ y _ b2. signed_at size_limit b2 >>= λ w. signed_at size_limit w.1 >>= λ h. colour_at h.1 >>= λ stroke. fill_at stroke.1 >>= λ fill. thin_at fill.1 >>= λ width. label_within most_label width.1 >>= λ label. link_at label.1 >>= λ link. flag_at link.1 >>= λ dissolved. rank_at dissolved.1 >>= λ rank. Ok (record { kind = kind; x = x; y = y; w = w.0; h = h.0; stroke = stroke.0; fill = fill.0; width = width.0; label = label.0; link = link.0; dissolved = dissolved.0; rank = rank.0 }, rank.1)) (Steady-signed place_limit) (λ y. behind 243 _
-    (Steady-then 4 239 (signed_at size_limit) (λ w _ b3. signed_at size_limit b3 >>= λ h. colour_at h.1 >>= λ stroke. fill_at stroke.1 >>= λ fill. thin_at fill.1 >>= λ width. label_within most_label width.1 >>= λ label. link_at label.1 >>= λ link. flag_at link.1 >>= λ dissolved. rank_at dissolved.1 >>= λ rank. Ok (record { kind = kind; x = x; y = y; w = w; h = h.0; stroke = stroke.0; fill = fill.0; width = width.0; label = label.0; link = link.0; dissolved = dissolved.0; rank = rank.0 }, rank.1)) (Steady-signed size_limit) (λ w. behind 239 _
-    (Steady-then 4 235 (signed_at size_limit) (λ h _ b4. colour_at b4 >>= λ stroke. fill_at stroke.1 >>= λ fill. thin_at fill.1 >>= λ width. label_within most_label width.1 >>= λ label. link_at label.1 >>= λ link. flag_at link.1 >>= λ dissolved. rank_at dissolved.1 >>= λ rank. Ok (record { kind = kind; x = x; y = y; w = w; h = h; stroke = stroke.0; fill = fill.0; width = width.0; label = label.0; link = link.0; dissolved = dissolved.0; rank = rank.0 }, rank.1)) (Steady-signed size_limit) (λ h. behind 235 _
-    (Steady-then 4 231 colour_at (λ stroke _ b5. fill_at b5 >>= λ fill. thin_at fill.1 >>= λ width. label_within most_label width.1 >>= λ label. link_at label.1 >>= λ link. flag_at link.1 >>= λ dissolved. rank_at dissolved.1 >>= λ rank. Ok (record { kind = kind; x = x; y = y; w = w; h = h; stroke = stroke; fill = fill.0; width = width.0; label = label.0; link = link.0; dissolved = dissolved.0; rank = rank.0 }, rank.1)) Steady-colour (λ stroke. behind 231 _
-    (Steady-then 4 227 fill_at (λ fill _ b6. thin_at b6 >>= λ width. label_within most_label width.1 >>= λ label. link_at label.1 >>= λ link. flag_at link.1 >>= λ dissolved. rank_at dissolved.1 >>= λ rank. Ok (record { kind = kind; x = x; y = y; w = w; h = h; stroke = stroke; fill = fill; width = width.0; label = label.0; link = link.0; dissolved = dissolved.0; rank = rank.0 }, rank.1)) Steady-fill (λ fill. behind 227 _
-    (Steady-then 1 226 thin_at (λ width _ b7. label_within most_label b7 >>= λ label. link_at label.1 >>= λ link. flag_at link.1 >>= λ dissolved. rank_at dissolved.1 >>= λ rank. Ok (record { kind = kind; x = x; y = y; w = w; h = h; stroke = stroke; fill = fill; width = width; label = label.0; link = link.0; dissolved = dissolved.0; rank = rank.0 }, rank.1)) Steady-thin (λ width. behind 226 _
-    (Steady-then 201 25 (label_within most_label) (λ label _ b8. link_at b8 >>= λ link. flag_at link.1 >>= λ dissolved. rank_at dissolved.1 >>= λ rank. Ok (record { kind = kind; x = x; y = y; w = w; h = h; stroke = stroke; fill = fill; width = width; label = label; link = link.0; dissolved = dissolved.0; rank = rank.0 }, rank.1)) (Steady-label-within most_label) (λ label. behind 25 _
-    (Steady-then 16 9 link_at (λ link _ b9. flag_at b9 >>= λ dissolved. rank_at dissolved.1 >>= λ rank. Ok (record { kind = kind; x = x; y = y; w = w; h = h; stroke = stroke; fill = fill; width = width; label = label; link = link; dissolved = dissolved.0; rank = rank.0 }, rank.1)) Steady-link (λ link. behind 9 _
-    (Steady-then 1 8 flag_at (λ dissolved _ b10. rank_at b10 >>= λ rank. Ok (record { kind = kind; x = x; y = y; w = w; h = h; stroke = stroke; fill = fill; width = width; label = label; link = link; dissolved = dissolved; rank = rank.0 }, rank.1)) Steady-flag (λ dissolved. behind 8 _
-    (Steady-then 8 0 rank_at (λ rank _ b11. Ok (record { kind = kind; x = x; y = y; w = w; h = h; stroke = stroke; fill = fill; width = width; label = label; link = link; dissolved = dissolved; rank = rank }, b11)) Steady-rank (λ rank. done 0 _)))))))))))))))))))))))
+Steady-object =
+    Steady-next 1 Steady-kind (λ kind. Steady-next 4 (Steady-signed place_limit) (λ x. Steady-next 4 (Steady-signed place_limit) (λ y.
+    Steady-next 4 (Steady-signed size_limit) (λ w. Steady-next 4 (Steady-signed size_limit) (λ h. Steady-next 4 Steady-colour (λ stroke. Steady-next 4 Steady-fill (λ fill.
+    Steady-next 1 Steady-thin (λ width. Steady-next 201 (Steady-label-within most_label) (λ label. Steady-next 16 Steady-link (λ link. Steady-next 1 Steady-flag (λ dissolved.
+    Steady-next 8 Steady-rank (λ rank. Steady-pure _))))))))))))
 
 -- ---- the head, what is known of a site, and numbers of things
 

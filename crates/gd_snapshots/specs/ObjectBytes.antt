@@ -1,18 +1,16 @@
 -- The bytes of an object of a board. A kind, the place, the size, the stroke, the fill and the width; the label behind its
 -- length; a link, or a byte 0 for none; whether it is dissolved; and the rank. A field out of its range is Field at its first
 -- byte, as in events.
-use Rattle.std.specs.Prelude.{ℕ, Bool, true, false, ◌==◌, if◌then◌else◌, Option, Some, None, List, [], ◌∷◌, ◌++◌, Ok, Err}
+use Rattle.std.specs.Prelude.{ℕ, Bool, true, false, Option, Some, None, List, [], ◌∷◌, ◌++◌}
 use Rattle.gd_base.specs.Labels.{most_label}
 use Rattle.gd_base.specs.Ranges.{place_limit, size_limit, is_width}
-use Rattle.gd_base.specs.Results.{◌>>=◌}
-use Rattle.gd_base.specs.Stamps.{Stamp}
-use Rattle.gd_base.specs.declared.fault.FieldWhy.TheVariants.{Field}
 use Rattle.gd_base.specs.declared.shape.Shape.TheVariants.{Rect, Ellipse, Line, Text}
 use Rattle.gd_grammar.specs.EventBytes.{colour_at, fill_at}
 use Rattle.gd_grammar.specs.FieldBytes.{stamp_bytes, word_bytes, signed_bytes, label_bytes}
 use Rattle.gd_grammar.specs.Fields.{byte_at, stamp_at, signed_at, label_within}
-use Rattle.gd_grammar.specs.Reading.{Reads, fault_at, ranged}
-use Rattle.gd_grammar.specs.Spelling.{shape_byte}
+use Rattle.gd_grammar.specs.Reading.{Reader, pure, ranged, then_at}
+use Rattle.gd_grammar.specs.Readers.{◌>>=◌, into, by_tag}
+use Rattle.gd_grammar.specs.Spelling.{shape_byte, fill_bytes}
 use Rattle.gd_model.specs.declared.object.Kind.{Kind}
 use Rattle.gd_model.specs.declared.object.Kind.TheVariants.{Shape, Group}
 use Rattle.gd_model.specs.declared.object.Link.{Link}
@@ -23,93 +21,78 @@ use Rattle.gd_model.specs.declared.rank.Rank.TheVariants.{Low, High}
 -- ---- reading
 
 -- the kinds of shapes as in events, and 5 for a group
-unfoldable pub kind_at : List ℕ → Reads Kind
-kind_at bytes = do
-  kind ← byte_at bytes
-  if kind.0 == 1 then Ok (Shape Rect, kind.1)
-      else if kind.0 == 2 then Ok (Shape Ellipse, kind.1)
-      else if kind.0 == 3 then Ok (Shape Line, kind.1)
-      else if kind.0 == 4 then Ok (Shape Text, kind.1)
-      else if kind.0 == 5 then Ok (Group, kind.1)
-      else Err (fault_at Field bytes)
+abbrev pub kind_rows : List (ℕ × Reader Kind)
+kind_rows = (1, pure (Shape Rect)) ∷ (2, pure (Shape Ellipse)) ∷ (3, pure (Shape Line)) ∷ (4, pure (Shape Text)) ∷ (5, pure Group) ∷ []
+
+unfoldable pub kind_at : Reader Kind
+kind_at = by_tag kind_rows
 
 -- a width, in one byte
-unfoldable pub thin_at : List ℕ → Reads ℕ
-thin_at bytes = do
-  width ← byte_at bytes
-  ranged (is_width width.0) width.0 bytes width.1
+unfoldable pub thin_at : Reader ℕ
+thin_at bytes = then_at byte_at (λ width. ranged (is_width width) width bytes) bytes
 
-unfoldable pub flag_at : List ℕ → Reads Bool
-flag_at bytes = do
-  flag ← byte_at bytes
-  if flag.0 == 0 then Ok (false, flag.1) else if flag.0 == 1 then Ok (true, flag.1) else Err (fault_at Field bytes)
+abbrev pub flag_rows : List (ℕ × Reader Bool)
+flag_rows = (0, pure false) ∷ (1, pure true) ∷ []
+
+unfoldable pub flag_at : Reader Bool
+flag_at = by_tag flag_rows
 
 -- the group, and the shift
-unfoldable pub some_link_at : List ℕ → Reads (Option Link)
-some_link_at bytes = do
-  parent ← stamp_at bytes
-  dx ← signed_at place_limit parent.1
-  dy ← signed_at place_limit dx.1
-  Ok (Some (record { parent = parent.0; dx = dx.0; dy = dy.0 }), dy.1)
+unfoldable pub some_link_at : Reader (Option Link)
+some_link_at = do
+  parent ← stamp_at
+  dx ← signed_at place_limit
+  dy ← signed_at place_limit
+  pure (Some (record { parent = parent; dx = dx; dy = dy }))
 
 -- a flag that says whether there is a link, and the link
-unfoldable pub link_at : List ℕ → Reads (Option Link)
-link_at bytes = do
-  flag ← flag_at bytes
-  if flag.0 then some_link_at flag.1 else Ok (None, flag.1)
+abbrev pub link_rows : List (ℕ × Reader (Option Link))
+link_rows = (0, pure None) ∷ (1, some_link_at) ∷ []
 
-abbrev pub rank_of : Bool → Stamp → Rank
-rank_of false stamp = Low stamp
-rank_of true stamp = High stamp
+unfoldable pub link_at : Reader (Option Link)
+link_at = by_tag link_rows
 
 -- a flag that says whether it is high, and the stamp
-unfoldable pub rank_at : List ℕ → Reads Rank
-rank_at bytes = do
-  high ← flag_at bytes
-  stamp ← stamp_at high.1
-  Ok (rank_of high.0 stamp.0, stamp.1)
+abbrev pub rank_rows : List (ℕ × Reader Rank)
+rank_rows = (0, into Low stamp_at) ∷ (1, into High stamp_at) ∷ []
 
-unfoldable pub object_at : List ℕ → Reads Object
-object_at bytes = do
-  kind ← kind_at bytes
-  x ← signed_at place_limit kind.1
-  y ← signed_at place_limit x.1
-  w ← signed_at size_limit y.1
-  h ← signed_at size_limit w.1
-  stroke ← colour_at h.1
-  fill ← fill_at stroke.1
-  width ← thin_at fill.1
-  label ← label_within most_label width.1
-  link ← link_at label.1
-  dissolved ← flag_at link.1
-  rank ← rank_at dissolved.1
-  Ok (
-    record {
-      kind = kind.0;
-      x = x.0;
-      y = y.0;
-      w = w.0;
-      h = h.0;
-      stroke = stroke.0;
-      fill = fill.0;
-      width = width.0;
-      label = label.0;
-      link = link.0;
-      dissolved = dissolved.0;
-      rank = rank.0;
-    },
-    rank.1,
-  )
+unfoldable pub rank_at : Reader Rank
+rank_at = by_tag rank_rows
+
+unfoldable pub object_at : Reader Object
+object_at = do
+  kind ← kind_at
+  x ← signed_at place_limit
+  y ← signed_at place_limit
+  w ← signed_at size_limit
+  h ← signed_at size_limit
+  stroke ← colour_at
+  fill ← fill_at
+  width ← thin_at
+  label ← label_within most_label
+  link ← link_at
+  dissolved ← flag_at
+  rank ← rank_at
+  pure (record {
+    kind = kind;
+    x = x;
+    y = y;
+    w = w;
+    h = h;
+    stroke = stroke;
+    fill = fill;
+    width = width;
+    label = label;
+    link = link;
+    dissolved = dissolved;
+    rank = rank;
+  })
 
 -- ---- the bytes as a function of the object
 
 abbrev pub kind_byte : Kind → ℕ
 kind_byte (Shape shape) = shape_byte shape
 kind_byte Group = 5
-
-abbrev pub fill_bytes : Option ℕ → List ℕ
-fill_bytes None = word_bytes 0xFFFFFFFF
-fill_bytes (Some colour) = word_bytes colour
 
 abbrev pub flag_byte : Bool → ℕ
 flag_byte false = 0

@@ -6,10 +6,9 @@
 use Rattle.std.specs.List.{AllByRecursion}
 use Rattle.std.specs.Prelude.{◌≡◌, ◌<◌, ◌≤◌, ◌^◌, ℕ, ◌+◌, ◌-◌, min, Bool, true, ◌&&◌, nat_le, nat_lt, List, [], ◌∷◌, length, get_or, map, sum, Option, Some, None, IsTrue}
 use Rattle.gd_base.specs.Labels.{IsLabel}
-use Rattle.gd_base.specs.Ranges.{place_limit, size_limit, is_within, is_colour, is_width, is_style}
+use Rattle.gd_base.specs.Ranges.{place_limit, size_limit, is_within, is_colour, is_fill, is_width}
 use Rattle.gd_base.specs.Stamps.{Stamp, IsStamp}
 use Rattle.gd_base.specs.declared.ranges.TheConstants.{CLOCK_LIMIT, SITES}
-use Rattle.gd_base.specs.declared.style.Style.TheVariants.{Fill}
 use Rattle.gd_events.specs.Events.{Event}
 use Rattle.gd_events.specs.Sound.{IsSound, is_above}
 use Rattle.gd_grammar.specs.Reading.{AllFollow}
@@ -84,7 +83,7 @@ pub record IsDrawn (o : Object) : Type 0 where
   pub place : IsTrue (is_within place_limit o.x && is_within place_limit o.y)
   pub size : IsTrue (is_within size_limit o.w && is_within size_limit o.h)
   pub stroke : IsTrue (is_colour o.stroke)
-  pub fill : IsTrue (is_style (Fill o.fill))
+  pub fill : IsTrue (is_fill o.fill)
   pub width : IsTrue (is_width o.width)
   pub label : IsLabel o.label
   pub link : IsLinkOrNone o.link

@@ -1,16 +1,16 @@
 -- Edits and undos of a site and its backs, and of the reference site for which they stand.
 use Rattle.std.proofs.Common.{◌≡◌, Bool, true, false, cond, List, [], ◌∷◌, take, drop, Result, Ok, Err, refl, sym, ap, ap₂, ◌∙◌, subst}
 use Rattle.gd_base.specs.Stamps.{Stamp}
-use Rattle.gd_base.specs.declared.edit.Edit.{Edit}
 use Rattle.gd_base.specs.declared.refusal.EditRefusal.{EditRefusal}
-use Rattle.gd_canvas.specs.Slots.{board_of}
 use Rattle.gd_events.specs.Events.{Event}
+use Rattle.gd_lines.specs.Edits.{Edit}
 use Rattle.gd_model.specs.Board.{listed}
 use Rattle.gd_model.specs.Drawing.{Drawing}
 use Rattle.gd_reference.specs.Backs.{Back, Never, Takes}
 use Rattle.gd_reference.specs.Judging.{edit, edited, with_event, with_own}
 use Rattle.gd_reference.specs.SlowSite.{SlowSite}
 use Rattle.gd_reference.specs.TakeBack.{back, back_over, backs_with, after_edit, BackRefusal, NothingBack, NotTakeable, IsFar, is_far, or_refused, undo_by, undo, backs_without, after_undo}
+use Rattle.gd_slots.specs.Slots.{board_of}
 use Rattle.gd_backs.proofs.Accepted.{accepted}
 use Rattle.gd_site.specs.Sites.{SiteValue, StandsFor}
 use Rattle.gd_site.proofs.Starting.{drawing_is}

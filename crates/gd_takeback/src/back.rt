@@ -3,16 +3,17 @@ ghost use Rattle.std.specs.Prelude.{◌≡◌, ◌≤◌};
 ghost use Rattle.std.specs.FinMap as map_of;
 ghost use Rattle.gd_base.specs.Ranges.{place_limit, is_within};
 ghost use Rattle.gd_base.specs.Stamps.{Stamp as StampValue};
-ghost use Rattle.gd_base.specs.declared.edit.Edit.TheVariants as wish;
+ghost use Rattle.gd_base.specs.declared.content.Content.TheVariants.{ToPlace};
+ghost use Rattle.gd_base.specs.declared.op.Op.TheVariants as op;
 ghost use Rattle.gd_base.specs.declared.ranges.TheConstants.{SESSION_EVENTS};
-ghost use Rattle.gd_canvas.specs.Slots.{board_of};
 ghost use Rattle.gd_model.specs.Board.{listed};
 ghost use Rattle.gd_reference.specs.Backs.{Takes};
-ghost use Rattle.gd_reference.specs.TakeBack.{back_over, item_of, move_back, old_style, shape_back};
+ghost use Rattle.gd_reference.specs.TakeBack.{back_over, item_of, move_back, old_look, set_back, shape_back};
+ghost use Rattle.gd_slots.specs.Slots.{board_of};
 ghost use Rattle.gd_takeback.specs.Backs.{as_back, edit_of, of_shape, with_new};
 
 use crate::take_back::BackFault;
-use gd_base::{Edit, Item, Label, PLACE_LIMIT, ShapeItem, Stamp, Style};
+use gd_base::{Content, Edit, Item, Label, PLACE_LIMIT, ShapeItem, Side, Stamp};
 use gd_canvas::Canvas;
 use gd_view::item;
 
@@ -21,13 +22,20 @@ use gd_view::item;
 pub enum Back {
     /// Nothing ever does.
     Never,
-    Delete { id: Stamp },
-    Ungroup { id: Stamp },
+    Delete {
+        id: Stamp,
+    },
     /// To where the object was shown, which may lie out of the range of places.
-    Move { id: Stamp, x: i64, y: i64 },
-    Resize { id: Stamp, w: i32, h: i32 },
-    Restyle { id: Stamp, style: Style },
-    Retext { id: Stamp, label: Label },
+    Move {
+        id: Stamp,
+        x: i64,
+        y: i64,
+    },
+    /// What stood where another content went, or the flag of a group.
+    Set {
+        id: Stamp,
+        content: Content<Label, Side>,
+    },
 }
 
 impl Back {
@@ -39,35 +47,22 @@ impl Back {
         match self {
             Back::Never => Err(BackFault::Never),
             Back::Delete { id } => Ok(Edit::Delete { id: *id }),
-            Back::Ungroup { id } => Ok(Edit::Ungroup { id: *id }),
             Back::Move { id, x, y } => move_to(*id, *x, *y),
-            Back::Resize { id, w, h } => Ok(Edit::Resize {
-                id: *id,
-                w: *w,
-                h: *h,
-            }),
-            Back::Restyle { id, style } => Ok(Edit::Restyle {
-                id: *id,
-                style: *style,
-            }),
-            Back::Retext { id, label } => {
-                let label = label.copy();
-                Ok(Edit::Retext { id: *id, label })
-            }
+            Back::Set { id, content } => set_to(*id, content),
         }
     }
 }
 
 /// The move to that place. `Far` where it is out of the range.
 fn move_to(id: Stamp, x: i64, y: i64) -> Result<Edit, BackFault>
-    ensures { result ≡ edit_of (Takes (wish.Move id x y)) }
+    ensures { result ≡ edit_of (Takes (op.Set id (ToPlace x y))) }
 {
     if is_in_range(x) && is_in_range(y) {
-        Ok(Edit::Move {
-            id,
+        let content = Content::ToPlace {
             x: x as i32,
             y: y as i32,
-        })
+        };
+        Ok(Edit::Set { id, content })
     } else {
         Err(BackFault::Far)
     }
@@ -80,6 +75,19 @@ fn is_in_range(part: i64) -> bool
     -limit <= part && part <= limit
 }
 
+/// The edit that sets a copy of the content.
+fn set_to(id: Stamp, content: &Content<Label, Side>) -> Result<Edit, BackFault>
+    ensures { result ≡ edit_of (Takes (op.Set id content.now)) }
+{
+    match content {
+        Content::ToPlace { x, y } => move_to(id, i64::from(*x), i64::from(*y)),
+        _ => {
+            let content = content.copy();
+            Ok(Edit::Set { id, content })
+        }
+    }
+}
+
 /// What was found before the edit that takes it back: the place where a moved object is shown, or the look of a changed
 /// shape. `Never` where the edit is never taken back, and where the stamp of its event takes it back.
 pub(crate) fn found(canvas: &Canvas, edit: &Edit) -> Back
@@ -87,17 +95,9 @@ pub(crate) fn found(canvas: &Canvas, edit: &Edit) -> Back
     ensures { (new : StampValue) → with_new new edit.now (as_back result)
         ≡ back_over (listed (board_of canvas.now)) new edit.now }
 {
-    match *edit {
-        Edit::Create { .. }
-        | Edit::Delete { .. }
-        | Edit::Group { .. }
-        | Edit::Ungroup { .. }
-        | Edit::Raise { .. }
-        | Edit::Lower { .. } => Back::Never,
-        Edit::Move { id, .. } => moved(id, item(canvas, id)),
-        Edit::Resize { id, .. } => resized(id, shape(canvas, id)),
-        Edit::Restyle { id, style } => restyled(id, style, shape(canvas, id)),
-        Edit::Retext { id, .. } => relabelled(id, shape(canvas, id)),
+    match edit {
+        Edit::Create { .. } | Edit::Delete { .. } | Edit::Group { .. } => Back::Never,
+        Edit::Set { id, content } => set_back(canvas, *id, content),
     }
 }
 
@@ -107,8 +107,24 @@ pub(crate) fn with_new(edit: &Edit, found: Back, stamp: Stamp) -> Back
 {
     match edit {
         Edit::Create { .. } => Back::Delete { id: stamp },
-        Edit::Group { .. } => Back::Ungroup { id: stamp },
+        Edit::Group { .. } => Back::Set {
+            id: stamp,
+            content: Content::ToFlag(true),
+        },
         _ => found,
+    }
+}
+
+/// What sets back what stands where the content goes.
+fn set_back(canvas: &Canvas, id: Stamp, content: &Content<Label, Side>) -> Back
+    requires { map_of.len (board_of canvas.now) ≤ SESSION_EVENTS }
+    ensures { as_back result
+        ≡ set_back id content.now (item_of (listed (board_of canvas.now)) id) }
+{
+    match content {
+        Content::ToPlace { .. } => moved(id, item(canvas, id)),
+        Content::ToFlag(_) | Content::ToRank(_) => Back::Never,
+        _ => changed(id, content, shape(canvas, id)),
     }
 }
 
@@ -134,53 +150,32 @@ fn moved(id: Stamp, item: Option<Item>) -> Back
     }
 }
 
-/// The resizing of a shape back to the size that it had.
-fn resized(id: Stamp, shape: Option<ShapeItem>) -> Back
-    ensures { as_back result ≡ shape_back (λ old. wish.Resize id old.w old.h) shape }
+/// The change of a part of a shape back to what it was.
+fn changed(id: Stamp, content: &Content<Label, Side>, shape: Option<ShapeItem>) -> Back
+    ensures { as_back result ≡ shape_back (λ old. op.Set id (old_look content.now old)) shape }
 {
     match shape {
-        Some(shape) => Back::Resize {
+        Some(shape) => Back::Set {
             id,
+            content: old_look(content, shape),
+        },
+        None => Back::Never,
+    }
+}
+
+/// What stands in a shape where the content goes.
+fn old_look(content: &Content<Label, Side>, shape: ShapeItem) -> Content<Label, Side>
+    ensures { result ≡ old_look content.now shape }
+{
+    match content {
+        Content::ToSize { .. } => Content::ToSize {
             w: shape.w,
             h: shape.h,
         },
-        None => Back::Never,
-    }
-}
-
-/// The change of a part of a shape's look back to what it was.
-fn restyled(id: Stamp, style: Style, shape: Option<ShapeItem>) -> Back
-    ensures { as_back result ≡ shape_back (λ old. wish.Restyle id (old_style style old)) shape }
-{
-    match shape {
-        Some(shape) => Back::Restyle {
-            id,
-            style: old_style(style, &shape),
-        },
-        None => Back::Never,
-    }
-}
-
-/// The part of the shape's look that such a style changes.
-fn old_style(style: Style, shape: &ShapeItem) -> Style
-    ensures { result ≡ old_style style shape.now }
-{
-    match style {
-        Style::Stroke(_) => Style::Stroke(shape.stroke),
-        Style::Fill(_) => Style::Fill(shape.fill),
-        Style::Width(_) => Style::Width(shape.width),
-    }
-}
-
-/// The change of a shape's label back to what it was.
-fn relabelled(id: Stamp, shape: Option<ShapeItem>) -> Back
-    ensures { as_back result ≡ shape_back (λ old. wish.Retext id old.label) shape }
-{
-    match shape {
-        Some(shape) => Back::Retext {
-            id,
-            label: shape.label,
-        },
-        None => Back::Never,
+        Content::ToStroke(_) => Content::ToStroke(shape.stroke),
+        Content::ToFill(_) => Content::ToFill(shape.fill),
+        Content::ToWidth(_) => Content::ToWidth(shape.width),
+        Content::ToText(_) => Content::ToText(shape.label),
+        _ => content.copy(),
     }
 }

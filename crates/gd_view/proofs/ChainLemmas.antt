@@ -7,8 +7,6 @@ use Rattle.gd_base.specs.Stamps.{stamp_cmp, is_before}
 use Rattle.gd_base.specs.Stamps.{Stamp}
 use Rattle.gd_model.specs.declared.object.Link.{Link}
 use Rattle.gd_model.specs.declared.object.Object.{Object}
-use Rattle.gd_model.specs.declared.object.Body.{Body}
-use Rattle.gd_model.specs.Objects.{body}
 use Rattle.gd_model.specs.Drawing.{Drawing}
 use Rattle.gd_model.specs.Shown.{above_in, above_by, through}
 use Rattle.gd_model.specs.declared.above.Above.{Above}
@@ -23,7 +21,7 @@ abbrev joined : Above → Option Above → Option Above
 joined s x = option_map (joined_by s) x
 
 -- the sum with one link more, at the far end of the chain
-abbrev pub after_link : Above → Link → Body → Above
+abbrev pub after_link : Above → Link → Object → Above
 after_link s l g = with_link s (first_parent s.parent (parent_by l g)) l g
 
 -- the part of a chain that is known and the rest of it, along at most n links, make the whole
@@ -49,7 +47,7 @@ parents None false l q = refl
 parents (Some r) b l q = refl
 
 -- a link in front of the rest is one behind the sum
-one_more : (s : Above) (l : Link) (g : Body) (x : Option Above) → joined s (option_map (above_by l g) x) ≡ joined (after_link s l g) x
+one_more : (s : Above) (l : Link) (g : Object) (x : Option Above) → joined s (option_map (above_by l g) x) ≡ joined (after_link s l g) x
 one_more s l g None = refl
 one_more s l g (Some a) =
     let xs : s.dx +ℤ ((l.dx +ℤ g.x) +ℤ a.dx) ≡ (s.dx +ℤ (l.dx +ℤ g.x)) +ℤ a.dx = omega (arith, ints) in
@@ -57,7 +55,7 @@ one_more s l g (Some a) =
     λ i. Some record { parent = parents s.parent g.dissolved l.parent a.parent i; dx = xs i; dy = ys i }
 
 -- no group, nothing above
-pub by_group : (l : Link) (rest : Body → Option Above) (t : Bool) (x : Option Body) → cond t (through l x rest) None ≡ through l (cond t x None) rest
+pub by_group : (l : Link) (rest : Object → Option Above) (t : Bool) (x : Option Object) → cond t (through l x rest) None ≡ through l (cond t x None) rest
 by_group l rest true x = refl
 by_group l rest false x = refl
 
@@ -67,12 +65,12 @@ above_step m d below l = by_group l (λ g. above_in m d l.parent g.link) (is_bef
 
 -- one link is followed
 pub step : {n : ℕ} {d : Drawing} {id : Stamp} {start : Option Link} {left : ℕ} {sum : Above} {below : Stamp} (next : Option Link) → Followed n d id start left sum below next
-    → (l : Link) (o : Object) (m : ℕ) (s : Above) → next ≡ Some l → option_map body (Some o) ≡ group_in d below l → left ≡ suc m → s ≡ after_link sum l (body o) → Followed n d id start m s l.parent o.link
+    → (l : Link) (o : Object) (m : ℕ) (s : Above) → next ≡ Some l → Some o ≡ group_in d below l → left ≡ suc m → s ≡ after_link sum l o → Followed n d id start m s l.parent o.link
 step {d = d} {sum = sum} {below = below} next f l o m s e g h is =
     record {
       whole =
           ap (λ t. joined t (above_in m d l.parent o.link)) is
-          ∙ sym (one_more sum l (body o) (above_in m d l.parent o.link))
+          ∙ sym (one_more sum l o (above_in m d l.parent o.link))
           ∙ ap (λ x. joined sum (through l x (λ g. above_in m d l.parent g.link))) g
           ∙ ap (joined sum) (sym (above_step m d below l))
           ∙ (λ i. joined sum (above_in (sym h i) d below (sym e i)))
@@ -89,7 +87,7 @@ lost {d = d} {sum = sum} {below = below} next f l m e g h =
     ∙ f.whole
 
 -- one link in front of the rest of a chain
-pub in_front : (l : Link) (g : Body) (a : Above) → with_link a (first_parent (parent_by l g) a.parent) l g ≡ above_by l g a
+pub in_front : (l : Link) (g : Object) (a : Above) → with_link a (first_parent (parent_by l g) a.parent) l g ≡ above_by l g a
 in_front l g a =
     let xs : a.dx +ℤ (l.dx +ℤ g.x) ≡ (l.dx +ℤ g.x) +ℤ a.dx = omega (arith, ints) in
     let ys : a.dy +ℤ (l.dy +ℤ g.y) ≡ (l.dy +ℤ g.y) +ℤ a.dy = omega (arith, ints) in

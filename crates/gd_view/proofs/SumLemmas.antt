@@ -16,8 +16,6 @@ use Rattle.gd_base.proofs.StampLemmas.{is_same-true, is_same-comm, is_before-apa
 use Rattle.gd_base.specs.Stamps.{Stamp}
 use Rattle.gd_model.specs.declared.object.Link.{Link}
 use Rattle.gd_model.specs.declared.object.Object.{Object}
-use Rattle.gd_model.specs.declared.object.Body.{Body}
-use Rattle.gd_model.specs.Objects.{body}
 use Rattle.gd_model.specs.Drawing.{Drawing}
 use Rattle.gd_model.specs.Board.{Board, listed}
 use Rattle.gd_model.specs.Shown.{above, above_by, through}
@@ -39,7 +37,7 @@ above_group : (d : Drawing) (id : Stamp) (l : Link) → above d id (Some l) ≡ 
 above_group d id l = above-link d id l ∙ by_group l (λ g. above d l.parent g.link) (is_before id l.parent) (map_of.find stamp_cmp l.parent d)
 
 -- a link to a group whose sum is known
-pub sum_some : (d : Drawing) (id : Stamp) (l : Link) (g : Body) (x : Option Above) → Some g ≡ group_in d id l → (is_before id l.parent ≡ true → x ≡ above_at d l.parent)
+pub sum_some : (d : Drawing) (id : Stamp) (l : Link) (g : Object) (x : Option Above) → Some g ≡ group_in d id l → (is_before id l.parent ≡ true → x ≡ above_at d l.parent)
     → option_map (above_by l g) x ≡ above d id (Some l)
 sum_some d id l g x e h = ap (option_map (above_by l g)) (there (is_before id l.parent) refl e) ∙ ap (λ y. through l y (λ g. above d l.parent g.link)) e ∙ sym (above_group d id l)
   where
@@ -104,7 +102,7 @@ no_key : (b : Board) (q : Stamp) → is_member q (map_of.keys b) ≡ false → N
 no_key b q h = by (map_of.get b q) refl (map_of.contains_key-keys b q ∙ h)
   where
     by : (x : Option Object) → x ≡ map_of.get b q → is_some x ≡ false → None ≡ above_at (listed b) q
-    by None e h = ap (λ y. above_of (listed b) q (option_map body y)) e ∙ ap (above_of (listed b) q) (sym (find-listed b q))
+    by None e h = ap (above_of (listed b) q) (e ∙ sym (find-listed b q))
     by (Some o) e h = cc
 
 -- what is kept for the keys alone is what is kept for all

@@ -15,7 +15,7 @@ use Rattle.gd_base.specs.Stamps.{Stamp}
 use Rattle.gd_base.specs.declared.item.Item.{Item}
 use Rattle.gd_model.specs.Shown.{is_parent, under, in_printed_order, climbs}
 use Rattle.gd_drawing.proofs.PrintedOrder.{under-step}
-use Rattle.gd_canvas.proofs.SlotLemmas.{same_is}
+use Rattle.gd_slots.proofs.SlotLemmas.{same_is}
 use Rattle.gd_view.specs.Walk.{same_parent, first_from, nexts_from, first_in}
 use Rattle.gd_view.specs.declared.firsts.Firsts.{Firsts}
 

@@ -4,7 +4,7 @@ use Rattle.std.specs.FinMap as map_of
 use Rattle.gd_base.specs.Stamps.{stamp_cmp, is_before}
 use Rattle.gd_base.specs.Stamps.{Stamp}
 use Rattle.gd_model.specs.declared.object.Link.{Link}
-use Rattle.gd_model.specs.declared.object.Body.{Body}
+use Rattle.gd_model.specs.declared.object.Object.{Object}
 use Rattle.gd_model.specs.Drawing.{Drawing}
 use Rattle.gd_model.specs.declared.above.Above.{Above}
 
@@ -14,15 +14,15 @@ first_parent None q = q
 first_parent (Some p) q = Some p
 
 -- the parent that a link gives, where its group isn't dissolved
-abbrev pub parent_by : Link → Body → Option Stamp
+abbrev pub parent_by : Link → Object → Option Stamp
 parent_by l g = if g.dissolved then None else Some l.parent
 
 -- the sum with one link more, and this parent
-abbrev pub with_link : Above → Option Stamp → Link → Body → Above
+abbrev pub with_link : Above → Option Stamp → Link → Object → Above
 with_link s parent l g = record { parent = parent; dx = s.dx +ℤ (l.dx +ℤ g.x); dy = s.dy +ℤ (l.dy +ℤ g.y) }
 
 -- the group that a link leads to, where it is there and has a greater id
-abbrev pub group_in : Drawing → Stamp → Link → Option Body
+abbrev pub group_in : Drawing → Stamp → Link → Option Object
 group_in d below l = if is_before below l.parent then map_of.find stamp_cmp l.parent d else None
 
 -- a shift and a place are each within 2^31, so a link adds this at most

@@ -3,7 +3,6 @@ use Rattle.std.specs.Prelude.{List, Option, None, Some}
 use Rattle.std.specs.BTreeSet.{insert_key}
 use Rattle.gd_base.specs.Stamps.{Stamp}
 use Rattle.gd_model.specs.declared.object.Object.{Object}
-use Rattle.gd_model.specs.declared.object.Body.{Body}
 use Rattle.gd_model.specs.Drawing.{Drawing}
 use Rattle.gd_model.specs.Shown.{shown}
 use Rattle.gd_base.specs.declared.item.Item.{Item}
@@ -21,6 +20,6 @@ with_level None ls = ls
 with_level (Some l) ls = insert_key level_cmp ls l
 
 -- the item of an object of that id, where it is there and shown
-abbrev pub item_of : Drawing → Stamp → Option Body → Option Item
+abbrev pub item_of : Drawing → Stamp → Option Object → Option Item
 item_of d id None = None
 item_of d id (Some b) = shown d (id, b)

@@ -1,14 +1,14 @@
 -- An object as it is shown.
 use Rattle.std.specs.Prelude.{◌+ℤ◌, Bool, false, Option, None, Some, is_none}
 use Rattle.gd_base.specs.Stamps.{Stamp}
-use Rattle.gd_model.specs.declared.object.Body.{Body}
+use Rattle.gd_model.specs.declared.object.Object.{Object}
 use Rattle.gd_model.specs.Drawing.{Drawing}
 use Rattle.gd_model.specs.Shown.{seen_as}
 use Rattle.gd_model.specs.declared.above.Above.{Above}
 use Rattle.gd_view.specs.declared.places.Shown.{Shown}
 
 -- an object with what stands above it
-abbrev pub shown_at : Body → Above → Shown
+abbrev pub shown_at : Object → Above → Shown
 shown_at b a =
     record {
       parent = a.parent;

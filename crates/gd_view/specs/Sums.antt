@@ -7,7 +7,7 @@ use Rattle.indexmap.specs.IndexMap as index_map
 use Rattle.gd_base.specs.declared.ranges.TheConstants.{SESSION_EVENTS}
 use Rattle.gd_base.specs.Stamps.{stamp_cmp, is_same}
 use Rattle.gd_base.specs.Stamps.{Stamp}
-use Rattle.gd_model.specs.declared.object.Body.{Body}
+use Rattle.gd_model.specs.declared.object.Object.{Object}
 use Rattle.gd_model.specs.Drawing.{Drawing}
 use Rattle.gd_model.specs.Shown.{above}
 use Rattle.gd_model.specs.declared.above.Above.{Above}
@@ -19,7 +19,7 @@ abbrev pub known : Known → Stamp → Option Above
 known k q = option_flatten (index_map.get is_same k.sums q)
 
 -- what stands above an object of that id, where it is there and not hidden
-abbrev pub above_of : Drawing → Stamp → Option Body → Option Above
+abbrev pub above_of : Drawing → Stamp → Option Object → Option Above
 above_of d q None = None
 above_of d q (Some g) = above d q g.link
 

@@ -2,10 +2,9 @@
 
 ghost use Rattle.std.specs.Prelude.{◌≡◌, ◌≤◌, ◌+◌, ◌+ℤ◌, ◌≤ℤ◌, pos, neg_ℤ, length, None, Some, IfSome, option_copied, option_map, if◌then◌else◌};
 ghost use Rattle.gd_base.specs.declared.ranges.TheConstants.{SESSION_EVENTS};
-ghost use Rattle.gd_model.specs.Objects.{body};
 ghost use Rattle.gd_model.specs.Board.{listed};
 ghost use Rattle.gd_model.specs.Shown.{above, above_in};
-ghost use Rattle.gd_canvas.specs.Slots.{board_of};
+ghost use Rattle.gd_slots.specs.Slots.{board_of};
 ghost use Rattle.gd_view.specs.Chains.{first_parent, group_in, link_limit, parent_by, sum_limit, with_link, Within};
 
 use crate::OBJECTS;
@@ -54,7 +53,7 @@ fn above_within(canvas: &Canvas, id: Stamp, link: Option<Link>, most: u32) -> Op
 /// The group that a link leads to, where it is there and has a greater id.
 #[tactic(auto, using(crate::proofs::Rulesets::drawn))]
 pub(crate) fn group_at<'a>(canvas: &'a Canvas, below: Stamp, link: &Link) -> Option<&'a Object>
-    ensures { option_map body (option_copied result)
+    ensures { option_copied result
         ≡ group_in (listed (board_of canvas.now)) below link.now }
 {
     if below.is_before(link.parent) {
@@ -74,7 +73,7 @@ pub(crate) fn with_link(
 ) -> Above
     requires few { turn ≤ SESSION_EVENTS }
     requires within { Within turn sum.now }
-    ensures sum { result ≡ with_link sum.now parent link.now (body group.now) }
+    ensures sum { result ≡ with_link sum.now parent link.now group.now }
     ensures within { Within (1 + turn) result }
 {
     let dx = add(sum.dx, link.dx, group.x);
@@ -84,7 +83,7 @@ pub(crate) fn with_link(
 
 /// The parent that a link gives, where its group isn't dissolved.
 pub(crate) fn parent_by(link: &Link, group: &Object) -> Option<Stamp>
-    ensures { result ≡ parent_by link.now (body group.now) }
+    ensures { result ≡ parent_by link.now group.now }
 {
     if group.dissolved {
         None

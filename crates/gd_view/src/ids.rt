@@ -2,7 +2,7 @@
 
 ghost use Rattle.std.specs.Prelude.{◌≡◌, IfOk, OnOk, option_map};
 ghost use Rattle.std.specs.FinMap as map_of;
-ghost use Rattle.gd_canvas.specs.Slots.{board_of, object_at};
+ghost use Rattle.gd_slots.specs.Slots.{board_of, value_at};
 ghost use Rattle.gd_view.specs.Sums.{with_id};
 
 use gd_base::Stamp;
@@ -23,7 +23,7 @@ pub fn ids(alloc: Global, canvas: &Canvas) -> Result<BTreeSet<Stamp>, AllocError
 }
 
 fn id_at(canvas: &Canvas, place: usize) -> Option<Stamp>
-    ensures { result ≡ option_map (λ p. p.0) (object_at canvas.now place) }
+    ensures { result ≡ option_map (λ p. p.0) (value_at canvas.now place) }
 {
     match canvas.at(place) {
         Some((id, _)) => Some(id),

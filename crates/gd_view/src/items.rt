@@ -3,10 +3,9 @@
 ghost use Rattle.std.specs.Prelude.{◌≡◌, ◌≤◌, length};
 ghost use Rattle.std.specs.FinMap as map_of;
 ghost use Rattle.gd_base.specs.declared.ranges.TheConstants.{SESSION_EVENTS};
-ghost use Rattle.gd_model.specs.Objects.{body};
 ghost use Rattle.gd_model.specs.Board.{listed};
 ghost use Rattle.gd_model.specs.Shown.{shape_of, item_at, shown_as, seen_as};
-ghost use Rattle.gd_canvas.specs.Slots.{board_of};
+ghost use Rattle.gd_slots.specs.Slots.{board_of};
 ghost use Rattle.gd_view.specs.Chains.{Within};
 
 use crate::chains::above;
@@ -28,7 +27,7 @@ pub fn item(canvas: &Canvas, id: Stamp) -> Option<Item>
 fn shown_item(canvas: &Canvas, id: Stamp, object: &Object) -> Option<Item>
     requires { length (listed (board_of canvas.now)) ≤ SESSION_EVENTS }
     ensures { result
-        ≡ shown_as (item_at id) (listed (board_of canvas.now)) id (body object.now) }
+        ≡ shown_as (item_at id) (listed (board_of canvas.now)) id object.now }
 {
     if is_gone(object) {
         return None;
@@ -39,7 +38,7 @@ fn shown_item(canvas: &Canvas, id: Stamp, object: &Object) -> Option<Item>
 
 pub(crate) fn item_by(id: Stamp, object: &Object, above: &Above) -> Item
     requires { Within SESSION_EVENTS above.now }
-    ensures { result ≡ item_at id (body object.now) above.now }
+    ensures { result ≡ item_at id object.now above.now }
 {
     let at = place_at(object, above);
     let shape = shape_of(object);
@@ -52,7 +51,7 @@ pub(crate) fn item_by(id: Stamp, object: &Object, above: &Above) -> Item
 }
 
 fn shape_of(object: &Object) -> Option<ShapeItem>
-    ensures { result ≡ shape_of object.now.kind (body object.now) }
+    ensures { result ≡ shape_of object.now.kind object.now }
 {
     match object.kind {
         Kind::Shape(kind) => {

@@ -3,7 +3,7 @@
 ghost use Rattle.std.specs.Prelude.{◌≡◌, IfOk, OnOk};
 ghost use Rattle.std.specs.FinMap as map_of;
 ghost use Rattle.gd_model.specs.Board.{stack};
-ghost use Rattle.gd_canvas.specs.Slots.{board_of, object_at};
+ghost use Rattle.gd_slots.specs.Slots.{board_of, value_at};
 ghost use Rattle.gd_view.specs.Levels.{level_of, with_level};
 
 use gd_canvas::Canvas;
@@ -23,7 +23,7 @@ pub(crate) fn levels(alloc: Global, canvas: &Canvas) -> Result<BTreeSet<Level>, 
 }
 
 fn level_at(canvas: &Canvas, place: usize) -> Option<Level>
-    ensures { result ≡ level_of (object_at canvas.now place) }
+    ensures { result ≡ level_of (value_at canvas.now place) }
 {
     match canvas.at(place) {
         Some((id, object)) => Some(Level {

@@ -3,10 +3,9 @@
 ghost use Rattle.std.specs.Prelude.{◌≡◌, ◌≤◌, ◌++◌, IfOk, OnOk, IfSome, option_map, option_to_list};
 ghost use Rattle.std.specs.FinMap as map_of;
 ghost use Rattle.gd_base.specs.declared.ranges.TheConstants.{SESSION_EVENTS};
-ghost use Rattle.gd_model.specs.Objects.{body};
 ghost use Rattle.gd_model.specs.Board.{listed};
 ghost use Rattle.gd_model.specs.Shown.{above, shown, shown_items};
-ghost use Rattle.gd_canvas.specs.Slots.{board_of};
+ghost use Rattle.gd_slots.specs.Slots.{board_of};
 ghost use Rattle.gd_view.specs.Chains.{Within};
 ghost use Rattle.gd_view.specs.Sums.{known, AreKnown};
 ghost use Rattle.gd_view.specs.Levels.{item_of};
@@ -50,7 +49,7 @@ fn item_of(canvas: &Canvas, table: &Known, id: Stamp) -> Option<Item>
     requires { AreKnown (listed (board_of canvas.now)) table.now }
     ensures { result
         ≡ item_of (listed (board_of canvas.now)) id
-        (option_map body (map_of.get (board_of canvas.now) id)) }
+        (map_of.get (board_of canvas.now) id) }
 {
     let object = canvas.get(id)?;
     item(canvas, table, id, object)
@@ -59,7 +58,7 @@ fn item_of(canvas: &Canvas, table: &Known, id: Stamp) -> Option<Item>
 fn item(canvas: &Canvas, table: &Known, id: Stamp, object: &Object) -> Option<Item>
     requires sum { known table.now id ≡ above (listed (board_of canvas.now)) id object.now.link }
     requires within { IfSome (known table.now id) (λ a. Within SESSION_EVENTS a) }
-    ensures { result ≡ shown (listed (board_of canvas.now)) (id, body object.now) }
+    ensures { result ≡ shown (listed (board_of canvas.now)) (id, object.now) }
 {
     if is_gone(object) {
         return None;

@@ -3,7 +3,7 @@ ghost use Rattle.std.specs.FinMap as map_of;
 ghost use Rattle.gd_base.specs.declared.ranges.TheConstants.{SESSION_EVENTS};
 ghost use Rattle.gd_model.specs.Board.{listed};
 ghost use Rattle.gd_model.specs.Shown.{items};
-ghost use Rattle.gd_canvas.specs.Slots.{board_of};
+ghost use Rattle.gd_slots.specs.Slots.{board_of};
 
 use crate::listing::shown_items;
 use crate::walk::in_printed_order;

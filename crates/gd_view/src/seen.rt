@@ -3,10 +3,9 @@
 ghost use Rattle.std.specs.Prelude.{◌≡◌, ◌≤◌, ◌+ℤ◌, ◌≤ℤ◌, pos, neg_ℤ, length};
 ghost use Rattle.std.specs.FinMap as map_of;
 ghost use Rattle.gd_base.specs.declared.ranges.TheConstants.{SESSION_EVENTS};
-ghost use Rattle.gd_model.specs.Objects.{body};
 ghost use Rattle.gd_model.specs.Board.{listed};
 ghost use Rattle.gd_model.specs.Shown.{is_gone, shown_as};
-ghost use Rattle.gd_canvas.specs.Slots.{board_of};
+ghost use Rattle.gd_slots.specs.Slots.{board_of};
 ghost use Rattle.gd_view.specs.Seen.{shown_at, seen, has_no_parent};
 ghost use Rattle.gd_view.specs.Chains.{sum_limit, Within};
 
@@ -39,7 +38,7 @@ pub fn is_top(canvas: &Canvas, id: Stamp) -> bool
 
 fn shown_as(canvas: &Canvas, id: Stamp, object: &Object) -> Option<Shown>
     requires { length (listed (board_of canvas.now)) ≤ SESSION_EVENTS }
-    ensures { result ≡ shown_as shown_at (listed (board_of canvas.now)) id (body object.now) }
+    ensures { result ≡ shown_as shown_at (listed (board_of canvas.now)) id object.now }
 {
     if is_gone(object) {
         return None;
@@ -50,7 +49,7 @@ fn shown_as(canvas: &Canvas, id: Stamp, object: &Object) -> Option<Shown>
 
 fn shown_at(object: &Object, above: &Above) -> Shown
     requires { Within SESSION_EVENTS above.now }
-    ensures { result ≡ shown_at (body object.now) above.now }
+    ensures { result ≡ shown_at object.now above.now }
 {
     let at = place_at(object, above);
     let sum = place(above.dx, above.dy);
@@ -86,7 +85,7 @@ fn place(x: i64, y: i64) -> Place
 
 /// Whether it is a dissolved group.
 pub(crate) fn is_gone(object: &Object) -> bool
-    ensures { result ≡ is_gone (body object.now) }
+    ensures { result ≡ is_gone object.now }
 {
     match object.kind {
         Kind::Group => object.dissolved,

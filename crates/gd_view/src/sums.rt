@@ -6,10 +6,9 @@ ghost use Rattle.std.specs.FinMap as map_of;
 ghost use Rattle.gd_base.specs.declared.ranges.TheConstants.{SESSION_EVENTS};
 ghost use Rattle.gd_base.specs.Stamps as stamps;
 ghost use Rattle.gd_base.specs.Stamps.{is_before};
-ghost use Rattle.gd_model.specs.Objects.{body};
 ghost use Rattle.gd_model.specs.Board.{listed};
 ghost use Rattle.gd_model.specs.Shown.{above, above_by};
-ghost use Rattle.gd_canvas.specs.Slots.{board_of};
+ghost use Rattle.gd_slots.specs.Slots.{board_of};
 ghost use Rattle.gd_view.specs.Chains.{Within};
 ghost use Rattle.gd_view.specs.Sums.{known, above_at, AreKnown};
 
@@ -77,7 +76,7 @@ fn sum_by(canvas: &Canvas, table: &Known, id: Stamp, link: &Link, turn: u32) -> 
 fn through(sum: &Above, link: &Link, group: &Object, turn: u32) -> Above
     requires few { turn ≤ SESSION_EVENTS }
     requires within { Within turn sum.now }
-    ensures sum { result ≡ above_by link.now (body group.now) sum.now }
+    ensures sum { result ≡ above_by link.now group.now sum.now }
     ensures within { Within (1 + turn) result }
 {
     let parent = first_parent(parent_by(link, group), sum.parent);

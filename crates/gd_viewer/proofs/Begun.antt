@@ -11,7 +11,8 @@ use Rattle.gd_base.specs.declared.ranges.TheConstants.{SESSION_EVENTS}
 use Rattle.gd_base.proofs.Lists.{Every-get_or, Every-weaker}
 use Rattle.gd_base.proofs.SiteLemmas.{is_site-within}
 use Rattle.gd_base.proofs.StampLemmas.{stamp_cmp-total}
-use Rattle.gd_canvas.specs.Slots.{Slots, board_of}
+use Rattle.gd_canvas.specs.Slots.{Slots}
+use Rattle.gd_slots.specs.Slots.{board_of}
 use Rattle.gd_events.specs.Events.{Event}
 use Rattle.gd_events.specs.Ordered.{are_distinct}
 use Rattle.gd_grammar.specs.Reading.{AllFollow}

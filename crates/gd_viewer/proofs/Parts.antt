@@ -2,7 +2,6 @@
 use Rattle.std.proofs.Common.{◌≡◌, ℕ, ◌+◌, ◌<◌, ◌≤◌, List, [], ◌∷◌, ◌++◌, length, None, refl, sym, ap, ◌∙◌, subst, append_assoc, append-nil, arith, IsTrue, inl, inr}
 use Rattle.std.proofs.lemmas.Bool.{cases_eq}
 use Rattle.std.specs.FinMap as map_of
-use Rattle.std.specs.List.{AllByRecursion as Every}
 use Rattle.gd_base.specs.Sites.{is_site}
 use Rattle.gd_base.specs.Stamps.{Stamp, stamp_cmp}
 use Rattle.gd_base.proofs.SiteLemmas.{is_site-bounds, is_site-within}

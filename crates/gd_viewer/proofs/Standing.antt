@@ -4,11 +4,12 @@ use Rattle.std.specs.FinMap as map_of
 use Rattle.std.specs.List.{AllByRecursion as Every}
 use Rattle.gd_base.specs.Sites.{is_site}
 use Rattle.gd_base.proofs.SiteLemmas.{is_site-bounds, is_site-within}
-use Rattle.gd_canvas.specs.Slots.{Slots, board_of}
+use Rattle.gd_canvas.specs.Slots.{Slots}
+use Rattle.gd_slots.specs.Slots.{board_of}
 use Rattle.gd_drawing.specs.Rules.{drawing_rules}
 use Rattle.gd_drawing.proofs.DrawingLaws.{drawing_laws}
 use Rattle.gd_drawing.proofs.Sizes.{len-apply_all, length-ordered}
-use Rattle.gd_events.specs.declared.op.Op.{Op}
+use Rattle.gd_events.specs.Ops.{Op}
 use Rattle.gd_events.specs.Events.{Event}
 use Rattle.gd_events.specs.Ordered.{ordered}
 use Rattle.gd_history.specs.Entries.{all_held, events_of, AllOf}
@@ -16,7 +17,7 @@ use Rattle.gd_history.specs.Histories.{HistoryValue}
 use Rattle.gd_history.specs.Holding.{Holds, Entered, Trimmed}
 use Rattle.gd_history.specs.Orders.{later_than}
 use Rattle.gd_history.proofs.Holding.{seen-every, seen-later, seen-document, seen-entered, Holds-trimmed}
-use Rattle.gd_model.specs.declared.before.Before.{Before}
+use Rattle.gd_model.specs.Undoing.{Before}
 use Rattle.gd_model.specs.Arrivals.{drawn, all_drawn, outcome_of, are_independent, is_covered}
 use Rattle.gd_model.specs.Board.{Board, apply_all, listed}
 use Rattle.gd_protocol.proofs.Drawn.{every-ordered}

@@ -4,14 +4,15 @@ use Rattle.std.specs.FinMap as map_of
 use Rattle.std.specs.List.{AllByRecursion}
 use Rattle.gd_base.specs.Sites.{is_site}
 use Rattle.gd_base.specs.declared.ranges.TheConstants.{EVENTS_OF_A_SITE, SITES}
-use Rattle.gd_canvas.specs.Slots.{Slots, board_of}
+use Rattle.gd_canvas.specs.Slots.{Slots}
+use Rattle.gd_slots.specs.Slots.{board_of}
 use Rattle.gd_drawing.specs.Rules.{drawing_rules}
-use Rattle.gd_events.specs.declared.op.Op.{Op}
+use Rattle.gd_events.specs.Ops.{Op}
 use Rattle.gd_events.specs.Ordered.{ordered}
 use Rattle.gd_history.specs.Histories.{HistoryValue}
 use Rattle.gd_history.specs.Holding.{Holds}
 use Rattle.gd_model.specs.Arrivals.{all_drawn}
-use Rattle.gd_model.specs.declared.before.Before.{Before}
+use Rattle.gd_model.specs.Undoing.{Before}
 use Rattle.gd_reference.specs.PerSite.{least_of_others}
 use Rattle.gd_stable.specs.Heard.{HeardValue, IsHeard, of_site}
 use Rattle.gd_viewing.specs.SlowViewer.{SlowViewer, viewer_line}

@@ -2,7 +2,7 @@
 ghost use Rattle.std.specs.Prelude.{◌≡◌, ◌≤◌, length, IfOk};
 ghost use Rattle.std.specs.FinMap as map_of;
 ghost use Rattle.gd_base.specs.declared.ranges.TheConstants.{SITES};
-ghost use Rattle.gd_canvas.specs.Slots.{board_of};
+ghost use Rattle.gd_slots.specs.Slots.{board_of};
 ghost use Rattle.gd_snapshots.specs.Snapshots.{IsSnapshot};
 ghost use Rattle.gd_viewer.specs.Opening.{Hears, Rise};
 

@@ -218,7 +218,7 @@ view_all_taken slow v fresh (f ∷ fs) frames h =
 pub view_shown : (slow : SlowSite) (v : SlowViewer) (fresh : List Event) → IsViewOf slow v fresh → viewed v ≡ picture (slow.held ++ fresh)
 view_shown slow v fresh h =
     ap (λ (l : List Event). listed (apply_all (ordered l) v.base)) h.held ∙ ap (λ (b : Board). listed (apply_all (ordered (kept slow ++ fresh)) b)) h.base
-    ∙ shown_with slow fresh h.above h.distinct
+    ∙ shown_with slow fresh h.above
 
 pub view_outcome : (slow : SlowSite) (v : SlowViewer) (fresh : List Event) (e : Event) → IsViewOf slow v fresh → line slow < e.stamp.clock → outcome_of v.held e ≡ outcome_of (slow.held ++ fresh) e
 view_outcome slow v fresh e h above =

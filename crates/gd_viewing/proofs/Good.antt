@@ -1,5 +1,5 @@
 -- The snapshot of a well site is good.
-use Rattle.std.proofs.Common.{◌≡◌, ℕ, zero, suc, ◌+◌, ◌-◌, ◌<◌, ◌≤◌, min, get_or, Bool, true, false, ◌&&◌, List, [], ◌∷◌, ◌++◌, length, filter, Option, Some, None, Contains, refl, sym, ap, ◌∙◌, subst, arith, nat_le, nat_lt, ◌==◌, le-leb, length-append}
+use Rattle.std.proofs.Common.{◌≡◌, ℕ, zero, suc, ◌+◌, ◌-◌, ◌<◌, ◌≤◌, get_or, true, List, [], ◌∷◌, length, filter, Option, Some, None, Contains, refl, ap, ◌∙◌, arith, ◌==◌, le-leb, length-append}
 use Rattle.std.proofs.lemmas.Bool.{and_from, cond_both, leb-true}
 use Rattle.std.specs.FinMap as map_of
 use Rattle.std.specs.List.{AllByRecursion as Every}
@@ -7,7 +7,7 @@ use Rattle.gd_base.specs.Sites.{is_site}
 use Rattle.gd_base.specs.Stamps.{Stamp, stamp_cmp, is_before}
 use Rattle.gd_base.specs.declared.ranges.TheConstants.{CLOCK_LIMIT}
 use Rattle.gd_base.proofs.Lists.{Every-weaker}
-use Rattle.gd_base.proofs.SiteLemmas.{is_site-bounds, is_site-within}
+use Rattle.gd_base.proofs.SiteLemmas.{is_site-bounds}
 use Rattle.gd_drawing.proofs.Sizes.{len-apply_all, length-ordered}
 use Rattle.gd_events.specs.Events.{Event}
 use Rattle.gd_events.specs.Ordered.{ordered}
@@ -30,7 +30,7 @@ use Rattle.gd_viewing.proofs.Lists.{Every-filter, every-passing}
 use Rattle.gd_viewing.proofs.Rising.{AreRising, filtered_rise, ordered_rise}
 use Rattle.gd_viewing.proofs.Sides.{is_high, is_low, split}
 use Rattle.gd_viewing.proofs.Tallies.{all_counted, few_made, numbered_within, total-known}
-use Rattle.gd_viewing.specs.Handing.{base_of, known_behind, known_by, snapshot_of, sure_of}
+use Rattle.gd_viewing.specs.Handing.{base_of, known_behind, known_by, snapshot_of}
 
 -- ---- the line of a list of what is known
 

@@ -1,12 +1,12 @@
 -- What a viewer shows: the board up to the line with the events above it applied is the board of all of them.
-use Rattle.std.proofs.Common.{◌≡◌, ◌<◌, List, ◌++◌, filter, refl, sym, ap, ◌∙◌, IsTrue}
+use Rattle.std.proofs.Common.{◌≡◌, ◌<◌, List, ◌++◌, filter, refl, sym, ap, ◌∙◌}
 use Rattle.std.proofs.lemmas.List.Sums.{fold-append}
 use Rattle.std.specs.FinMap as map_of
 use Rattle.std.specs.List.{AllByRecursion as Every}
 use Rattle.gd_base.proofs.StampLemmas.{stamp_cmp-IsAntisymmetric, stamp_cmp-total}
 use Rattle.gd_drawing.proofs.InOrder.{stacking}
 use Rattle.gd_events.specs.Events.{Event}
-use Rattle.gd_events.specs.Ordered.{are_distinct, ordered}
+use Rattle.gd_events.specs.Ordered.{ordered}
 use Rattle.gd_events.proofs.OrderLemmas.{InOrder-ordered}
 use Rattle.gd_model.specs.Board.{Board, apply_all, board, listed}
 use Rattle.gd_model.specs.Drawing.{picture}
@@ -37,6 +37,6 @@ board_with slow es above =
     ∙ sym (fold-append _ map_of.empty (filter (is_low n) all) (filter (is_high n) all))
     ∙ ap (λ (l : List Event). apply_all l map_of.empty) (sym (split n all (InOrder-ordered (slow.held ++ es))))
 
-pub shown_with : (slow : SlowSite) (es : List Event) → Every (λ e. line slow < e.stamp.clock) es → IsTrue (are_distinct (slow.held ++ es))
+pub shown_with : (slow : SlowSite) (es : List Event) → Every (λ e. line slow < e.stamp.clock) es
     → listed (apply_all (ordered (kept slow ++ es)) (base_of slow)) ≡ picture (slow.held ++ es)
-shown_with slow es above distinct = ap listed (board_with slow es above) ∙ stacking (slow.held ++ es) distinct
+shown_with slow es above = ap listed (board_with slow es above) ∙ stacking (slow.held ++ es)

@@ -17,7 +17,7 @@ use Rattle.gd_effects.specs.Effects.{Effect}
 use Rattle.gd_effects.specs.Outside.{outside}
 use Rattle.gd_effects.specs.Prints.{Prints, PrintsInSteps}
 use Rattle.gd_events.specs.Events.{Event}
-use Rattle.gd_events.specs.declared.op.Op.{Op}
+use Rattle.gd_events.specs.Ops.{Op}
 use Rattle.gd_grammar.specs.FrameBytes.{AreInTurn, Frame, IsFrame, last_of}
 use Rattle.gd_grammar.specs.Reading.{AllFollow}
 use Rattle.gd_grammar.specs.declared.frame.Head.{Head}

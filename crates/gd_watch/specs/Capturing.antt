@@ -1,5 +1,5 @@
 -- The steps that a site of a log and its snapshot take.
-use Rattle.std.specs.Prelude.{ℕ, ◌+◌, List, ◌++◌, length, replicate}
+use Rattle.std.specs.Prelude.{ℕ, List, ◌++◌, length, replicate}
 use Rattle.gd_model.specs.Arrivals.{costs}
 use Rattle.gd_reference.specs.SlowSite.{SlowSite, kept}
 

@@ -1,11 +1,13 @@
 -- The line of a churn's step by the number that was drawn for it.
 use Rattle.std.proofs.Common.{◌≡◌, ℕ, ◌<◌, ◌≤◌, List, [], ◌∷◌, length, sym, ◌∙◌, ap, arith}
 use Rattle.std.proofs.lemmas.Bool.Decides.{nat_tests}
-use Rattle.std.specs.Prelude.{None}
+use Rattle.std.specs.Prelude.{None, true}
 use Rattle.rand_pcg.specs.Lcg.{Lcg}
 use Rattle.gd_base.specs.Stamps.{Stamp}
-use Rattle.gd_base.specs.declared.edit.Edit.{Edit}
-use Rattle.gd_base.specs.declared.edit.Edit.TheVariants as wish
+use Rattle.gd_base.specs.declared.content.Content.TheVariants.{ToFlag, ToRank}
+use Rattle.gd_base.specs.declared.content.Side.TheVariants.{Top}
+use Rattle.gd_base.specs.declared.op.Op.TheVariants as wish
+use Rattle.gd_lines.specs.Edits.{Edit}
 use Rattle.gd_worlds.specs.Churn.{Draws, asks, asks_of, change, create, deliver, group, known, line_for, move, send, stroke}
 use Rattle.gd_world.specs.Drawn.{IsOfOne, edit_at}
 
@@ -24,7 +26,7 @@ module _ (made : List Stamp) (mails site number : ℕ) where
   unfolding line_for
   line_deletes e = rw e
 
-  pub line_raises : number ≡ 8 → line_for made mails site number ≡ asks_of made site (change wish.Raise)
+  pub line_raises : number ≡ 8 → line_for made mails site number ≡ asks_of made site (change (λ id. wish.Set id (ToRank Top)))
   unfolding line_for
   line_raises e = rw e
 
@@ -32,7 +34,7 @@ module _ (made : List Stamp) (mails site number : ℕ) where
   unfolding line_for
   line_groups e = rw e
 
-  pub line_ungroups : number ≡ 10 → line_for made mails site number ≡ asks_of made site (change wish.Ungroup)
+  pub line_ungroups : number ≡ 10 → line_for made mails site number ≡ asks_of made site (change (λ id. wish.Set id (ToFlag true)))
   unfolding line_for
   line_ungroups e = rw e
 

@@ -8,13 +8,13 @@ use Rattle.gd_answers.proofs.Said.{next_said}
 use Rattle.gd_answers.specs.Noting.{noted_reply}
 use Rattle.gd_answers.specs.Refusals.{refused_edit, refused_undo}
 use Rattle.gd_base.specs.Stamps.{Stamp}
-use Rattle.gd_base.specs.declared.edit.Edit.{Edit}
 use Rattle.gd_base.specs.declared.note.Note.{Note}
 use Rattle.gd_base.specs.declared.refusal.EditRefusal.{EditRefusal}
 use Rattle.gd_base.specs.declared.refusal.Refusal.{Refusal}
 use Rattle.gd_base.specs.declared.site_status.SiteStatus.{SiteStatus}
 use Rattle.gd_effects.specs.Effects.{Work, cost}
 use Rattle.gd_events.specs.Events.{Event}
+use Rattle.gd_lines.specs.Edits.{Edit}
 use Rattle.gd_lines.specs.Refusals.{edit_refusal}
 use Rattle.gd_lines.specs.declared.command.Command.{Command}
 use Rattle.gd_lines.specs.declared.command.Command.TheVariants as command

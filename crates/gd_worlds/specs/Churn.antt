@@ -16,11 +16,12 @@ use Rattle.rand_core.specs.Pcg32Seed.{pcg32_seed}
 use Rattle.rand_pcg.specs.Lcg.{Lcg}
 use Rattle.rand_pcg.specs.Pcg.{pcg32, pcg32_of_seed}
 use Rattle.gd_base.specs.Stamps.{Stamp}
-use Rattle.gd_base.specs.declared.edit.Edit.{Edit}
-use Rattle.gd_base.specs.declared.edit.Edit.TheVariants as wish
+use Rattle.gd_base.specs.declared.content.Content.TheVariants.{ToPlace, ToStroke, ToFlag, ToRank}
+use Rattle.gd_base.specs.declared.content.Side.TheVariants.{Top}
+use Rattle.gd_base.specs.declared.op.Op.TheVariants.{Create, Delete, Set, Group}
 use Rattle.gd_base.specs.declared.shape.Shape.TheVariants.{Rect}
-use Rattle.gd_base.specs.declared.style.Style.TheVariants.{Stroke}
 use Rattle.gd_effects.specs.Effects.{Effect}
+use Rattle.gd_lines.specs.Edits.{Edit}
 use Rattle.gd_lines.specs.declared.command.Command.TheVariants as command
 use Rattle.gd_lines.specs.declared.command.ScriptLine.{ScriptLine}
 use Rattle.gd_lines.specs.declared.command.ScriptLine.TheVariants as script
@@ -65,7 +66,7 @@ abbrev pub create : Draws Edit
 create = do
   x ← below 1000
   y ← below 1000
-  known (wish.Create Rect (pos x) (pos y) (pos 10) (pos 10) [])
+  known (Create Rect (pos x) (pos y) (pos 10) (pos 10) [])
 
 -- edits of what a pick gives
 abbrev pub change : (Stamp → Edit) → Draws Stamp → Draws Edit
@@ -78,19 +79,19 @@ move picked = do
   id ← picked
   x ← below 1000
   y ← below 1000
-  known (wish.Move id (pos x) (pos y))
+  known (Set id (ToPlace (pos x) (pos y)))
 
 abbrev pub group : Draws Stamp → Draws Edit
 group picked = do
   id ← picked
   other ← picked
-  known (wish.Group (id ∷ other ∷ []))
+  known (Group (id ∷ other ∷ []))
 
 abbrev pub stroke : Draws Stamp → Draws Edit
 stroke picked = do
   id ← picked
   colour ← below 16777216
-  known (wish.Restyle id (Stroke colour))
+  known (Set id (ToStroke colour))
 
 -- a site is asked for an edit
 abbrev pub asks : ℕ → Draws Edit → Draws (Option ScriptLine)
@@ -121,10 +122,10 @@ unfoldable pub line_for : List Stamp → ℕ → ℕ → ℕ → Draws (Option S
 line_for made mails site number =
     if nat_lt number 4 then asks site create
     else if nat_lt number 7 then asks_of made site move
-    else if number == 7 then asks_of made site (change wish.Delete)
-    else if number == 8 then asks_of made site (change wish.Raise)
+    else if number == 7 then asks_of made site (change Delete)
+    else if number == 8 then asks_of made site (change (λ id. Set id (ToRank Top)))
     else if number == 9 then asks_of made site group
-    else if number == 10 then asks_of made site (change wish.Ungroup)
+    else if number == 10 then asks_of made site (change (λ id. Set id (ToFlag true)))
     else if number == 11 then asks_of made site stroke
     else if nat_lt number 14 then send site
     else deliver mails
@@ -183,8 +184,8 @@ with_reply c (reply.Delivered number) = record c { delivered = c.delivered + 1 }
 with_reply c other = record c { arrivals = with_arrival c.arrivals other }
 
 abbrev pub is_making : ScriptLine → Bool
-is_making (script.At site (command.Edit (wish.Create kind x y w h label))) = true
-is_making (script.At site (command.Edit (wish.Group ids))) = true
+is_making (script.At site (command.Edit (Create kind x y w h label))) = true
+is_making (script.At site (command.Edit (Group ids))) = true
 is_making other = false
 
 abbrev pub done_id : Reply → List Stamp

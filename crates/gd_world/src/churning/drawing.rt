@@ -6,7 +6,7 @@ ghost use Rattle.gd_lines.specs.InRange.{IsEdit};
 ghost use Rattle.gd_world.specs.Drawn.{IsOfOne, IsPlayed, edit_at};
 ghost use Rattle.gd_worlds.specs.Churn.{below, create, deliver, group, line_for, move, send, step, stroke};
 
-use gd_base::{COLOUR_LIMIT, Edit, Ids, Label, Shape, Stamp, Style};
+use gd_base::{COLOUR_LIMIT, Content, Edit, Ids, Label, Shape, Side, Stamp};
 use gd_lines::{Command, ScriptLine};
 use rand_core::utils::NextWord;
 use rand_pcg::Pcg32;
@@ -97,12 +97,14 @@ fn edit_of_one(generator: &mut Pcg32, made: &[Stamp], number: u32) -> Edit
         7 => Edit::Delete {
             id: pick(generator, made),
         },
-        8 => Edit::Raise {
+        8 => Edit::Set {
             id: pick(generator, made),
+            content: Content::ToRank(Side::Top),
         },
         9 => group(generator, made),
-        10 => Edit::Ungroup {
+        10 => Edit::Set {
             id: pick(generator, made),
+            content: Content::ToFlag(true),
         },
         11 => stroke(generator, made),
         _ => move_to(generator, made),
@@ -135,7 +137,10 @@ fn move_to(generator: &mut Pcg32, made: &[Stamp]) -> Edit
     let id = pick(generator, made);
     let x = place(generator);
     let y = place(generator);
-    Edit::Move { id, x, y }
+    Edit::Set {
+        id,
+        content: Content::ToPlace { x, y },
+    }
 }
 
 /// The group of two of these, perhaps of one and the same.
@@ -150,7 +155,7 @@ fn group(generator: &mut Pcg32, made: &[Stamp]) -> Edit
     let mut ids = Ids::new();
     ids.push(id);
     ids.push(other);
-    Edit::Group { ids }
+    Edit::Group { members: ids }
 }
 
 fn stroke(generator: &mut Pcg32, made: &[Stamp]) -> Edit
@@ -161,9 +166,9 @@ fn stroke(generator: &mut Pcg32, made: &[Stamp]) -> Edit
 {
     let id = pick(generator, made);
     let colour = below(generator, COLOUR_LIMIT + 1);
-    Edit::Restyle {
+    Edit::Set {
         id,
-        style: Style::Stroke(colour),
+        content: Content::ToStroke(colour),
     }
 }
 

@@ -1,8 +1,9 @@
 use Rattle.std.proofs.Common.{◌≡◌, ◌+◌, ◌-◌, ◌∙◌, ap, arith}
 use Rattle.std.specs.Prelude.{IsTrue}
 use Rattle.gd_base.proofs.Lists.{Every-weaker}
-use Rattle.gd_canvas.specs.Slots.{board_of, is_admitted}
-use Rattle.gd_events.specs.declared.op.Op.{Op}
+use Rattle.gd_canvas.specs.Slots.{is_admitted}
+use Rattle.gd_slots.specs.Slots.{board_of}
+use Rattle.gd_events.specs.Ops.{Op}
 use Rattle.gd_history.proofs.Reworking.{admitted_here}
 use Rattle.gd_history.specs.Entries.{events_of}
 use Rattle.gd_repair.specs.Repair.{Stamped}

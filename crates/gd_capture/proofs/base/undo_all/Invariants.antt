@@ -1,6 +1,7 @@
 use Rattle.std.proofs.Common.{◌≡◌, ◌+◌, ◌≤◌, length}
 use Rattle.std.specs.Prelude.{IsTrue}
-use Rattle.gd_canvas.specs.Slots.{board_of, is_admitted}
+use Rattle.gd_canvas.specs.Slots.{is_admitted}
+use Rattle.gd_slots.specs.Slots.{board_of}
 use Rattle.gd_history.specs.Entries.{AllOf, events_of}
 use Rattle.gd_capture.proofs.Undoing.{undone_to}
 use Rattle.gd_capture.proofs.base.undo_all.Given as goal

@@ -1,5 +1,5 @@
 use Rattle.std.proofs.Common.{◌∙◌, ap, arith, length, subst, sym}
-use Rattle.gd_canvas.specs.Slots.{board_of}
+use Rattle.gd_slots.specs.Slots.{board_of}
 use Rattle.gd_capture.proofs.Basing.{objects_are}
 use Rattle.gd_capture.proofs.Capturing.{captured, entries_count, on_err}
 use Rattle.gd_site.proofs.Stands.{History}

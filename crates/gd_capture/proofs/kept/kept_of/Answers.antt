@@ -3,7 +3,7 @@ use Rattle.std.specs.Prelude.{IfOk}
 use Rattle.gd_base.specs.Sites.{IsSite}
 use Rattle.gd_events.specs.Events.{Event}
 use Rattle.gd_events.specs.Sound.{IsOp}
-use Rattle.gd_events.specs.declared.op.Op.{Op}
+use Rattle.gd_events.specs.Ops.{Op}
 use Rattle.gd_history.specs.Entries.{AllOf, events_of}
 use Rattle.gd_model.specs.Arrivals.{all_drawn}
 use Rattle.gd_reference.specs.SlowSite.{kept}

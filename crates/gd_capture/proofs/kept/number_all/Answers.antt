@@ -3,7 +3,7 @@ use Rattle.gd_base.specs.Sites.{IsSite}
 use Rattle.gd_base.specs.Stamps.{Stamp}
 use Rattle.gd_events.specs.Events.{Event}
 use Rattle.gd_events.specs.Sound.{IsOp}
-use Rattle.gd_events.specs.declared.op.Op.{Op}
+use Rattle.gd_events.specs.Ops.{Op}
 use Rattle.gd_history.proofs.Reworking.{admitted_as, admitted_here}
 use Rattle.gd_repair.specs.Repair.{Stamped}
 use Rattle.gd_stable.specs.Heard.{of_site, put_at}

@@ -1,6 +1,6 @@
 use Rattle.std.proofs.Common.{◌++◌, ◌∙◌}
 use Rattle.std.specs.List.{filter_map}
-use Rattle.gd_canvas.specs.Slots.{board_of}
+use Rattle.gd_slots.specs.Slots.{board_of}
 use Rattle.gd_capture.specs.Placing.{placed_in}
 use Rattle.gd_capture.proofs.Placing.{placed_by_ids}
 use Rattle.gd_capture.proofs.placed.placed_of.Goals as goal

@@ -1,7 +1,7 @@
 use Rattle.std.proofs.Common.{◌≡◌, ◌++◌, length}
 use Rattle.std.specs.FinMap as map_of
 use Rattle.std.specs.List.{filter_map}
-use Rattle.gd_canvas.specs.Slots.{board_of}
+use Rattle.gd_slots.specs.Slots.{board_of}
 use Rattle.gd_capture.specs.Placing.{placed_in}
 use Rattle.gd_capture.proofs.placed.placed_of.Given as goal
 

@@ -1,7 +1,7 @@
 use Rattle.std.proofs.Common.{◌∙◌, ◌+◌, ◌++◌, ◌∷◌, [], List, Option, sym, ap, drop, arith}
 use Rattle.std.specs.Prelude.{option_map}
 use Rattle.gd_base.specs.Stamps.{Stamp}
-use Rattle.gd_canvas.specs.Slots.{board_of}
+use Rattle.gd_slots.specs.Slots.{board_of}
 use Rattle.gd_model.specs.Board.{listed}
 use Rattle.gd_reference.specs.Judging.{Target, target, targets}
 use Rattle.gd_judging.specs.declared.groups.Named.{Named}

@@ -1,6 +1,6 @@
 use Rattle.std.proofs.Common.{◌≡◌, drop, map, length}
 use Rattle.std.specs.Prelude.{option_map}
-use Rattle.gd_canvas.specs.Slots.{board_of}
+use Rattle.gd_slots.specs.Slots.{board_of}
 use Rattle.gd_model.specs.Board.{listed}
 use Rattle.gd_reference.specs.Judging.{target, targets}
 use Rattle.gd_judging.specs.Targets.{as_named}

@@ -1,6 +1,6 @@
 use Rattle.std.proofs.Common.{◌∙◌, List, ap}
 use Rattle.gd_base.specs.Stamps.{Stamp}
-use Rattle.gd_canvas.specs.Slots.{board_of}
+use Rattle.gd_slots.specs.Slots.{board_of}
 use Rattle.gd_model.specs.Board.{listed}
 use Rattle.gd_reference.specs.Judging.{target, targets, with_targets}
 use Rattle.gd_judging.proofs.judging.judge.Goals as goal

@@ -5,7 +5,7 @@ use Rattle.gd_history.specs.Holding.{Holds}
 use Rattle.gd_model.specs.Arrivals.{all_drawn, costs}
 use Rattle.gd_model.specs.Board.{Board}
 use Rattle.gd_drawing.specs.Rules.{drawing_rules}
-use Rattle.gd_canvas.specs.Slots.{board_of}
+use Rattle.gd_slots.specs.Slots.{board_of}
 use Rattle.gd_arriving.proofs.ArrivalLemmas.{paid_none}
 use Rattle.gd_log.proofs.arriving.arrived_empty.Goals as goal
 

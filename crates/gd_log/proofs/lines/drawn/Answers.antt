@@ -3,7 +3,7 @@ use Rattle.std.specs.FinMap as map_of
 use Rattle.gd_model.specs.Board.{Board, board, listed}
 use Rattle.gd_model.specs.Shown.{items}
 use Rattle.gd_drawing.proofs.Sizes.{board-len}
-use Rattle.gd_canvas.specs.Slots.{board_of}
+use Rattle.gd_slots.specs.Slots.{board_of}
 use Rattle.gd_log.proofs.ReplayLemmas.{drawing_of, shown-items}
 use Rattle.gd_log.proofs.lines.drawn.Goals as goal
 
@@ -14,4 +14,4 @@ of-requires g c =
 
 pub returns-clause-picture : goal.returns-clause-picture
 returns-clause-picture g c =
-    c.in_ok-picture.ensures ∙ ap (λ (b : Board). items (listed b)) (ap board_of c.document.ensures ∙ drawing_of c.args.events _ c.in_ok-history.ensures.history) ∙ shown-items c.args.events c.requires.distinct
+    c.in_ok-picture.ensures ∙ ap (λ (b : Board). items (listed b)) (ap board_of c.document.ensures ∙ drawing_of c.args.events _ c.in_ok-history.ensures.history) ∙ shown-items c.args.events

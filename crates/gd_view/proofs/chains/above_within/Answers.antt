@@ -1,7 +1,6 @@
 use Rattle.std.proofs.Common.{◌≡◌, true, rules, ◌∙◌, sym, ap, subst, arith, ◌-◌, ◌+◌}
 use Rattle.std.proofs.lemmas.Int.{ints}
-use Rattle.std.specs.Prelude.{option_map, option_copied, is_some}
-use Rattle.gd_model.specs.Objects.{body}
+use Rattle.std.specs.Prelude.{option_copied, is_some}
 use Rattle.gd_view.specs.Chains.{first_parent, with_link, Within}
 use Rattle.gd_view.proofs.ChainLemmas.{start, step, lost, cut}
 use Rattle.gd_view.proofs.chains.above_within.Goals as goal
@@ -13,16 +12,16 @@ loop-turn-init c =
 pub returns-in_default-group_at-clause-above : goal.returns-in_default-group_at-clause-above
 returns-in_default-group_at-clause-above c =
     lost c.loop-turn.next c.loop-turn.invariant.0 c.in-Some.link (c.args.most - (c.loop-turn.turn + 1)) c.in-Some.is
-    (ap (λ x. option_map body (option_copied x)) (sym c.in_default-group_at.is) ∙ c.group_at.ensures)
+    (ap option_copied (sym c.in_default-group_at.is) ∙ c.group_at.ensures)
     (omega (arith, c.loop-turn-test.true))
 
 pub loop-turn-preserved : goal.loop-turn-preserved
 loop-turn-preserved c = (
   step c.loop-turn.next c.loop-turn.invariant.0 c.in-Some.link c.in-Some-group_at.group.now (c.args.most - (c.loop-turn.turn + 1)) c.with_link-sum.result c.in-Some.is
-      (ap (λ x. option_map body (option_copied x)) (sym c.in-Some-group_at.is) ∙ c.group_at.ensures)
+      (ap option_copied (sym c.in-Some-group_at.is) ∙ c.group_at.ensures)
       (omega (arith, c.loop-turn-test.true))
       (c.with_link-sum.ensures.sum
-      ∙ ap (λ p. with_link c.loop-turn.sum p c.in-Some.link (body c.in-Some-group_at.group.now)) (c.first_parent-parent.ensures ∙ ap (first_parent c.loop-turn.sum.parent) c.parent_by.ensures)),
+      ∙ ap (λ p. with_link c.loop-turn.sum p c.in-Some.link c.in-Some-group_at.group.now) (c.first_parent-parent.ensures ∙ ap (first_parent c.loop-turn.sum.parent) c.parent_by.ensures)),
   subst (λ n. Within n c.with_link-sum.result) (omega arith) c.with_link-sum.ensures.within,
 )
 

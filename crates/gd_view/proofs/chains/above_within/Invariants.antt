@@ -1,6 +1,6 @@
 use Rattle.std.proofs.Common.{◌-◌}
 use Rattle.gd_model.specs.Board.{listed}
-use Rattle.gd_canvas.specs.Slots.{board_of}
+use Rattle.gd_slots.specs.Slots.{board_of}
 use Rattle.gd_view.specs.Chains.{Within}
 use Rattle.gd_view.proofs.ChainLemmas.{Followed}
 use Rattle.gd_view.proofs.chains.above_within.Given as goal

@@ -1,6 +1,6 @@
 use Rattle.std.proofs.Common.{◌≡◌, ◌-◌, suc, drop, ap, ◌∙◌, arith}
 use Rattle.std.specs.FinMap as map_of
-use Rattle.gd_canvas.specs.Slots.{board_of}
+use Rattle.gd_slots.specs.Slots.{board_of}
 use Rattle.gd_view.specs.Sums.{with_id}
 use Rattle.gd_view.proofs.LevelLemmas.{ids_gathered}
 use Rattle.gd_view.proofs.ids.ids.Goals as goal

@@ -2,7 +2,7 @@ use Rattle.std.proofs.Common.{◌≡◌, ◌-◌, suc, drop, ap, ◌∙◌, arit
 use Rattle.std.specs.FinMap as map_of
 use Rattle.gd_view.specs.Levels.{with_level}
 use Rattle.gd_model.specs.Board.{stack}
-use Rattle.gd_canvas.specs.Slots.{board_of}
+use Rattle.gd_slots.specs.Slots.{board_of}
 use Rattle.gd_view.proofs.LevelLemmas.{levels_gathered}
 use Rattle.gd_view.proofs.levels.levels.Goals as goal
 

@@ -1,7 +1,7 @@
 use Rattle.std.proofs.Common.{◌≡◌, drop}
 use Rattle.std.specs.FinMap as map_of
 use Rattle.gd_model.specs.Board.{stack}
-use Rattle.gd_canvas.specs.Slots.{board_of}
+use Rattle.gd_slots.specs.Slots.{board_of}
 use Rattle.gd_view.proofs.levels.levels.Given as goal
 
 abbrev pub invariant-loop-place : goal.invariant-loop-place

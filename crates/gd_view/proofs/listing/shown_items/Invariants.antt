@@ -2,7 +2,7 @@ use Rattle.std.proofs.Common.{◌≡◌, ◌++◌, length}
 use Rattle.std.specs.List.{filter_map}
 use Rattle.gd_model.specs.Board.{listed}
 use Rattle.gd_model.specs.Shown.{shown_items}
-use Rattle.gd_canvas.specs.Slots.{board_of}
+use Rattle.gd_slots.specs.Slots.{board_of}
 use Rattle.gd_view.proofs.LevelLemmas.{item_at_level}
 use Rattle.gd_view.proofs.listing.shown_items.Given as goal
 

@@ -1,5 +1,5 @@
 use Rattle.std.proofs.Common.{length}
-use Rattle.gd_canvas.specs.Slots.{board_of}
+use Rattle.gd_slots.specs.Slots.{board_of}
 use Rattle.gd_viewer.proofs.Parts.{Placing}
 use Rattle.gd_viewer.proofs.opening.canvas_of.Given as goal
 

@@ -1,9 +1,10 @@
 use Rattle.std.proofs.Common.{◌∙◌, List, ◌∷◌, take, ap, ap₂}
 use Rattle.gd_base.specs.Stamps.{Stamp}
-use Rattle.gd_canvas.specs.Slots.{Slots, board_of}
+use Rattle.gd_canvas.specs.Slots.{Slots}
 use Rattle.gd_model.specs.Board.{listed}
 use Rattle.gd_reference.specs.Backs.{Back}
 use Rattle.gd_reference.specs.TakeBack.{IsBack, back_over}
+use Rattle.gd_slots.specs.Slots.{board_of}
 use Rattle.gd_takeback.specs.Backs.{as_back}
 use Rattle.gd_takeback.proofs.Ranges.{over-ranged, Every-take}
 use Rattle.gd_takeback.proofs.Taking.{edit_stands}

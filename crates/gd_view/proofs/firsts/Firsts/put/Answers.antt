@@ -2,7 +2,7 @@ use Rattle.std.proofs.Common.{◌∙◌, sym, ap, refl, Bool}
 use Rattle.indexmap.specs.IndexMap as index_map
 use Rattle.gd_base.specs.Stamps.{Stamp}
 use Rattle.gd_view.specs.Walk.{first_in}
-use Rattle.gd_canvas.proofs.SlotLemmas.{same_is}
+use Rattle.gd_slots.proofs.SlotLemmas.{same_is}
 use Rattle.gd_view.proofs.WalkLemmas.{put_in_group}
 use Rattle.gd_view.proofs.firsts.Firsts.put.Goals as goal
 

@@ -2,7 +2,7 @@ use Rattle.std.proofs.Common.{◌∙◌, ap, Bool}
 use Rattle.std.specs.Option.{option_flatten}
 use Rattle.indexmap.specs.IndexMap as index_map
 use Rattle.gd_base.specs.Stamps.{Stamp}
-use Rattle.gd_canvas.proofs.SlotLemmas.{same_is}
+use Rattle.gd_slots.proofs.SlotLemmas.{same_is}
 use Rattle.gd_view.proofs.known.Known.get.Goals as goal
 
 pub returns-in-Some : goal.returns-in-Some

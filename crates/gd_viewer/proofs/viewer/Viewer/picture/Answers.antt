@@ -1,6 +1,7 @@
 use Rattle.std.proofs.Common.{◌≡◌, ◌∙◌, ap, subst}
 use Rattle.std.specs.Prelude.{IfOk}
-use Rattle.gd_canvas.specs.Slots.{Slots, board_of}
+use Rattle.gd_canvas.specs.Slots.{Slots}
+use Rattle.gd_slots.specs.Slots.{board_of}
 use Rattle.gd_model.specs.Board.{listed}
 use Rattle.gd_model.specs.Drawing.{Drawing}
 use Rattle.gd_model.specs.Shown.{items}

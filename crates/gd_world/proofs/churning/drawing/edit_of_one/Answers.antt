@@ -1,5 +1,7 @@
-use Rattle.std.proofs.Common.{arith}
-use Rattle.gd_base.specs.declared.edit.Edit.TheVariants as wish
+use Rattle.std.proofs.Common.{true, arith}
+use Rattle.gd_base.specs.declared.content.Content.TheVariants.{ToFlag, ToRank}
+use Rattle.gd_base.specs.declared.content.Side.TheVariants.{Top}
+use Rattle.gd_base.specs.declared.op.Op.TheVariants as wish
 use Rattle.gd_world.proofs.DrawnLines.{changed, line_deletes, line_groups, line_moves, line_of_one, line_raises, line_strokes, line_ungroups}
 use Rattle.gd_worlds.specs.Churn.{change, group, move, stroke}
 use Rattle.gd_world.proofs.churning.drawing.edit_of_one.Goals as goal
@@ -10,7 +12,7 @@ returns-in-7-clause-drawn c mails site =
 
 pub returns-in-8-clause-drawn : goal.returns-in-8-clause-drawn
 returns-in-8-clause-drawn c mails site =
-    line_of_one _ _ _ mails site _ (change wish.Raise) _ (line_raises _ mails site _ c.in-8.is) (changed _ _ wish.Raise _ _ c.pick-in-8.ensures.drawn)
+    line_of_one _ _ _ mails site _ (change (λ id. wish.Set id (ToRank Top))) _ (line_raises _ mails site _ c.in-8.is) (changed _ _ (λ id. wish.Set id (ToRank Top)) _ _ c.pick-in-8.ensures.drawn)
 
 pub returns-in-9-clause-drawn : goal.returns-in-9-clause-drawn
 returns-in-9-clause-drawn c mails site =
@@ -18,7 +20,7 @@ returns-in-9-clause-drawn c mails site =
 
 pub returns-in-10-clause-drawn : goal.returns-in-10-clause-drawn
 returns-in-10-clause-drawn c mails site =
-    line_of_one _ _ _ mails site _ (change wish.Ungroup) _ (line_ungroups _ mails site _ c.in-10.is) (changed _ _ wish.Ungroup _ _ c.pick-in-10.ensures.drawn)
+    line_of_one _ _ _ mails site _ (change (λ id. wish.Set id (ToFlag true))) _ (line_ungroups _ mails site _ c.in-10.is) (changed _ _ (λ id. wish.Set id (ToFlag true)) _ _ c.pick-in-10.ensures.drawn)
 
 pub returns-in-11-clause-drawn : goal.returns-in-11-clause-drawn
 returns-in-11-clause-drawn c mails site =

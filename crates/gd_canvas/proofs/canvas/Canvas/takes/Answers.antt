@@ -1,0 +1,14 @@
+use Rattle.std.proofs.Common.{sym, ap, ◌∙◌}
+use Rattle.std.specs.Prelude.{is_some}
+use Rattle.gd_slots.specs.Slots.{board_of}
+use Rattle.gd_canvas.proofs.FormLemmas.{takes-tied, takes-kept}
+use Rattle.gd_canvas.proofs.canvas.Canvas.takes.Goals as goal
+
+pub returns-in-Some-clause-board : goal.returns-in-Some-clause-board
+returns-in-Some-clause-board c =
+    c.tie_all.ensures.board
+    ∙ takes-tied c.args.id c.args.ties.now (board_of c.args.self.now) (board_of c.take.new.self) (ap is_some (sym c.in-Some.ensures.object)) c.take.ensures.board
+
+pub returns-in-None-clause-board : goal.returns-in-None-clause-board
+returns-in-None-clause-board c =
+    takes-kept c.args.id c.args.ties.now (board_of c.args.self.now) (board_of c.take.new.self) (ap is_some (sym c.in-None.ensures.object)) c.take.ensures.board

@@ -1,0 +1,4 @@
+pub mod Lookups
+pub mod SlotLemmas
+pub mod AtLemmas
+pub mod CopyLemmas

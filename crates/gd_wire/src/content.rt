@@ -1,0 +1,121 @@
+//! What operations set.
+ghost use Rattle.std.specs.Prelude.{◌≡◌};
+ghost use Rattle.gd_base.specs.Contents.{content_map};
+ghost use Rattle.gd_base.specs.Results.{Gives};
+ghost use Rattle.gd_grammar.specs.EventBytes.{colour_at, fill_at, width_at};
+ghost use Rattle.gd_grammar.specs.OpBytes.{look_at, place_at, size_at};
+ghost use Rattle.gd_wire.specs.Packed.{said};
+
+use crate::bytes::Bytes;
+use gd_base::{
+    COLOUR_LIMIT, Content, FieldFault, FieldWhy, Label, PLACE_LIMIT, SIZE_LIMIT, Side, WIDTH_LIMIT,
+    map_content,
+};
+use std::convert::Infallible;
+
+/// A content that is no label.
+pub(crate) type SmallContent = Content<Infallible, Side>;
+
+/// The same as an operation has it.
+pub(crate) fn labelled(content: &SmallContent) -> Content<Label, Side>
+    ensures { result ≡ said content.now }
+{
+    map_content!(content, none => match *none {}, side => *side)
+}
+
+/// The same as a packed operation has it.
+pub(crate) fn box_labelled(content: &SmallContent) -> Content<Box<Label>, Side>
+    ensures { content_map (λ label. label.value) (λ side. side) result ≡ said content.now }
+{
+    map_content!(content, none => match *none {}, side => *side)
+}
+
+/// The word that stands for no fill.
+pub(crate) const NO_FILL: u32 = 0xFFFF_FFFF;
+
+impl<'a> Bytes<'a> {
+    #[tactic(auto, unfolding(gd_grammar::specs::OpBytes::place_at, gd_grammar::specs::Readers::steps))]
+    pub(crate) fn place(&mut self) -> Result<SmallContent, FieldFault>
+        ensures { Gives (λ c. (said c, self.new)) result (place_at self.old) }
+    {
+        let x = self.signed(PLACE_LIMIT)?;
+        let y = self.signed(PLACE_LIMIT)?;
+        Ok(Content::ToPlace { x, y })
+    }
+
+    #[tactic(auto, unfolding(gd_grammar::specs::OpBytes::size_at, gd_grammar::specs::Readers::steps))]
+    pub(crate) fn size(&mut self) -> Result<SmallContent, FieldFault>
+        ensures { Gives (λ c. (said c, self.new)) result (size_at self.old) }
+    {
+        let w = self.signed(SIZE_LIMIT)?;
+        let h = self.signed(SIZE_LIMIT)?;
+        Ok(Content::ToSize { w, h })
+    }
+
+    /// One part of a shape's look: which one, and its value.
+    #[tactic(auto, unfolding(gd_grammar::specs::OpBytes::look_at, gd_grammar::specs::Readers::steps))]
+    pub(crate) fn look(&mut self) -> Result<SmallContent, FieldFault>
+        ensures { Gives (λ c. (said c, self.new)) result (look_at self.old) }
+    {
+        let fault = self.fault(FieldWhy::Field);
+        match self.byte()? {
+            1 => {
+                let colour = self.colour()?;
+                Ok(Content::ToStroke(colour))
+            }
+            2 => {
+                let fill = self.fill()?;
+                Ok(Content::ToFill(fill))
+            }
+            3 => {
+                let width = self.width()?;
+                Ok(Content::ToWidth(width))
+            }
+            _ => Err(fault),
+        }
+    }
+
+    /// Reads a colour, in four bytes. `Short` where it isn't whole, and `Field` at its first byte where it is above
+    /// `COLOUR_LIMIT`.
+    #[tactic(auto, unfolding(gd_grammar::specs::EventBytes::colour_at))]
+    pub fn colour(&mut self) -> Result<u32, FieldFault>
+        ensures { Gives (λ x. (x, self.new)) result (colour_at self.old) }
+    {
+        let fault = self.fault(FieldWhy::Field);
+        let colour = self.word()?;
+        if colour > COLOUR_LIMIT {
+            return Err(fault);
+        }
+        Ok(colour)
+    }
+
+    /// Reads a colour, or FFFFFFFF for none. `Short` where it isn't whole, and `Field` at its first byte where it is
+    /// neither.
+    #[tactic(auto, unfolding(gd_grammar::specs::EventBytes::fill_at))]
+    pub fn fill(&mut self) -> Result<Option<u32>, FieldFault>
+        ensures { Gives (λ x. (x, self.new)) result (fill_at self.old) }
+    {
+        let fault = self.fault(FieldWhy::Field);
+        let word = self.word()?;
+        if word == NO_FILL {
+            return Ok(None);
+        }
+        if word > COLOUR_LIMIT {
+            return Err(fault);
+        }
+        Ok(Some(word))
+    }
+
+    /// A width, in four bytes.
+    #[tactic(auto, unfolding(gd_grammar::specs::EventBytes::width_at))]
+    fn width(&mut self) -> Result<u8, FieldFault>
+        ensures { Gives (λ x. (x, self.new)) result (width_at self.old) }
+    {
+        let fault = self.fault(FieldWhy::Field);
+        let width = self.word()?;
+        if width < 1 || width > WIDTH_LIMIT as u32 {
+            return Err(fault);
+        }
+        Ok(width as u8)
+    }
+}
