@@ -1,5 +1,7 @@
 use crate::content::Held;
-use gd_base::{Object, Stamp, Ties};
+use crate::object::Object;
+use crate::ties::Ties;
+use gd_base::Stamp;
 
 /// What an operation does. The definitions and the code go by these three forms.
 #[derive(Drop)]

@@ -1,5 +1,3 @@
 pub mod Computing
-mod ByDrawing
-mod Turned
 mod BlankLines
 mod BlankScripts

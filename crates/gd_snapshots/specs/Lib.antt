@@ -1,3 +1,4 @@
+pub mod ObjectBytes
 pub mod Snapshots
 pub mod SnapshotBytes
 pub mod Pieces

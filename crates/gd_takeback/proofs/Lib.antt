@@ -1,3 +1,3 @@
-pub mod Newest
-pub mod Answering
-pub mod Standing
+pub mod Rings
+pub mod Ranges
+pub mod Taking

@@ -1,3 +1,4 @@
-pub mod Lists
+pub mod Backs
+pub mod Rings
 pub mod Answers
 pub mod Standing

@@ -1,6 +1,7 @@
 //! Where an object is shown.
 
-use gd_base::{Kind, Place, Stamp};
+use gd_base::{Place, Stamp};
+use gd_model::Kind;
 
 /// An object as it is shown.
 #[derive(Clone, Copy, Debug, PartialEq, Eq)]
