@@ -45,7 +45,7 @@ class Draughtsman:
         if not of or draw.randrange(NEW) == 0:
             return f"create {draw.choice(['rect', 'ellipse', 'line', 'text'])} {x} {y} 10 10 of {self.node.site}"
         lines = [f"move {of} {x} {y}"] * 4 + [f"stroke {of} {draw.randrange(1 << 24):06X}", f"fill {of} none"]
-        lines += [f"text {of} {x}", f"resize {of} {x} {y}", f"raise {of}", f"lower {of}", f"delete {of}", f"ungroup {of}", "undo"]
+        lines += [f"text {of} {x}", f"resize {of} {x} {y}", f"raise {of}", f"lower {of}", f"delete {of}", f"ungroup {of}", "undo", "redo"]
         lines += [f"group {of} {draw.choice(ids)}"] * 2
         return draw.choice(lines)
 

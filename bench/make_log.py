@@ -20,7 +20,7 @@ from make_examples import RECT, STROKE, create, group, log, move, raise_up, rest
 ORDERS = ["stamps", "sites", "shuffle"]
 SEED = 7
 # The newest version of a log.
-VERSION = 2
+VERSION = 3
 # The most events of a site.
 MOST = 65_535
 

@@ -1,6 +1,6 @@
 """The records of a journal by seats, with a chain of digests of each: what heads sign and members hand on.
 
-D_0 = SHA-256("groupdesign feed", session, seat), and D_k = SHA-256(D_(k-1), record k as it stands in a log of version two).
+D_0 = SHA-256("groupdesign feed", session, seat), and D_k = SHA-256(D_(k-1), record k as it stands in a log of version three).
 """
 
 import hashlib

@@ -2,7 +2,7 @@
 
 import struct
 
-MAGIC = b"GDOF\x02"
+MAGIC = b"GDOF\x03"
 # Magic and version, session, from, to, acknowledgement, count, clock; then no note, no focus, no name.
 HEAD = struct.Struct(">5sIBBHHHI10x")
 EVENTS = 8

@@ -19,7 +19,7 @@ class NoView(Exception):
 
 def empty_log(session):
     """A log of a session in which nothing was drawn yet."""
-    return b"GDOL\x02" + session.to_bytes(4, "big") + bytes([1, SEATS, 0])
+    return b"GDOL\x03" + session.to_bytes(4, "big") + bytes([1, SEATS, 0])
 
 
 async def printed(program, command, given):

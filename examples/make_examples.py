@@ -3,14 +3,14 @@
 
 A log is a header, then each event behind an open gate, then a closed gate. Numbers are big-endian.
 
-    header   the letters GDOL; version 1 or 2 (1 byte); the number of the session, which all its sites share (4);
+    header   the letters GDOL; version 1, 2 or 3 (1 byte); the number of the session, which all its sites share (4);
              the site that keeps the log (1); how many sites there are (1)
     gate     C3: an event follows; anything else, or the end of the file: the log ends
     event    stamp (7); its number among the events of its site (2); tag (1); a body, which the tag tells
     stamp    clock (6); site (1)
 
     tag 1    create: kind (1: rect, ellipse, line or text as 1 to 4); x, y, width and height (4 each, signed);
-             the length of the label (1: at most 64 in version 1, 200 in version 2); the label
+             the length of the label (1: at most 64 in version 1, 200 in later ones); the label
     tag 2    delete: the stamp of the event that made the object, which is the object's id (7)
     tag 3    move: id (7); x and y (4 each, signed)
     tag 4    resize: id (7); width and height (4 each, signed)
@@ -20,7 +20,16 @@ A log is a header, then each event behind an open gate, then a closed gate. Numb
     tag 7    group: how many members (1: 2 to 32); for each its id (7), and its shift in x and y (4 each, signed)
     tag 8    ungroup: id (7)
     tag 9    raise: id (7)
-    tag 10   lower, in version 2 alone: id (7)
+    tag 10   lower, since version 2: id (7)
+    tag 11   restore, since version 3: id (7); an object; ties
+    tag 12   disband, since version 3: id (7); ties
+    tag 13   rerank, since version 3: id (7); rank
+    tag 14   reopen, since version 3: id (7)
+    object   kind (1: group as 5); x, y, width and height (4 each, signed); stroke and fill (4 each); width (1); the length
+             of the label (1); the label; link; whether it is dissolved (1); rank
+    ties     how many (1: at most 32); for each its id (7) and its link
+    link     none as 0 (1); or 1 (1), the id of a group (7), and the shift in x and y (4 each, signed)
+    rank     low or high as 0 or 1 (1); a stamp (7)
 
 A log of cards has the letters GDOB and version 1, and other events behind the number:
 
@@ -37,7 +46,7 @@ from struct import pack
 HERE = Path(__file__).resolve().parent
 # The input of the run that is stored with the program.
 STORED_INPUT = HERE.parent / "crates/groupdesign/stdin"
-RECT, ELLIPSE, LINE, TEXT = 1, 2, 3, 4
+RECT, ELLIPSE, LINE, TEXT, GROUP = 1, 2, 3, 4, 5
 STROKE, FILL, WIDTH = 1, 2, 3
 NONE = 0xFFFFFFFF
 OPEN, CLOSED = b"\xC3", b"\x00"
@@ -94,6 +103,39 @@ def lower(clock, site):
     return b"\x0A" + stamp(clock, site)
 
 
+def link_to(group):
+    """A link to a group without a shift, or none."""
+    return b"\0" if group is None else b"\1" + stamp(*group) + pack(">ii", 0, 0)
+
+
+def tied(ties):
+    """Ties, each an id and a group or none, by rising id."""
+    return bytes([len(ties)]) + b"".join(stamp(*id) + link_to(group) for id, group in ties)
+
+
+def whole(kind, x, y, width, height, rank, label=""):
+    """An object of the usual look, in no group, with a high rank."""
+    look = pack(">II", 0, NONE) + b"\1" + labelled(label)
+    return bytes([kind]) + pack(">iiii", x, y, width, height) + look + link_to(None) + b"\0\1" + stamp(*rank)
+
+
+def restore(clock, site, object, *ties):
+    return b"\x0B" + stamp(clock, site) + object + tied(ties)
+
+
+def disband(clock, site, *ties):
+    return b"\x0C" + stamp(clock, site) + tied(ties)
+
+
+def rerank(clock, site, rank):
+    """A high rank."""
+    return b"\x0D" + stamp(clock, site) + b"\1" + stamp(*rank)
+
+
+def reopen(clock, site):
+    return b"\x0E" + stamp(clock, site)
+
+
 def add_card(column, title):
     return bytes([1, column]) + labelled(title)
 
@@ -140,7 +182,7 @@ LONG_LABEL = log(7, 1, 1, [
 
 # What `snapshot` makes of two-shapes: what is known of both sites, and the two objects, each with its rank.
 TWO_SHAPES_SNAPSHOT = (
-    b"GDOS" + b"\x02" + pack(">I", 7) + bytes([1, 2])
+    b"GDOS" + b"\x03" + pack(">I", 7) + bytes([1, 2])
     + 2 * (pack(">H", 1) + (1).to_bytes(6, "big"))
     + pack(">I", 2)
     + stamp(1, 1) + bytes([ELLIPSE]) + pack(">iiii", 0, 0, 20, 20) + pack(">II", 0, NONE) + b"\x01\0\0\0\x01" + stamp(1, 1)
@@ -150,7 +192,7 @@ TWO_SHAPES_SNAPSHOT = (
 
 # A frame of site 2 to site 1, with its second event, which moves the ellipse.
 MOVED = (
-    b"GDOF" + b"\x02" + pack(">I", 7) + bytes([2, 1]) + pack(">HH", 0, 2) + (2).to_bytes(6, "big") + bytes(2 + 7 + 1)
+    b"GDOF" + b"\x03" + pack(">I", 7) + bytes([2, 1]) + pack(">HH", 0, 2) + (2).to_bytes(6, "big") + bytes(2 + 7 + 1)
     + b"\x01" + stamp(2, 2) + pack(">H", 2) + move(1, 1, 7, 8)
 )
 TWO_SHAPES_VIEW = TWO_SHAPES_SNAPSHOT + pack(">H", len(MOVED)) + MOVED
@@ -244,6 +286,27 @@ LOWERED = log(7, 1, 2, [
     (5, 2, lower(4, 2)),
 ], version=2)
 
+# What site 1 makes, it takes back from 9.1 on, and does two of it again. Site 2 comes late: its raise is covered, so is its fill, by
+# a delete, and its move finds no group. What is put back has none of it.
+TAKEN_BACK = log(7, 1, 2, [
+    (1, 1, create(RECT, 0, 0, 40, 40, "Hull")),
+    (2, 1, create(ELLIPSE, 60, 0, 40, 40, "Mast")),
+    (3, 1, group((1, 1), (2, 1))),
+    (4, 1, create(RECT, 0, 60, 100, 20, "Sea")),
+    (5, 1, lower(4, 1)),
+    (6, 1, delete(3, 1)),
+    (7, 1, restore(3, 1, whole(GROUP, 0, 0, 0, 0, (3, 1)))),
+    (8, 1, ungroup(3, 1)),
+    (9, 1, reopen(3, 1)),
+    (10, 1, rerank(4, 1, (4, 1))),
+    (11, 1, delete(4, 1)),
+    (12, 1, disband(3, 1, ((1, 1), None), ((2, 1), None))),
+    (13, 1, restore(3, 1, whole(GROUP, 0, 0, 0, 0, (3, 1)), ((1, 1), (3, 1)), ((2, 1), (3, 1)))),
+    (14, 1, restore(4, 1, whole(RECT, 0, 60, 100, 20, (4, 1), "Sea"))),
+    (4, 2, raise_up(4, 1)),
+    (5, 2, restyle(4, 1, FILL, 0x336699)),
+    (12, 2, move(3, 1, 10, 0)),
+], version=3)
 
 # Site 2 comes late. Its fill is covered by a later one, and its group takes 2.1 before 4.1 does.
 LATE_GROUP = log(7, 1, 2, [
@@ -285,13 +348,14 @@ OTHERS = {
 EXAMPLES = {
     "two-shapes": TWO_SHAPES,
     # What upgrade makes of it.
-    "two-shapes-2": log(7, 1, 2, TWO_EVENTS, version=2),
+    "two-shapes-3": log(7, 1, 2, TWO_EVENTS, version=3),
     "long-label": LONG_LABEL,
     "effects-before-causes": EFFECTS_BEFORE_CAUSES,
     "looks": LOOKS,
     "house": HOUSE,
     "regrouped": REGROUPED,
     "lowered": LOWERED,
+    "taken-back": TAKEN_BACK,
     "late-group": LATE_GROUP,
     "empty": log(7, 1, 1, []),
     # The end of the file ends a log as a closed gate does.

@@ -56,10 +56,14 @@ class Batch:
         return self.answers
 
     @property
+    def answered(self):
+        """The lines that have an answer, each with that."""
+        return [(text, answer) for text, answer in zip(self.texts, self.answers) if answer]
+
+    @property
     def taken(self):
         """The events of the lines that the node took, each with its line."""
-        answered = zip(self.answers, self.texts)
-        return [(answer[3:], text) for answer, text in answered if answer and answer.startswith("ok ")]
+        return [(answer[3:], text) for text, answer in self.answered if answer.startswith("ok ")]
 
     @property
     def is_cut(self):

@@ -15,6 +15,8 @@ from page.node import Busy, Ended, Node
 from page.peers import Peers
 from page.picture import Picture
 from page.rounds import Rounds
+from page.turns import Turns
+from page.upgrading import upgrade
 
 POLL_EVERY = 0.1
 # How often what is known of the others is looked at.
@@ -37,8 +39,8 @@ class Desk:
         self.site, self.sites, self.is_demo, self.desks = number, number, False, [number]
         # Edits that earlier runs of the node took, and the number of the last one that was shown.
         self.edits_before, self.shown, self.was_silent, self.is_fault_told = 0, -1, False, False
-        # Which edits are one gesture, and how many events were told.
-        self.gestures, self.told_events = Gestures(), 0
+        # Which edits are one gesture, which of these can be taken back, and how many events were told.
+        self.gestures, self.turns, self.told_events = Gestures(), Turns(), 0
         self.node, self.rounds, self.tasks = None, None, []
         # Whether the rounds are woken whenever a datagram has come.
         self.is_woken = False
@@ -60,7 +62,10 @@ class Desk:
 
     async def start(self):
         """Starts the node and waits until it is ready. Raises `Ended` with what it said where it ends first."""
-        flags = ["--resume"] if self.journal.exists() else []
+        flags = []
+        if self.journal.exists():
+            flags.append("--resume")
+            await asyncio.to_thread(upgrade, self.program, self.journal)
         self.edits_before = self.edits
         self.node = Node([self.command[0], "node", *flags, *self.command[2:]], self.note_end)
         words = (await self.node.wait_until_ready()).split(" ")
@@ -90,6 +95,8 @@ class Desk:
             except Ended as said:
                 await self.node.is_over.wait()
                 raise Ended(str(said)) from None
+            self.turns.forget()
+            self.tell("turns", **self.turns.told())
             self.audience.tell("begun", desk=self.number)
 
     async def stop(self):
@@ -106,8 +113,9 @@ class Desk:
 
     # What pages ask for.
 
-    async def batch(self, texts):
-        """Types the lines of one gesture, and gives an answer for each and the number of the last edit that was taken."""
+    async def batch(self, texts, name=""):
+        """Types the lines of one gesture, which a page calls so, and gives an answer for each and the number of the last edit that
+        was taken."""
         batch = Batch(texts, self.type)
         self.gestures.begin()
         try:
@@ -118,11 +126,11 @@ class Desk:
                 self.rounds.expect(batch.verbs)
             answers = await batch.all_answers()
         finally:
-            self.end_gesture(batch)
-        return {"answers": answers, "edits": self.edits}
+            self.end_gesture(batch, name)
+        return {"answers": answers, "edits": self.edits, "turns": self.turns.told()}
 
-    def end_gesture(self, batch):
-        """Tells which edits were one gesture, and then those of its events that waited for that."""
+    def end_gesture(self, batch, name):
+        """Tells which edits were one gesture, and then those of its events that waited for that; and what can be taken back now."""
         if batch.is_cut:
             self.history.go_on()
         gesture = self.gestures.end([int(event.partition(".")[0]) for event, _ in batch.taken], batch.is_cut)
@@ -131,6 +139,8 @@ class Desk:
         if self.told_events < len(self.history.events):
             self.read_history()
         self.tell_news([{"what": "own", "event": event, "line": text} for event, text in batch.taken])
+        if self.turns.end(name, batch.answered):
+            self.tell("turns", **self.turns.told())
 
     def type(self, typed):
         """Types lines, and gives their slots. Raises `Refused` where the node has ended or has too many to answer."""
@@ -262,7 +272,7 @@ class Desk:
     def hello(self):
         """What a page that comes is told first."""
         fields = {"site": self.site, "sites": self.sites, "session": self.session, "demo": self.is_demo}
-        fields |= {"openly": self.is_openly, "journal": self.journal.name, "desks": self.desks}
+        fields |= {"openly": self.is_openly, "journal": self.journal.name, "desks": self.desks, "turns": self.turns.told()}
         return message("hello", desk=self.number, **fields, names=self.called(), gestures=self.gestures.whole)
 
     def opening(self):

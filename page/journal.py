@@ -5,11 +5,15 @@ from struct import Struct
 
 HEADER = 11
 GATE = 0xC3
-VERSIONS = (1, 2)
+VERSIONS = (1, 2, 3)
 KINDS = {1: "rect", 2: "ellipse", 3: "line", 4: "text"}
+OBJECT_KINDS = {**KINDS, 5: "group"}
+HEIGHTS = {0: "low", 1: "high"}
 NO_FILL = 0xFFFFFFFF
 # A record begins with its clock in 6 bytes, its site, its number and its tag. An id is a clock of 6 bytes and a site.
 STAMP, HEAD, TWO, FOUR, SHIFTS = Struct(">HIB"), Struct(">HIBHB"), Struct(">ii"), Struct(">iiii"), Struct(">HIBii")
+# What an object of a restore begins with: its kind, place, size, stroke, fill and width.
+LOOK = Struct(">BiiiiIIB")
 BODY = HEAD.size
 
 
@@ -39,6 +43,35 @@ def colour(number):
     return f"{number:06X}"
 
 
+def fill_of(number):
+    return None if number == NO_FILL else colour(number)
+
+
+def shift_at(data, place):
+    """An id and a shift, which stand at a place."""
+    high, low, site, dx, dy = SHIFTS.unpack_from(data, place)
+    return {"dx": dx, "dy": dy, "id": f"{clock_of(high, low)}.{site}"}
+
+
+def link_at(data, place):
+    """The link whose flag stands at a place, or none, and the place behind it."""
+    return (shift_at(data, place + 1), place + 1 + SHIFTS.size) if data[place] else (None, place + 1)
+
+
+def rank_at(data, place):
+    return {HEIGHTS[data[place]]: name_at(data, place + 1)}, place + 1 + STAMP.size
+
+
+def ties_at(data, place):
+    """The ties whose number stands at a place, and the place behind them."""
+    ties, at = [], place + 1
+    for _ in range(data[place]):
+        name = name_at(data, at)
+        link, at = link_at(data, at + STAMP.size)
+        ties.append({"id": name, "link": link})
+    return ties, at
+
+
 def create(data, place):
     x, y, w, h = FOUR.unpack_from(data, place + 1)
     label, end = label_at(data, place + 17)
@@ -61,7 +94,7 @@ def restyle(data, place):
     what, value = data[place + 7], int.from_bytes(data[place + 8 : place + 12], "big")
     if place + 12 > len(data):
         raise IndexError
-    styles = {1: ("stroke", colour(value)), 2: ("fill", None if value == NO_FILL else colour(value)), 3: ("width", value)}
+    styles = {1: ("stroke", colour(value)), 2: ("fill", fill_of(value)), 3: ("width", value)}
     name, content = styles[what]
     return {"op": "restyle", "target": name_at(data, place), name: content}, place + 12
 
@@ -72,11 +105,30 @@ def retext(data, place):
 
 
 def group(data, place):
-    count, members = data[place], []
-    for at in range(place + 1, place + 1 + SHIFTS.size * count, SHIFTS.size):
-        high, low, site, dx, dy = SHIFTS.unpack_from(data, at)
-        members.append({"dx": dx, "dy": dy, "id": f"{clock_of(high, low)}.{site}"})
-    return {"op": "group", "members": members}, place + 1 + SHIFTS.size * count
+    end = place + 1 + SHIFTS.size * data[place]
+    return {"op": "group", "members": [shift_at(data, at) for at in range(place + 1, end, SHIFTS.size)]}, end
+
+
+def restore(data, place):
+    kind, x, y, w, h, stroke, fill, width = LOOK.unpack_from(data, place + STAMP.size)
+    label, at = label_at(data, place + STAMP.size + LOOK.size)
+    link, at = link_at(data, at)
+    dissolved = bool(data[at])
+    rank, at = rank_at(data, at + 1)
+    ties, end = ties_at(data, at)
+    look = {"stroke": colour(stroke), "fill": fill_of(fill), "width": width, "label": label}
+    whole = {"kind": OBJECT_KINDS[kind], "at": [x, y], "size": [w, h], **look, "link": link, "dissolved": dissolved, "rank": rank}
+    return {"op": "restore", "target": name_at(data, place), **whole, "ties": ties}, end
+
+
+def disband(data, place):
+    ties, end = ties_at(data, place + STAMP.size)
+    return {"op": "disband", "target": name_at(data, place), "ties": ties}, end
+
+
+def rerank(data, place):
+    rank, end = rank_at(data, place + STAMP.size)
+    return {"op": "rerank", "target": name_at(data, place), "rank": rank}, end
 
 
 READERS = {
@@ -90,6 +142,10 @@ READERS = {
     8: plain("ungroup"),
     9: plain("raise"),
     10: plain("lower"),
+    11: restore,
+    12: disband,
+    13: rerank,
+    14: plain("reopen"),
 }
 
 
@@ -110,7 +166,7 @@ class Journal:
 
     def read_on(self):
         """The events that came since the last call, in their order; none where there is no file yet. Raises `BadJournal`,
-        then and from then on, where the file is no log of either version."""
+        then and from then on, where the file is no log."""
         if self.fault:
             raise self.fault
         try:

@@ -4,7 +4,7 @@ Nothing here judges a drawing. docs/LINES.md has the lines, and the node alone s
 """
 
 MOST_BYTES = 1024
-EDITS = frozenset(b"create delete move resize stroke fill width text group ungroup raise lower undo".split())
+EDITS = frozenset(b"create delete move resize stroke fill width text group ungroup raise lower undo redo".split())
 NOTES = frozenset([b"name", b"focus"])
 # How the last line of an answer begins, by the first word of what was typed. Any other has one line.
 LAST = {b"poll": (b"polled ", b"link fault "), b"show": (b"end ",), b"who": (b"end ",)}
@@ -22,7 +22,7 @@ def first_word(line):
 
 def typed(text):
     """The bytes of the one line that `text` is, without its LF. Raises `Refused` where it is more than one line, or none
-    of those that a page may have typed: an edit, an undo, a name or a focus, each of which has one line of answer."""
+    of those that a page may have typed: an edit, an undo, a redo, a name or a focus, each of which has one line of answer."""
     if not isinstance(text, str):
         raise Refused("UnknownCommand")
     # A lone half of a pair of surrogates has no bytes in UTF-8.

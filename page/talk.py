@@ -12,6 +12,7 @@ from page.names import BadName
 from page.node import Busy, Ended
 from page.placed import CALLED
 from page.replays import NoReplay, saved
+from page.turns import MOST_NAME
 
 # So many things that a page asked for may be under way. While they are, no more is read from it.
 MOST_ASKED = 64
@@ -126,7 +127,10 @@ class Talk:
         desk, texts = self.desk(asked), asked.get("lines")
         if not isinstance(texts, list) or len(texts) > MOST_LINES:
             raise Wrong(f"a batch has a list of at most {MOST_LINES} lines")
-        return message("answers", id=asked.get("id"), **await desk.batch(texts))
+        name = asked.get("name", "")
+        if not isinstance(name, str) or len(name) > MOST_NAME:
+            raise Wrong(f"a batch is called by a text of at most {MOST_NAME} characters")
+        return message("answers", id=asked.get("id"), **await desk.batch(texts, name))
 
     async def again(self, asked):
         try:

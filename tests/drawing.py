@@ -1,32 +1,54 @@
 """The drawing of events, and what a person who types lines at one site makes, written from docs/FORMATS.md and docs/LINES.md
 alone."""
 
-from dataclasses import dataclass
+from dataclasses import astuple, dataclass
 
 GROUP = "group"
+# As many edits are taken back, and so many done again.
+MOST_BACKS = 1_024
 
 
 @dataclass
 class Object:
-    """A shape or a group. `link` is its group and its shift in it, and `rank` is what the stack is sorted by."""
+    """A shape or a group, with the fields of a restore in their order behind its id. `link` is its group and its shift in it,
+    and `rank` is `low` or `high` and the stamp of the event that gave it."""
 
     id: tuple
     kind: str
+    x: int
+    y: int
+    w: int
+    h: int
+    stroke: int
+    fill: int | None
+    width: int
+    label: str
+    link: tuple | None
+    is_dissolved: bool
     rank: tuple
-    x: int = 0
-    y: int = 0
-    w: int = 0
-    h: int = 0
-    label: str = ""
-    stroke: int = 0
-    fill: int | None = None
-    width: int = 1
-    link: tuple | None = None
-    is_dissolved: bool = False
+
+    @property
+    def whole(self):
+        return astuple(self)[1:]
+
+    @property
+    def place(self):
+        """What the stack is sorted by."""
+        side, (clock, site) = self.rank
+        return ((1, clock, site) if side == "high" else (0, -clock, -site)), self.id
+
+
+def new(stamp, kind, x=0, y=0, w=0, h=0, label=""):
+    return Object(stamp, kind, x, y, w, h, 0, None, 1, label, None, False, ("high", stamp))
 
 
 def id_text(id):
     return f"{id[0]}.{id[1]}"
+
+
+def taking(id, ties):
+    """What takes an object away, and ties others."""
+    return ("disband", id, *ties) if ties else ("delete", id)
 
 
 class Drawing:
@@ -39,38 +61,74 @@ class Drawing:
         """Applies the next event: its stamp, and an operation with what it asks for, as in spelled.py."""
         name, *given = op
         if name == "create":
-            kind, x, y, w, h, label = given
-            self.objects[stamp] = Object(stamp, kind, (1, *stamp), x, y, w, h, label)
+            self.put(new(stamp, *given))
         elif name == GROUP:
-            self.group(stamp, given)
+            self.put(new(stamp, GROUP), [(id, (stamp, *shift)) for id, *shift in given])
+        elif name == "restore":
+            self.put(Object(given[0], *given[1]), given[2:])
         elif given[0] in self.objects:
             self.change(stamp, name, self.objects[given[0]], given[1:])
 
-    def group(self, stamp, members):
-        self.objects[stamp] = Object(stamp, GROUP, (1, *stamp))
-        for id, dx, dy in members:
+    def put(self, it, ties=()):
+        if it.id not in self.objects:
+            self.tie(ties)
+            self.objects[it.id] = it
+
+    def tie(self, ties):
+        for id, link in ties:
             if id in self.objects:
-                self.objects[id].link = (stamp, dx, dy)
+                self.objects[id].link = link
 
     def change(self, stamp, name, it, given):
         is_shape = it.kind != GROUP
         match name:
-            case "delete":
+            case "delete" | "disband":
                 del self.objects[it.id]
+                self.tie(given)
             case "move":
                 it.x, it.y = given
-            case "raise":
-                it.rank = (1, *stamp)
-            case "lower":
-                it.rank = (0, -stamp[0], -stamp[1])
-            case "ungroup":
-                it.is_dissolved = it.is_dissolved or not is_shape
+            case "raise" | "lower":
+                it.rank = "high" if name == "raise" else "low", stamp
+            case "rerank":
+                (it.rank,) = given
+            case "ungroup" | "reopen" if not is_shape:
+                it.is_dissolved = name == "ungroup"
             case "resize" if is_shape:
                 it.w, it.h = given
             case "stroke" | "fill" | "width" if is_shape:
                 setattr(it, name, given[0])
             case "text" if is_shape:
                 it.label = given[0]
+
+    def back(self, stamp, op):
+        """What takes an operation back that is applied next, and changes something."""
+        name, *given = op
+        if name == "create":
+            return taking(stamp, [])
+        if name == GROUP:
+            return taking(stamp, self.links(id for id, *_ in given))
+        if name == "restore":
+            return taking(given[0], self.links(id for id, _ in given[2:]))
+        it = self.objects[given[0]]
+        match name:
+            case "delete" | "disband":
+                return "restore", it.id, it.whole, *self.links(id for id, _ in given[1:])
+            case "move":
+                return "move", it.id, it.x, it.y
+            case "resize":
+                return "resize", it.id, it.w, it.h
+            case "text":
+                return "text", it.id, it.label
+            case "ungroup" | "reopen":
+                return "ungroup" if it.is_dissolved else "reopen", it.id
+            case "raise" | "lower" | "rerank":
+                return "rerank", it.id, it.rank
+            case _:
+                return name, it.id, getattr(it, name)
+
+    def links(self, ids):
+        """Those of these objects that are there, each with its link."""
+        return [(id, self.objects[id].link) for id in ids if id in self.objects]
 
     def chain(self, it):
         """The groups that an object is in, from the innermost on; None where one of them isn't there. Behind it, the sum of all
@@ -103,9 +161,9 @@ class Drawing:
         return f"{front} size {it.w} {it.h} stroke {it.stroke:06X} fill {fill} width {it.width}{label}"
 
     def text(self):
-        """The printed text: what is in no group from bottom to top, and behind each group what is in it."""
+        """The printed text: what is in nothing from bottom to top, and behind each object what is in it."""
         inside = {}
-        for it in sorted(self.objects.values(), key=lambda it: it.rank):
+        for it in sorted(self.objects.values(), key=lambda it: it.place):
             seen = self.shown(it.id)
             if seen:
                 inside.setdefault(seen[0], []).append((it, seen))
@@ -113,26 +171,40 @@ class Drawing:
         while todo:
             it, seen = todo.pop()
             lines.append(self.line(it, *seen))
-            todo += inside.get(it.id, [])[::-1] if it.kind == GROUP else []
+            todo += inside.get(it.id, [])[::-1]
         return "".join(f"{line}\n" for line in lines) + f"end {len(lines)}\n"
 
 
 class Typist:
-    """Edits that a person types at one site that is alone, drawn from a seed, and the events that they make. All are accepted."""
+    """Edits that a person types at one site that is alone, drawn from a seed, and the events that they make. All are accepted.
+    Some of them are taken back, and some of these done again."""
 
     # It has about so many objects. A group is deleted seldom, since what was in it is hidden for good.
     MOST, SELDOM = 300, 0.02
 
     def __init__(self, draw, site=1):
         self.draw, self.site, self.drawing = draw, site, Drawing()
-        self.lines, self.events = [], []
+        self.lines, self.events, self.undos, self.redos = [], [], [], []
 
     def type(self, line, op):
         """An edit, typed and as the operation of its event."""
+        self.undos.append(self.happens(line, op))
+        del self.undos[:-MOST_BACKS]
+        self.redos = []
+
+    def happens(self, line, op):
+        """A line that is typed, and the operation of its event. Gives what takes that back."""
         stamp = (len(self.events) + 1, self.site)
+        back = self.drawing.back(stamp, op)
         self.lines.append(line)
         self.events.append((stamp, stamp[0], op))
         self.drawing.apply(stamp, op)
+        return back
+
+    def turn(self, line):
+        """The last edit is taken back by an `undo`, or done again by a `redo`."""
+        due, other = (self.undos, self.redos) if line == "undo" else (self.redos, self.undos)
+        other.append(self.happens(line, due.pop()))
 
     def create(self):
         draw = self.draw
@@ -141,7 +213,15 @@ class Typist:
         self.type(f"create {kind} {x} {y} {w} {h}{label and ' '}{label}", ("create", kind, x, y, w, h, label))
 
     def edit(self):
-        """Types one more edit."""
+        """Types one more line. Behind an undo comes often another one, or a redo."""
+        turns = ["undo"] * bool(self.undos) + ["redo", "redo"] * bool(self.redos)
+        if turns and self.draw.random() < (0.7 if self.redos else 0.1):
+            self.turn(self.draw.choice(turns))
+        else:
+            self.draw_on()
+
+    def draw_on(self):
+        """Types an edit that is none of these two."""
         ids, draw = list(self.drawing.objects), self.draw
         tried = draw.choices(ids, k=9) if ids else []
         id = next((id for id in tried if self.drawing.shown(id)), None)

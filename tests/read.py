@@ -1,9 +1,10 @@
 """Events that are read from logs and frames, from docs/FORMATS.md alone: only what is sound is handed to this."""
 
-from tests.spelled import KINDS, NO_FILL, STYLES, TAGS, header
+from tests.spelled import HEIGHTS, NO_FILL, OBJECT_KINDS, STYLES, TAGS, header
 
 NAMES = {tag: name for name, tag in TAGS.items() if name not in STYLES}
-KIND_NAMES = {byte: name for name, byte in KINDS.items()}
+KIND_NAMES = {byte: name for name, byte in OBJECT_KINDS.items()}
+HEIGHT_NAMES = {byte: name for name, byte in HEIGHTS.items()}
 STYLE_NAMES = {byte: name for name, byte in STYLES.items()}
 RESTYLE = 5
 # The place of the events in a frame without a name, and that of the length of the name.
@@ -32,6 +33,24 @@ class Reader:
     def label(self):
         return self.take(self.number(1)).decode()
 
+    def fill(self):
+        value = self.number(4)
+        return None if value == NO_FILL else value
+
+    def link(self):
+        return (self.stamp(), *self.signed(2)) if self.number(1) else None
+
+    def rank(self):
+        return HEIGHT_NAMES[self.number(1)], self.stamp()
+
+    def whole(self):
+        """An object without its id."""
+        front = KIND_NAMES[self.number(1)], *self.signed(4), self.number(4), self.fill(), self.number(1), self.label()
+        return *front, self.link(), bool(self.number(1)), self.rank()
+
+    def ties(self):
+        return [(self.stamp(), self.link()) for _ in range(self.number(1))]
+
     def op(self):
         tag = self.number(1)
         if tag == TAGS["create"]:
@@ -40,11 +59,25 @@ class Reader:
             return "group", *((self.stamp(), *self.signed(2)) for _ in range(self.number(1)))
         id = self.stamp()
         if tag == RESTYLE:
-            name, value = STYLE_NAMES[self.number(1)], self.number(4)
-            return name, id, None if value == NO_FILL and name == "fill" else value
-        if NAMES[tag] in ("move", "resize"):
-            return NAMES[tag], id, *self.signed(2)
-        return (NAMES[tag], id, self.label()) if NAMES[tag] == "text" else (NAMES[tag], id)
+            name = STYLE_NAMES[self.number(1)]
+            return name, id, self.fill() if name == "fill" else self.number(4)
+        return NAMES[tag], id, *self.rest(NAMES[tag])
+
+    def rest(self, name):
+        """What stands behind the id of an operation that works on one object."""
+        match name:
+            case "move" | "resize":
+                return self.signed(2)
+            case "text":
+                return [self.label()]
+            case "restore":
+                return [self.whole(), *self.ties()]
+            case "disband":
+                return self.ties()
+            case "rerank":
+                return [self.rank()]
+            case _:
+                return []
 
     def event(self):
         return self.stamp(), self.number(2), self.op()

@@ -3,8 +3,12 @@
 GREATEST_CLOCK = (1 << 48) - 1
 KINDS = {"rect": 1, "ellipse": 2, "line": 3, "text": 4}
 TAGS = {"create": 1, "delete": 2, "move": 3, "resize": 4, "stroke": 5, "fill": 5, "width": 5, "text": 6}
-TAGS |= {"group": 7, "ungroup": 8, "raise": 9, "lower": 10}
+TAGS |= {"group": 7, "ungroup": 8, "raise": 9, "lower": 10, "restore": 11, "disband": 12, "rerank": 13, "reopen": 14}
 STYLES = {"stroke": 1, "fill": 2, "width": 3}
+# What an object of a restore is: a shape, or a group.
+OBJECT_KINDS = KINDS | {"group": 5}
+HEIGHTS = {"low": 0, "high": 1}
+VERSION = 3
 NO_FILL = 0xFFFFFFFF
 OPEN, CLOSED = b"\xC3", b"\0"
 
@@ -29,6 +33,27 @@ def label(text):
     return number(len(text), 1) + text
 
 
+def link(given):
+    """The link of an object: a group and the shift in it, or none."""
+    return b"\0" if given is None else b"\1" + stamp(given[0]) + signed(*given[1:])
+
+
+def rank(height, id):
+    return number(HEIGHTS[height], 1) + stamp(id)
+
+
+def whole(kind, x, y, w, h, stroke, fill, width, text, to, is_dissolved, given):
+    """All of an object but its id."""
+    look = number(stroke, 4) + number(NO_FILL if fill is None else fill, 4) + number(width, 1)
+    front = number(OBJECT_KINDS[kind], 1) + signed(x, y, w, h) + look + label(text)
+    return front + link(to) + number(is_dissolved, 1) + rank(*given)
+
+
+def ties(given):
+    """Ids, each with the link that its object is given."""
+    return number(len(given), 1) + b"".join(stamp(id) + link(to) for id, to in given)
+
+
 def body(op, *given):
     """What stands behind the tag of an operation, which is a name and what it asks for."""
     match op:
@@ -44,6 +69,12 @@ def body(op, *given):
             return stamp(given[0]) + label(given[1])
         case "group":
             return number(len(given), 1) + b"".join(stamp(id) + signed(dx, dy) for id, dx, dy in given)
+        case "restore":
+            return stamp(given[0]) + whole(*given[1]) + ties(given[2:])
+        case "disband":
+            return stamp(given[0]) + ties(given[1:])
+        case "rerank":
+            return stamp(given[0]) + rank(*given[1])
         case _:
             return stamp(given[0])
 
@@ -53,7 +84,7 @@ def record(id, turn, op):
     return stamp(id) + number(turn, 2) + number(TAGS[op[0]], 1) + body(*op)
 
 
-def header(session=7, site=1, sites=2, version=2, magic=b"GDOL"):
+def header(session=7, site=1, sites=2, version=VERSION, magic=b"GDOL"):
     return magic + number(version, 1) + number(session, 4) + number(site, 1) + number(sites, 1)
 
 
@@ -72,7 +103,7 @@ def frame(events=(), sender=2, to=1, held=0, count=None, clock=None, note=0, foc
     """A frame. Its count and its clock are those of its last event, where none are given."""
     count = count if count is not None else events[-1][1] if events else 0
     clock = clock if clock is not None else events[-1][0][0] if events else 0
-    front = b"GDOF\x02" + number(session, 4) + number(sender, 1) + number(to, 1) + number(held, 2) + number(count, 2)
+    front = b"GDOF" + number(VERSION, 1) + number(session, 4) + number(sender, 1) + number(to, 1) + number(held, 2) + number(count, 2)
     front += number(clock, 6) + number(note, 2) + stamp(focus) + number(len(name), 1) + name
     return front + number(len(events), 1) + b"".join(record(*event) for event in events)
 

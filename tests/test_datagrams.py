@@ -74,26 +74,29 @@ class Datagrams(Case):
 
 
 class Longest(Case):
-    # Eight groups of 32 members, a name of 16 bytes and a focus. One that acknowledges what was never made is refused.
+    # Eight objects that are put back, each with a label of 200 bytes, in a group, with 32 ties to groups; a name of 16 bytes and a
+    # focus. One that acknowledges what was never made is refused.
     def test_the_longest_frame_is_taken(self):
-        members = [((clock, 16), FARTHEST, -FARTHEST) for clock in range(1, 33)]
-        groups = [((100 + turn, 16), turn, ("group", *members)) for turn in range(1, 9)]
+        link = ((99, 16), FARTHEST, -FARTHEST)
+        whole = ("text", -FARTHEST, FARTHEST, 1, -1, 0, None, 64, "é" * 100, link, False, ("high", (50, 16)))
+        ties = [((clock, 16), link) for clock in range(1, 33)]
+        events = [((100 + turn, 16), turn, ("restore", (50, 16), whole, *ties)) for turn in range(1, 9)]
         of = {"clock": GREATEST_CLOCK, "note": 65_535, "focus": (GREATEST_CLOCK, 16), "name": SIXTEEN}
         of["session"] = 2**32 - 1
-        longest, event = frame(groups, sender=16, **of), record(*groups[0])
-        self.assertEqual((len(longest), len(event)), (3_976, 491))
-        self.assertEqual(event[:26], bytes.fromhex("000000000065 10 0001 07 20 000000000001 10 3B9ACA00 C4653600"))
-        self.assertEqual(event[-15:], bytes.fromhex("000000000020 10 3B9ACA00 C4653600"))
-        datagrams = [frame(groups, sender=16, held=65_535, **of), longest]
+        longest, event = frame(events, sender=16, **of), record(*events[0])
+        self.assertEqual((len(longest), len(event)), (8_096, 1_006))
+        self.assertEqual(event[:18], bytes.fromhex("000000000065 10 0001 0B 000000000032 10 04"))
+        self.assertEqual(event[-23:], bytes.fromhex("000000000020 10 01 000000000063 10 3B9ACA00 C4653600"))
+        datagrams = [frame(events, sender=16, held=65_535, **of), longest]
         node = answered((1, 16), "poll\nwho\n", datagrams, sender=16, session=2**32 - 1)
         echoes = "".join(f"echo {clock}.16 applied\n" for clock in range(101, 109))
         who = "who 16 sixteen-letters! focus 281474976710655.16\nend 1\n"
         printed = f"frame refused: OverAck 65535 0\n{echoes}polled 2\n{who}"
         self.assertEqual((node.text, node.status), (f"ready 1 of 16\n{printed}", DONE))
-        self.assertEqual(node.journal, log(groups, sites=16, session=2**32 - 1))
+        self.assertEqual(node.journal, log(events, sites=16, session=2**32 - 1))
 
-    # What was made before the groups is acknowledged.
-    def test_the_longest_frame_is_sent(self):
+    # What was made before the groups is acknowledged, and so are the groups before all of them are taken back and made again.
+    def test_the_longest_groups_are_sent_and_put_back(self):
         ids = [[(clock, 2) for clock in range(first, first + 32)] for first in range(1, 257, 32)]
         groups = [
             ((256 + turn, 2), 256 + turn, ("group", *((id, 0, 0) for id in part))) for turn, part in enumerate(ids, 1)
@@ -109,8 +112,22 @@ class Longest(Case):
             answers = [node.ask(line) for line in typed]
             # The last frame is sent behind its answer, and in front of this one.
             self.assertEqual(node.held(), 264)
-            sent = peers[1].received()[-1]
-        oks = [[f"ok {clock}.2"] for clock in range(257, 265)]
-        self.assertEqual(answers, [["polled 1"], ["noted 1"], ["noted 2"], *oks])
-        self.assertEqual(sent, frame(groups, note=2, focus=(256, 2), name=SIXTEEN))
-        self.assertEqual(len(sent), 3_976)
+            sent = [peers[1].received()[-1]]
+            for held, line in ((264, "undo"), (272, "redo")):
+                peers[1].send(node, frame(sender=1, to=2, held=held))
+                answers += [node.ask(each) for each in ["poll"] + [line] * 8]
+                self.assertEqual(node.held(), held + 8)
+                sent.append(peers[1].received()[-1])
+        oks = [[[f"ok {clock}.2"] for clock in range(first, first + 8)] for first in (257, 265, 273)]
+        self.assertEqual(answers, [["polled 1"], ["noted 1"], ["noted 2"], *oks[0], ["polled 1"], *oks[1], ["polled 1"], *oks[2]])
+        disbands, restores = [], []
+        for turn, part in enumerate(ids):
+            group = (257 + turn, 2)
+            whole = ("group", 0, 0, 0, 0, 0, None, 1, "", None, False, ("high", group))
+            # The last one is taken back first.
+            disbands.insert(0, ((272 - turn, 2), 272 - turn, ("disband", group, *((id, None) for id in part))))
+            ties = [(id, (group, 0, 0)) for id in part]
+            restores.append(((273 + turn, 2), 273 + turn, ("restore", group, whole, *ties)))
+        of = {"note": 2, "focus": (256, 2), "name": SIXTEEN}
+        self.assertEqual(sent, [frame(events, **of) for events in (groups, disbands, restores)])
+        self.assertEqual([len(each) for each in sent], [3_976, 2_240, 6_376])

@@ -12,7 +12,7 @@ from tests.test_formats import VOTES
 from tests.worked import FRAME, TIE
 
 # The commands of docs/LINES.md, section 3: in a dialogue with a node a line is typed where it begins so, and printed else.
-TYPED = "create delete move resize stroke fill width text group ungroup raise lower undo".split()
+TYPED = "create delete move resize stroke fill width text group ungroup raise lower undo redo".split()
 TYPED += "show status name focus who poll quit".split()
 SHAPE = re.compile(r"(rect|ellipse|line|text|group) \d+\.\d+ in ")
 

@@ -22,7 +22,7 @@ TOO_LONG = b"a" * 65_537
 # that ends.
 READERS = [
     ("replay", TIE, TIE_TEXT.encode(), TIE[:41], "bad log at 41: Short\n", BAD_LOG),
-    ("upgrade", tie_of(1), tie_of(2), TIE[:41], "bad log at 41: Short\n", BAD_LOG),
+    ("upgrade", tie_of(1), tie_of(3), TIE[:41], "bad log at 41: Short\n", BAD_LOG),
     ("snapshot", TIE, TIE_SNAPSHOT, TIE[:41], "bad log at 41: Short\n", BAD_LOG),
     ("board", VOTES, VOTES_TEXT.encode(), VOTES[:30], "bad log at 30: Short\n", BAD_LOG),
     ("view", TIE_SNAPSHOT, TIE_TEXT.encode(), TIE_SNAPSHOT[:122], "bad view at 122: Short\n", BAD_VIEW),

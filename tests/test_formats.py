@@ -99,15 +99,25 @@ class Formats(Case):
         ])
 
 
-# A rect of site 4 comes to site 3. Site 2 hasn't got it, and can't delete it; site 3 moves it, and site 4 raises it.
+# Site 2 can't colour a rect of site 4, and then gets it. Site 4 raises it, and site 2 deletes it and takes that back.
 SEVEN_STEPS = (
-    "".join(f"site {site} held 3 kept 0 line 2 clock 2\n" for site in range(1, 5))
-    + "edits 3 refused 1 sent 49 delivered 49 idle 1\narrivals applied 7 dropped 0 reworked 2 undone 2\nsame yes\n"
-)
-# Then site 3 deletes it. There is one round more.
-EIGHT_STEPS = (
     "".join(f"site {site} held 4 kept 0 line 3 clock 3\n" for site in range(1, 5))
-    + "edits 4 refused 1 sent 61 delivered 61 idle 1\narrivals applied 7 dropped 3 reworked 2 undone 4\nsame yes\n"
+    + "edits 4 refused 1 sent 49 delivered 49 idle 0\narrivals applied 6 dropped 2 reworked 4 undone 4\nsame yes\n"
+)
+# Then site 2 deletes it again, by a redo. There is one round more.
+EIGHT_STEPS = (
+    "".join(f"site {site} held 5 kept 0 line 4 clock 4\n" for site in range(1, 5))
+    + "edits 5 refused 1 sent 61 delivered 61 idle 0\narrivals applied 9 dropped 2 reworked 4 undone 7\nsame yes\n"
+)
+# Site 2 makes two rects and a group of them, takes the group back, makes it again, and moves it.
+GROUP_STEPS = (
+    "".join(f"site {site} held 6 kept 0 line 6 clock 6\n" for site in range(1, 5))
+    + "edits 6 refused 0 sent 61 delivered 60 idle 1\narrivals applied 18 dropped 0 reworked 0 undone 0\nsame yes\n"
+)
+# An undo that is refused, an empty mail, two rects of site 4, and four steps without anything to work on.
+IDLE_STEPS = (
+    "".join(f"site {site} held 2 kept 0 line 2 clock 2\n" for site in range(1, 5))
+    + "edits 2 refused 1 sent 61 delivered 60 idle 4\narrivals applied 6 dropped 0 reworked 0 undone 0\nsame yes\n"
 )
 
 
@@ -116,12 +126,14 @@ def churn(seed, steps):
 
 
 class Churns(Case):
-    # The steps of the seed 86587 were worked by hand. No input is read.
+    # The draws were worked by section 11 of docs/FORMATS.md, and the steps by hand. No input is read.
     def test_few_steps(self):
         self.expect_all([
             (churn(1, 0), b"quit\n", DONE, NOTHING_CHURNED),
-            (churn(86587, 7), b"", DONE, SEVEN_STEPS),
-            (churn(86587, 8), b"", DONE, EIGHT_STEPS),
+            (churn(181960431, 7), b"", DONE, SEVEN_STEPS),
+            (churn(181960431, 8), b"", DONE, EIGHT_STEPS),
+            (churn(2642265044, 8), b"", DONE, GROUP_STEPS),
+            (churn(86587, 8), b"", DONE, IDLE_STEPS),
         ])
 
     def test_three_thousand_steps(self):

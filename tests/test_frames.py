@@ -72,7 +72,7 @@ def front(at, value):
 
 def tag(value):
     """The tag. What stands behind it is no id, and no group of two."""
-    return bad("Field", 42 if value == 7 else 48 if 2 <= value <= 10 else 41)
+    return bad("Field", 42 if value == 7 else 48 if 2 <= value <= 14 else 41)
 
 
 def event(at, value):
@@ -136,6 +136,7 @@ class Frames(Case):
             (changed(FRAME, changes), bad(why, at))
             for changes, why, at in [
                 ([(4, 1)], "Version", 4),
+                ([(4, 2)], "Version", 4),
                 ([(9, 0x11)], "Field", 9),
                 ([(38, 1)], "Disorder", 32),
                 ([(13, 0), (14, 0)], "Disorder", 32),
@@ -151,12 +152,15 @@ class Frames(Case):
         self.expect_received([(FRAME[:length], bad("Short", length)) for length in range(len(FRAME))])
 
 
-# Eight events of each kind of operation between them, a name and a focus, as they are typed at site 2.
+# Eight events of each kind of operation between them, a name and a focus, as they are typed at site 2; the last two have what undos and
+# redos make.
 LONG = [
     "name Bob\nfocus 1.2\ncreate rect 0 0 10 10 café\ncreate line 5 5 -5 5\nmove 1.2 -7 1000000000\nresize 1.2 20 30\n"
     "stroke 1.2 00AB0C\nfill 1.2 none\nwidth 2.2 64\ntext 2.2 b\n",
     "create rect 0 0 10 10\ncreate ellipse 5 5 5 5\ngroup 1.2 2.2\nfill 1.2 FF8000\nungroup 3.2\nraise 1.2\nlower 1.2\n"
     "delete 2.2\n",
+    "create rect 0 0 10 10 a\ncreate ellipse 5 5 5 5 b\ngroup 1.2 2.2\nungroup 3.2\nundo\nundo\nredo\nundo\n",
+    "create rect 0 0 10 10 a\nraise 1.2\nundo\nredo\ndelete 1.2\nundo\nlower 1.2\nundo\n",
 ]
 ALL_TAKEN = "".join(f"echo {clock}.2 applied\n" for clock in range(1, 9)) + "polled 1\n"
 

@@ -60,10 +60,11 @@ class GoneOn(Case):
             (7, ONE[:39], BAD_LOG, "bad log at 39: Short\n"),
             (8, ONE[:40], BAD_LOG, "bad log at 40: Short\n"),
             (7, b"", BAD_LOG, "bad log at 0: Short\n"),
-            # Another site, another number of sites, version one, no log, an event that is bad.
+            # Another site, another number of sites, versions one and two, no log, an event that is bad.
             (7, changed(ONE, [(9, 2)]), OTHER_JOURNAL, "other journal\n"),
             (7, changed(ONE, [(10, 3)]), OTHER_JOURNAL, "other journal\n"),
             (7, changed(ONE, [(4, 1)]), OTHER_JOURNAL, "other journal\n"),
+            (7, changed(ONE, [(4, 2)]), OTHER_JOURNAL, "other journal\n"),
             (7, changed(ONE, [(0, 0)]), BAD_LOG, "bad log at 0: Magic\n"),
             (7, changed(ONE, [(22, 5)]), BAD_LOG, "bad log at 22: Field\n"),
         ]:

@@ -61,6 +61,8 @@ class Kills(Case):
         typist.__init__(self.draw)
         for line, (_, _, op) in zip(lines, events):
             typist.type(line, op)
+        # Nor does a node that goes on from its journal take them back.
+        typist.undos = []
 
     def expect_sent(self, peer, typist):
         """What the other site was sent are events that were typed. Gives how many of them."""

@@ -31,9 +31,9 @@ class Limits(Case):
         self.expect_node(typed, printed + "refused: NoteEnd\nrefused: NoteEnd\nwho 1 - focus -\nend 1\n")
 
     def test_a_site_makes_65535_edits(self):
-        typed, printed = filled("create rect 0 0 10 10", "ok {}.1\n", "create rect 0 0 10 10\nundo\nraise 9.2\nstatus\n")
-        full = "refused: SessionFull\n" * 3
-        self.expect_node(typed, f"{printed}{full}held 65535 kept 0 line 65535 clock 65535\n")
+        typed, printed = filled("create rect 0 0 10 10", "ok {}.1\n", "create rect 0 0 10 10\nundo\nredo\nraise 9.2\nstatus\n")
+        full = "refused: SessionFull\n"
+        self.expect_node(typed, f"{printed}{2 * full}refused: NothingBack\n{full}held 65535 kept 0 line 65535 clock 65535\n")
 
     # Its work doesn't grow with the events that are held: together it takes no longer than by itself.
     def test_many_shows_of_sixty_thousand_events(self):

@@ -1,4 +1,4 @@
-"""Logs that are replayed: rows that were worked by hand, cuts, labels, groups, and the two versions."""
+"""Logs that are replayed: rows that were worked by hand, cuts, labels, groups, what an undo makes, and the three versions."""
 
 from tests.program import BAD_LOG, DONE, Case
 from tests.spelled import changed, header, label, log, number, record, signed, square, stamp
@@ -7,6 +7,8 @@ from tests.worked import (
 )
 
 SQUARE = "rect {} in {} at {} size 10 10 stroke 000000 fill none width 1{}\n"
+# What each group has at 5 7: neither a size nor a look, nor a label.
+GROUP = ("group", 5, 7, 0, 0, 0, None, 1, "")
 
 
 def bad_log(at, why="Field"):
@@ -32,9 +34,11 @@ class Logs(Case):
             (lowered, RANKS_TEXT),
             (EFFECT_FIRST, "end 0\n"),
             (LOOK, LOOK_TEXT),
-            # A lower is of version two.
+            # A lower is of version two, and what an undo makes of version three.
             (changed(RANKS, [(4, 1), (79, 10)]), bad_log(79)),
             (changed(RANKS, [(4, 2), (79, 11)]), bad_log(79)),
+            (changed(RANKS, [(4, 2), (79, 14)]), bad_log(79)),
+            (changed(RANKS, [(4, 3), (79, 15)]), bad_log(79)),
             # A third site in a session of two, a number that isn't next, and two events of one site with one clock.
             (changed(TIE, [(18, 3)]), bad_log(18, "NoSite")),
             (changed(TIE, [(20, 2)]), bad_log(19, "Turn")),
@@ -60,7 +64,7 @@ class Logs(Case):
         member = bytes.fromhex("000000000002 01 00000000 00000000")
         self.expect_all(rows_of(
             "replay",
-            (changed(front, [(4, 3)]), bad_log(4, "Version")),
+            (changed(front, [(4, 4)]), bad_log(4, "Version")),
             (TIE[:32], bad_log(32, "Short")),
             (front + bytes.fromhex("C3 000000000001 01 0001 0A"), bad_log(21)),
             (group + b"\x01", bad_log(22)),
@@ -136,7 +140,8 @@ LABELS = [
 class Labels(Case):
     def test_a_label_has_at_most_as_many_bytes_as_its_version_allows(self):
         rows = [(1, 0, True), (1, 1, True), (1, 64, True), (1, 65, False), (1, 255, False)]
-        rows += [(2, 65, True), (2, 200, True), (2, 201, False), (2, 255, False)]
+        for version in (2, 3):
+            rows += [(version, 65, True), (version, 200, True), (version, 201, False), (version, 255, False)]
         self.expect_all(rows_of("replay", *[
             (labelled(version, b"a" * length, length), self.rect("a" * length) if is_good else bad_log(39))
             for version, length, is_good in rows
@@ -215,31 +220,94 @@ class Groups(Case):
         ]))
 
 
+# Two rects, a group of both and a move of it; the group is disbanded, put back as it was and dissolved, which is taken back; and
+# then one of the rects, which was raised, lies where it lay.
+TURNED = [
+    square((1, 1), 1),
+    ((2, 1), 2, ("create", "rect", 20, 0, 10, 10, "")),
+    ((3, 1), 3, ("group", ((1, 1), 0, 0), ((2, 1), 0, 0))),
+    ((4, 1), 4, ("move", (3, 1), 5, 7)),
+    ((5, 1), 5, ("disband", (3, 1), ((1, 1), None), ((2, 1), None))),
+    ((6, 1), 6, ("restore", (3, 1), (*GROUP, None, False, ("high", (3, 1))), ((1, 1), ((3, 1), 0, 0)), ((2, 1), ((3, 1), 0, 0)))),
+    ((7, 1), 7, ("ungroup", (3, 1))),
+    ((8, 1), 8, ("reopen", (3, 1))),
+    ((9, 1), 9, ("raise", (1, 1))),
+    ((10, 1), 10, ("rerank", (1, 1), ("low", (9, 1)))),
+]
+FIRST, SECOND = (f"rect {id} in {{}} at {{}} size 10 10 stroke 000000 fill none width 1\n" for id in ("1.1", "2.1"))
+INSIDE = "group 3.1 in - at {}\n" + FIRST.replace("{}", "3.1", 1) + SECOND.replace("{}", "3.1", 1) + "end 3\n"
+OUTSIDE = FIRST.replace("{}", "-", 1) + SECOND.replace("{}", "-", 1) + "end 2\n"
+# What each event leaves, but for the first two.
+LEFT = [
+    INSIDE.format("0 0", "0 0", "20 0"), INSIDE.format("5 7", "5 7", "25 7"), OUTSIDE.format("0 0", "20 0"),
+    INSIDE.format("5 7", "5 7", "25 7"), OUTSIDE.format("5 7", "25 7"), INSIDE.format("5 7", "5 7", "25 7"),
+    f"group 3.1 in - at 5 7\n{SECOND.format('3.1', '25 7')}{FIRST.format('3.1', '5 7')}end 3\n",
+    INSIDE.format("5 7", "5 7", "25 7"),
+]
+
+
+class TakenBack(Case):
+    def test_each_event_leaves_what_it_says(self):
+        logs = [log(TURNED[:count]) for count in range(3, len(TURNED) + 1)]
+        self.expect_all(rows_of("replay", *zip(logs, LEFT)))
+
+    # Of a restore the id is at 22, its object from 29 on: the link's flag at 56, the stamp of its group at 57; its number of ties is
+    # behind the rank, and each tie an id and a link.
+    def test_each_field_of_a_restore_has_its_fault(self):
+        whole = ("rect", 1, 2, 3, 4, 0xAB0C, None, 64, "", ((2, 1), 5, -6), False, ("high", (2, 1)))
+        given = log([((9, 1), 1, ("restore", (1, 1), whole, ((3, 1), None), ((4, 1), ((5, 1), 7, -8))))])
+        self.assertEqual((given[21], given[22:29], given[56:64], len(given)), (11, stamp((1, 1)), b"\1" + stamp((2, 1)), 114))
+        self.expect_all([(["replay"], changed(given, [row[:2]]), BAD_LOG, bad_log(*row[2:])) for row in [
+            (28, 17, 28, "Field"), (27, 9, 22, "FutureId"), (29, 0, 29, "Field"), (29, 6, 29, "Field"), (30, 0x7F, 30, "Field"),
+            (46, 1, 46, "Field"), (50, 1, 50, "Field"), (54, 0, 54, "Field"), (54, 65, 54, "Field"), (55, 201, 55, "Field"),
+            (56, 2, 56, "Field"), (63, 0, 63, "Field"), (62, 9, 57, "FutureId"), (62, 1, 57, "FutureId"), (64, 0x7F, 64, "Field"),
+            (72, 2, 72, "Field"), (73, 2, 73, "Field"), (80, 17, 80, "Field"), (79, 9, 74, "FutureId"), (81, 33, 81, "Field"),
+            (87, 9, 82, "FutureId"), (89, 2, 89, "Field"), (95, 3, 90, "MemberOrder"), (95, 9, 90, "FutureId"),
+            (103, 4, 98, "FutureId"), (103, 9, 98, "FutureId"), (105, 0x7F, 105, "Field"),
+        ]])
+        self.expect(["replay"], given, DONE, "end 0\n")
+        self.expect_cut(given)
+
+    def test_a_disband_has_a_tie_at_least_and_a_rank_is_high_or_low(self):
+        disband = log([((9, 1), 1, ("disband", (1, 1), ((3, 1), None)))])
+        rerank = log([((9, 1), 1, ("rerank", (1, 1), ("low", (8, 16))))])
+        self.expect_all([(["replay"], changed(given, [row[:2]]), BAD_LOG, bad_log(*row[2:])) for given, *row in [
+            (disband, 29, 0, 29, "Field"), (disband, 29, 33, 29, "Field"), (disband, 35, 9, 30, "FutureId"),
+            (rerank, 29, 2, 29, "Field"), (rerank, 35, 9, 30, "FutureId"), (rerank, 35, 0, 30, "Field"),
+        ]])
+        for given in (disband, rerank, log([((9, 1), 1, ("reopen", (1, 1)))])):
+            self.expect(["replay"], given, DONE, "end 0\n")
+            self.expect_cut(given)
+
+    def expect_cut(self, given):
+        """The record, which is the only one, is whole at its end alone."""
+        self.expect_all([(["replay"], given[:size], BAD_LOG, bad_log(size, "Short")) for size in range(12, len(given) - 1)])
+
+
 class Versions(Case):
     def long_of(self, version):
         """The tie's log with that version, where the rect's label is 65 letters `a`."""
         return changed(TIE[:39] + label("a" * 65) + TIE[40:], [(4, version)])
 
-    def test_both_versions_are_read_and_no_other(self):
+    def test_each_version_is_read_and_no_other(self):
         self.expect_all(
-            rows_of("replay", *[(tie_of(version), TIE_TEXT) for version in (1, 2)])
-            + [([word], tie_of(version), BAD_LOG, bad_log(4, "Version")) for version in (0, 3) for word in ("replay", "upgrade")]
+            rows_of("replay", *[(tie_of(version), TIE_TEXT) for version in (1, 2, 3)])
+            + [([word], tie_of(version), BAD_LOG, bad_log(4, "Version")) for version in (0, 4) for word in ("replay", "upgrade")]
         )
 
-    def test_an_upgraded_log_has_the_version_two_and_its_gate(self):
+    def test_an_upgraded_log_has_the_version_three_and_its_gate(self):
         self.expect_all([
-            (["upgrade"], tie_of(1), DONE, tie_of(2)),
-            (["upgrade"], tie_of(2), DONE, tie_of(2)),
-            (["upgrade"], TIE[:11], DONE, header(version=2) + b"\0"),
-            (["upgrade"], TIE + b"behind", DONE, tie_of(2)),
-            (["upgrade"], TIE[:-1] + b"\x01", DONE, tie_of(2)),
+            *((["upgrade"], tie_of(version), DONE, tie_of(3)) for version in (1, 2, 3)),
+            (["upgrade"], TIE[:11], DONE, header() + b"\0"),
+            (["upgrade"], TIE + b"behind", DONE, tie_of(3)),
+            (["upgrade"], TIE[:-1] + b"\x01", DONE, tie_of(3)),
             (["upgrade"], TIE[:32], BAD_LOG, bad_log(32, "Short")),
         ])
 
-    def test_a_long_label_is_of_version_two(self):
+    def test_a_long_label_is_of_version_two_and_three(self):
         rect = RECT.format("1.2", "5 5").rstrip("\n") + f" text {'a' * 65}\n"
         self.expect_all([
             (["replay"], self.long_of(1), BAD_LOG, bad_log(39)),
             (["upgrade"], self.long_of(1), BAD_LOG, bad_log(39)),
-            (["replay"], self.long_of(2), DONE, TIE_TEXT.replace(RECT.format("1.2", "5 5"), rect)),
+            *((["replay"], self.long_of(version), DONE, TIE_TEXT.replace(RECT.format("1.2", "5 5"), rect)) for version in (2, 3)),
         ])

@@ -56,7 +56,8 @@ def line_of(draw, node, site):
         return f"create {draw.choice(['rect', 'ellipse', 'line', 'text'])} {x} {y} 10 10 of {site}"
     id = draw.choice(ids)
     lines = [f"move {id} {x} {y}"] * 3 + [f"fill {id} none", f"stroke {id} {x:06X}", f"text {id} {x}", f"width {id} {1 + x % 64}"]
-    lines += [f"resize {id} {x} {y}", f"raise {id}", f"lower {id}", f"delete {id}", f"ungroup {id}", "undo"]
+    lines += [f"resize {id} {x} {y}", f"raise {id}", f"lower {id}", f"delete {id}", f"ungroup {id}"]
+    lines += ["undo"] * 3 + ["redo"] * 2
     return draw.choice(lines + [f"group {id} {draw.choice(ids)}"] * 3)
 
 

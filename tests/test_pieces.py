@@ -126,7 +126,7 @@ def many_objects(count):
     """A snapshot of one site with so many ellipses."""
     body = bytes.fromhex("02 00000000 00000000 00000014 00000014 00000000 FFFFFFFF 01 00 00 00 01 00000000000101")
     objects = b"".join(number(clock, 6) + b"\x01" + body for clock in range(1, count + 1))
-    return bytes.fromhex("47444F53 02 00000007 01 01 FFFF 00000000FFFF") + number(count, 4) + objects + bytes(4)
+    return bytes.fromhex("47444F53 03 00000007 01 01 FFFF 00000000FFFF") + number(count, 4) + objects + bytes(4)
 
 
 class Calls(Case):

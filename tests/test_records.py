@@ -16,6 +16,11 @@ OPS = [
     ("ungroup", (1, 2)),
     ("raise", (1, 2)),
     ("lower", (1, 2)),
+    ("restore", (1, 2), ("ellipse", 1, -2, 3, -4, 0xAB0C, None, 64, LABEL, ((2, 2), 5, -6), False, ("low", (3, 1)))),
+    ("restore", (1, 2), ("group", 1, -2, 0, 0, 0, None, 1, "", None, True, ("high", (1, 2))), ((1, 1), None), ((2, 1), ((2, 2), 5, -6))),
+    ("disband", (1, 2), ((1, 1), None), ((2, 1), ((2, 2), 5, -6))),
+    ("rerank", (1, 2), ("high", (8, 16))),
+    ("reopen", (1, 2)),
 ]
 
 # A group within a group, and what is in them.
@@ -42,6 +47,19 @@ LINE_EVENTS = (
     '[{"clock":1,"h":-8,"kind":"line","label":"a\\"b\\\\é","op":"create","seq":1,"site":1,"w":7,"x":5,"y":-6}]\n'
 )
 
+# What undos and redos make, as event 9.1, and its further keys in front of those that come last.
+TIES_JSON = '"ties":[{"id":"1.1","link":null},{"id":"2.1","link":{"dx":5,"dy":-6,"id":"2.2"}}]'
+TURNED = list(zip(OPS[-5:], [
+    '"at":[1,-2],"clock":9,"dissolved":false,"fill":null,"id":"1.2","kind":"ellipse","label":"a label",'
+    '"link":{"dx":5,"dy":-6,"id":"2.2"},"op":"restore","rank":{"low":"3.1"},"seq":1,"site":1,"size":[3,-4],"stroke":"00AB0C",'
+    '"ties":[],"width":64',
+    '"at":[1,-2],"clock":9,"dissolved":true,"fill":null,"id":"1.2","kind":"group","label":"","link":null,"op":"restore",'
+    '"rank":{"high":"1.2"},"seq":1,"site":1,"size":[0,0],"stroke":"000000",' + TIES_JSON + ',"width":1',
+    '"clock":9,"id":"1.2","op":"disband","seq":1,"site":1,' + TIES_JSON,
+    '"clock":9,"id":"1.2","op":"rerank","rank":{"high":"8.16"},"seq":1,"site":1',
+    '"clock":9,"id":"1.2","op":"reopen","seq":1,"site":1',
+]))
+
 
 class Records(Case):
     def test_each_operation_is_written_as_it_was_read_and_is_short_without_its_last_byte(self):
@@ -57,6 +75,7 @@ class Records(Case):
         self.expect_all([
             (["replay", "--format", "json"], NESTED, DONE, f"[{','.join(NESTED_JSON)}]\n"),
             (["replay", "--format", "events"], LINE, DONE, LINE_EVENTS),
+            *((["replay", "--format", "events"], log([((9, 1), 1, op)]), DONE, f"[{{{keys}}}]\n") for op, keys in TURNED),
         ])
 
 

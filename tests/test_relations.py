@@ -6,46 +6,63 @@ from collections import Counter
 from tests.program import DONE, Case, run_program
 from tests.spelled import log
 
-# The order of the rows and columns of both tables. `hold` makes a group of which the object is a member.
+# The order of the rows and columns of both tables. `hold` makes a group of which the object is a member, and `free` disbands one
+# that has it; `regroup` restores the object and ties another one.
 DEEDS = "create delete move resize stroke fill width text group hold ungroup raise lower".split()
-# `i` where the two are independent on one object. Creates, deletes and groups touch the whole of it, and of the others
-# each touches a part of its own, but a raise and a lower touch the rank.
+DEEDS += "restore regroup disband free rerank reopen".split()
+# `i` where the two are independent on one object. What makes or takes it touches the whole of it, and of the others each touches
+# a part of its own, but that the link is given by a hold and a free, the mark by an ungroup and a reopen, and the rank by a raise,
+# a lower and a rerank.
 INDEPENDENT = """
-.............
-.............
-...iiiii.iiii
-..i.iiii.iiii
-..ii.iii.iiii
-..iii.ii.iiii
-..iiii.i.iiii
-..iiiii..iiii
-.............
-..iiiiii..iii
-..iiiiii.i.ii
-..iiiiii.ii..
-..iiiiii.ii..
+...................
+...................
+...iiiii.iiii...iii
+..i.iiii.iiii...iii
+..ii.iii.iiii...iii
+..iii.ii.iiii...iii
+..iiii.i.iiii...iii
+..iiiii..iiii...iii
+...................
+..iiiiii..iii....ii
+..iiiiii.i.ii...ii.
+..iiiiii.ii.....i.i
+..iiiiii.ii.....i.i
+...................
+...................
+...................
+..iiiiii..iii....ii
+..iiiiii.ii.....i.i
+..iiiiii.i.ii...ii.
 """.split()
-# `c` where the row's, the later one, covers the column's on one object.
+# `c` where the row's, the later one, covers the column's on one object. What ties others is never covered.
 COVERS = """
-.............
-cccccccc..ccc
-..c..........
-...c.........
-....c........
-.....c.......
-......c......
-.......c.....
-.............
-.............
-..........c..
-...........cc
-...........cc
+...................
+cccccccc..cccc...cc
+..c................
+...c...............
+....c..............
+.....c.............
+......c............
+.......c...........
+...................
+...................
+..........c.......c
+...........cc....c.
+...........cc....c.
+...................
+...................
+...................
+...................
+...........cc....c.
+..........c.......c
 """.split()
-# The object of the earlier event, its stamp where it doesn't make the object, and another member of a group that it makes.
+# The object of the earlier event, its stamp where it doesn't make the object, and another object that it groups or ties.
 OBJECT, EARLIER, BESIDE = (3, 1), (7, 1), (2, 3)
 # The same of the later one.
 LATER, BESIDE_LATER = (8, 2), (5, 4)
 MAKERS = ("create", "group")
+# All of an object but its id: a rect as it was made by this stamp.
+WHOLE = "rect", 0, 0, 10, 10, 0, None, 1, "", None, False, ("high", (1, 1))
 
 
 def event(deed, object, own, beside):
@@ -63,6 +80,16 @@ def event(deed, object, own, beside):
             return own, (deed, object, 5)
         case "text":
             return own, (deed, object, "Begin")
+        case "restore":
+            return own, (deed, object, WHOLE)
+        case "regroup":
+            return own, ("restore", object, WHOLE, (beside, None))
+        case "disband":
+            return own, (deed, object, (beside, None))
+        case "free":
+            return own, ("disband", (6, beside[1]), *((each, None) for each in sorted([object, beside])))
+        case "rerank":
+            return own, (deed, object, ("low", (2, 1)))
         case _:
             return own, (deed, object)
 
@@ -136,6 +163,59 @@ LOWERED = [
 ], []
 # The delete finds nothing when it arrives, and then what the create would have made.
 EFFECT_FIRST = [((3, 2), ("delete", A), "applied", 0), (*square(A), "dropped", 0)], []
+# A delete and its undo. What comes late in front of the delete is covered, and what comes between the two finds nothing.
+RESTORED = [
+    (*square(A), "applied", 0),
+    ((3, 1), ("delete", A), "applied", 0),
+    ((5, 1), ("restore", A, WHOLE), "applied", 0),
+    ((2, 2), ("move", A, 50, 60), "dropped", 0),
+    ((4, 2), ("lower", A), "reworked", 1),
+    ((6, 2), ("fill", A, 7), "applied", 0),
+    ((4, 3), ("delete", A), "reworked", 2),
+], ["rect 1.1 in - at 0 0 size 10 10 stroke 000000 fill 000007 width 1"]
+# An undo that comes late is covered by the delete of another site, and so is a rank that is set back.
+DELETED_AGAIN = [
+    (*square(A), "applied", 0),
+    ((3, 1), ("delete", A), "applied", 0),
+    ((5, 2), ("delete", A), "applied", 0),
+    ((4, 1), ("restore", A, WHOLE), "dropped", 0),
+    ((4, 3), ("rerank", A, ("high", A)), "dropped", 0),
+], []
+# A group is taken back and made again, and both give its members their links, also one that another group took late.
+GROUP = (3, 1)
+GROUPED = "group", 0, 0, 0, 0, 0, None, 1, "", None, False, ("high", GROUP)
+DISBANDED = [
+    (*square(A), "applied", 0),
+    (*square(B, 20), "applied", 0),
+    (GROUP, ("group", (A, 0, 0), (B, 0, 0)), "applied", 0),
+    ((5, 1), ("disband", GROUP, (A, None), (B, None)), "applied", 0),
+    (*square(C, 40), "applied", 0),
+    ((4, 2), ("group", (A, 0, 0), (C, 0, 0)), "reworked", 1),
+    ((6, 1), ("restore", GROUP, GROUPED, (A, (GROUP, 0, 0)), (B, (GROUP, 0, 0))), "applied", 0),
+    ((5, 2), ("raise", A), "applied", 0),
+    ((5, 3), ("raise", GROUP), "reworked", 1),
+], [
+    "group 3.1 in - at 0 0", "rect 2.1 in 3.1 at 20 0 size 10 10 stroke 000000 fill none width 1",
+    "rect 1.1 in 3.1 at 0 0 size 10 10 stroke 000000 fill none width 1",
+    "group 4.2 in - at 0 0", "rect 1.2 in 4.2 at 40 0 size 10 10 stroke 000000 fill none width 1",
+]
+# A mark and a rank that are set back cover what set them, and are covered.
+SET_BACK = [
+    (*square(A), "applied", 0),
+    (*square(B, 20), "applied", 0),
+    (GROUP, ("group", (A, 0, 0), (B, 0, 0)), "applied", 0),
+    ((4, 1), ("ungroup", GROUP), "applied", 0),
+    ((6, 1), ("reopen", GROUP), "applied", 0),
+    ((5, 2), ("ungroup", GROUP), "dropped", 0),
+    ((7, 1), ("raise", A), "applied", 0),
+    ((9, 1), ("rerank", A, ("high", A)), "applied", 0),
+    ((8, 2), ("lower", A), "dropped", 0),
+    ((10, 3), ("lower", B), "applied", 0),
+], [
+    "group 3.1 in - at 0 0", "rect 2.1 in 3.1 at 20 0 size 10 10 stroke 000000 fill none width 1",
+    "rect 1.1 in 3.1 at 0 0 size 10 10 stroke 000000 fill none width 1",
+]
+HISTORIES = DROPPED, THROUGH, RANKS, LOWERED, EFFECT_FIRST, RESTORED, DELETED_AGAIN, DISBANDED, SET_BACK
 
 
 class Relations(Case):
@@ -170,7 +250,7 @@ class Relations(Case):
             self.assertEqual((ended.status, last), (DONE, counts), (DEEDS[column], "then", DEEDS[row]))
 
     def test_each_event_comes_to_its_outcome(self):
-        for history, left in (DROPPED, THROUGH, RANKS, LOWERED, EFFECT_FIRST):
+        for history, left in HISTORIES:
             for length in range(1, len(history) + 1):
                 rows = history[:length]
                 comes = Counter(outcome for _, _, outcome, _ in rows)

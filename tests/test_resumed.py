@@ -61,7 +61,7 @@ class Resumed(Case):
             self.assertEqual((node.text, node.status, node.journal), (text, status, contents), contents.hex())
 
     def test_a_log_of_another_header_is_other(self):
-        places = [(4, 1), (8, 8), (9, 2), (10, 3)]
+        places = [(4, 1), (4, 2), (8, 8), (9, 2), (10, 3)]
         self.expect_refused([(changed(LOG, [place]), OTHER_JOURNAL, "other journal\n") for place in places])
 
     # The log, and that of another session.
@@ -76,7 +76,7 @@ class Resumed(Case):
         self.expect_refused([
             (changed(LOG, [(place, byte)]), BAD_LOG, f"bad log at {at}: {why}\n")
             for place, byte, at, why in [
-                (0, ord("X"), 0, "Magic"), (4, 3, 4, "Version"), (10, 1, 47, "NoSite"), (49, 2, 48, "Turn"),
+                (0, ord("X"), 0, "Magic"), (4, 4, 4, "Version"), (10, 1, 47, "NoSite"), (49, 2, 48, "Turn"),
             ]
         ])
 

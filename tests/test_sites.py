@@ -8,6 +8,8 @@ from tests.test_rehearsals import rehearse
 from tests.worked import FRAME, RECT
 
 MOST = 65_535
+# As many edits can be taken back.
+BACKS = 1_024
 SQUARE = square((1, 2), 1)
 SECOND, THIRD, FOURTH = (((clock, 2), clock, ("move", (1, 2), clock - 1, clock - 1)) for clock in (2, 3, 4))
 
@@ -37,11 +39,12 @@ FRAMES = [
         "echo 281474976710655.2 applied\npolled 1\nrefused: ClockEnd\nrefused: ClockEnd\nrefused: BadId\n"
         "held 1 kept 0 line 281474976710655 clock 281474976710655\n",
     ),
-    # The last edit has it.
+    # The last edit has it, and nothing takes it back.
     (
         [frame([square((GREATEST_CLOCK - 1, 2), 1)])],
-        "poll\nraise 281474976710654.2\ncreate rect 0 0 1 1\nstatus\n",
+        "poll\nraise 281474976710654.2\ncreate rect 0 0 1 1\nundo\nundo\nredo\nstatus\n",
         "echo 281474976710654.2 applied\npolled 1\nok 281474976710655.1\nrefused: ClockEnd\n"
+        "refused: ClockEnd\nrefused: ClockEnd\nrefused: NothingBack\n"
         "held 2 kept 1 line 281474976710654 clock 281474976710655\n",
     ),
 ]
@@ -121,6 +124,7 @@ class Limits(Case):
     def test_a_session_is_full(self):
         rows = [("create rect 0 0 10 10", "ok 1.1")]
         rows += [("move 1.1 5 5", f"ok {clock}.1") for clock in range(2, MOST + 1)]
+        rows += [("redo", "refused: NothingBack")]
         rows += [(line, "refused: SessionFull") for line in ("raise 1.1", "raise 9.1", "undo")]
         self.expect_lines(1, [*rows, ("status", "held 65535 kept 0 line 65535 clock 65535")])
 
@@ -129,13 +133,22 @@ class Limits(Case):
         rows += [("name Bob", "refused: NoteEnd"), ("focus -", "refused: NoteEnd"), ("focus x", "refused: BadId")]
         self.expect_lines(2, [*rows, ("who", "who 1 Ada focus -\nend 1"), ("create rect 0 0 1 1", "ok 1.1")])
 
-    # Of 33 edits the first one stays.
-    def test_the_last_32_edits_are_taken_back(self):
+    # Of 1,025 edits the first one stays. What was taken back is done again up to the last one, and no further.
+    def test_the_last_1024_edits_are_taken_back_and_done_again(self):
         rows = [("create rect 0 0 10 10", "ok 1.1")]
-        rows += [(f"move 1.1 {place} 0", f"ok {place + 1}.1") for place in range(1, 33)]
-        for turn in range(1, 33):
-            rows += [("undo", f"ok {turn + 33}.1"), ("show", RECT.format("1.1", f"{32 - turn} 0") + "end 1")]
-        self.expect_lines(1, [*rows, ("undo", "refused: NothingBack")])
+        rows += [(f"move 1.1 {place} 0", f"ok {place + 1}.1") for place in range(1, BACKS + 1)]
+        for line, first, places in (("undo", BACKS + 2, range(BACKS)[::-1]), ("redo", 2 * BACKS + 2, range(1, BACKS + 1))):
+            for turn, place in enumerate(places):
+                rows += [(line, f"ok {first + turn}.1")]
+                rows += [("show", RECT.format("1.1", f"{place} 0") + "end 1")] * (turn % 100 == 0 or turn == BACKS - 1)
+            rows += [(line, "refused: NothingBack")]
+        self.expect_lines(1, rows)
+
+    # What came before is forgotten by so many edits, and so is what could be done again, by the first of them.
+    def test_an_edit_forgets_what_could_be_done_again(self):
+        rows = [("create rect 0 0 10 10", "ok 1.1"), ("move 1.1 5 5", "ok 2.1"), ("undo", "ok 3.1"), ("undo", "ok 4.1")]
+        rows += [("create rect 1 1 10 10", "ok 5.1"), ("redo", "refused: NothingBack"), ("undo", "ok 6.1"), ("undo", "refused: NothingBack")]
+        self.expect_lines(1, [*rows, ("redo", "ok 7.1"), ("show", RECT.format("5.1", "1 1") + "end 1")])
 
 
 class Notes(Case):

@@ -62,9 +62,9 @@ class Snapshots(Case):
         self.expect_all([
             (["view"], stream(*items) + rest, BAD_VIEW, text)
             for items, rest, text in [
-                ([], b"\x0F", "bad view at 124: Short\n"),
-                ([], b"\x0F\x89\0", "bad view at 123: Long\n"),
-                ([], b"\x0F\x88", "bad view at 125: Short\n"),
+                ([], b"\x1F", "bad view at 124: Short\n"),
+                ([], b"\x1F\xA1\0", "bad view at 123: Long\n"),
+                ([], b"\x1F\xA0", "bad view at 125: Short\n"),
                 ([MOVE], b"\0", "echo 2.2 applied\nbad view at 183: Short\n"),
                 ([MOVE], b"\0\x02\x01", "echo 2.2 applied\nbad view at 185: Short\n"),
                 ([MOVE], b"\xFF\xFF", "echo 2.2 applied\nbad view at 182: Long\n"),

@@ -22,7 +22,7 @@ from tests.worked import TIE, TIE_SNAPSHOT, TIE_TEXT, tie_of
 COMMANDS = [
     (["replay"], TIE, TIE_TEXT.encode()),
     (["replay", "--format", "json"], log([], version=1), b"[]\n"),
-    (["upgrade"], TIE, tie_of(2)),
+    (["upgrade"], TIE, tie_of(3)),
     (["snapshot"], TIE, TIE_SNAPSHOT),
     (["view"], TIE_SNAPSHOT, TIE_TEXT.encode()),
     (["board"], VOTES, VOTES_TEXT.encode()),
@@ -172,6 +172,7 @@ class Journals(Case):
                 (log([], site=2), OTHER_JOURNAL, "other journal\n"),
                 (log([], sites=3), OTHER_JOURNAL, "other journal\n"),
                 (log([], version=1), OTHER_JOURNAL, "other journal\n"),
+                (log([], version=2), OTHER_JOURNAL, "other journal\n"),
                 (header(), BAD_LOG, "bad log at 11: Short\n"),
                 (b"GDOX", BAD_LOG, "bad log at 0: Magic\n"),
                 (log([square((1, 1), 1)])[:-5], BAD_LOG, "bad log at 36: Short\n"),

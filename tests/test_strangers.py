@@ -43,8 +43,8 @@ class Strangers(Case):
             self.assertTrue(node.is_ready())
             for _ in range(10):
                 for _ in range(10):
-                    datagram = draw.randbytes(draw.choice([0, 1, 12, 31, 60, 400, 3976, 8192, 9000]))
-                    peers[2].send(node, (b"GDOF\x02" if draw.random() < 0.5 else b"") + datagram)
+                    datagram = draw.randbytes(draw.choice([0, 1, 12, 31, 60, 400, 8096, 8192, 9000]))
+                    peers[2].send(node, (b"GDOF\x03" if draw.random() < 0.5 else b"") + datagram)
                 answer = node.ask("poll")
                 self.assertEqual(answer[-1], "polled 10")
                 self.assertTrue(all(line.startswith("frame refused: ") for line in answer[:-1]), answer)

@@ -50,7 +50,7 @@ def orders(frames):
 
 
 class Together(Case):
-    # Each site shows its drawing last, and its journal is a log of that. Of four sessions all sites hear all in the end.
+    # Each site shows its drawing last, and its journal is a log of that. Of five sessions all sites hear all in the end.
     def test_sites_draw_together(self):
         looked_on = 0
         for table in tables_of("sessions.txt"):
@@ -65,7 +65,7 @@ class Together(Case):
                 if len(set(drawings)) == 1:
                     self.look_on(session)
                     looked_on += 1
-        self.assertEqual(looked_on, 4)
+        self.assertEqual(looked_on, 5)
 
     def look_on(self, session):
         """Looks on at a session from each of its moments on, with its frames in each order. Nothing is refused, and the drawing

@@ -152,12 +152,12 @@ class Told(Case):
         runs = [(words, given, printed) for words, given, printed in RUNS if words[0] in COMMANDS]
         for words, given, printed in [*runs, (["replay"], nested(), nested_text().encode())]:
             self.expect_in_a_small_stack(words, given, printed)
-        typed = b"create rect 0 0 10 10\nundo\npoll\nstatus\n"
+        typed = b"create rect 0 0 10 10\nundo\nredo\npoll\nstatus\n"
         words = node_words(1, free_addresses(1), "small")
         self.expect_in_a_small_stack(
-            words, typed, b"ready 1 of 1\nok 1.1\nok 2.1\npolled 0\nheld 2 kept 0 line 2 clock 2\n")
+            words, typed, b"ready 1 of 1\nok 1.1\nok 2.1\nok 3.1\npolled 0\nheld 3 kept 0 line 3 clock 3\n")
         words = node_words(1, free_addresses(1), "small", "--resume")
-        self.expect_in_a_small_stack(words, b"status\n", b"ready 1 of 1\nheld 2 kept 0 line 2 clock 2\n")
+        self.expect_in_a_small_stack(words, b"status\n", b"ready 1 of 1\nheld 3 kept 0 line 3 clock 3\n")
         churned = self.launch_in_a_small_stack(["churn", "--seed", "1", "--steps", "2000"], b"")
         self.assertEqual((churned.status, churned.text.count("same yes")), (DONE, 1))
 

@@ -24,6 +24,7 @@ NOTED = [
 
 RECT = square((1, 2), 1)
 DELETE = ((2, 2), 2, ("delete", (1, 2)))
+RESTORE = ((3, 2), 3, ("restore", (1, 2), ("rect", 0, 0, 10, 10, 0, None, 1, "", None, False, ("high", (1, 2)))))
 
 # The line faults of docs/LINES.md, section 4, each with its example.
 FAULTS = [
@@ -39,6 +40,7 @@ FAULTS = [
     ("text", "WrongCount"), ("text 9.17 a", "BadId"), ("group 1.1", "WrongCount"), ("group 1.1 x", "BadId"),
     ("focus", "WrongCount"), ("focus x", "BadId"), ("name A B", "WrongCount"), ("name AAAAAAAAAAAAAAAAA", "BadLabel"),
     ("show 1", "WrongCount"), ("status 1", "WrongCount"), ("who 1", "WrongCount"), ("undo 1", "WrongCount"),
+    ("redo 1", "WrongCount"), ("Redo", "UnknownCommand"), ("redo", "NothingBack"),
     ("poll 1", "WrongCount"), ("quit x", "WrongCount"), ("undo", "NothingBack"), ("raise 9.1", "NoObject"),
     ("text 9.16", "NoObject"),
 ]
@@ -114,11 +116,13 @@ class Kept(Case):
         self.assertEqual(node.journal, self.journal(RECT))
         self.assertEqual(node.frames, {1: [FRAME], 3: [changed(FRAME, [(10, 3)])]})
 
-    def test_an_undo_is_an_event_like_any_other(self):
-        node = self.second_of_three("create rect 0 0 10 10\nundo\nundo\n")
-        self.assertEqual(node.text, "ready 2 of 3\nok 1.2\nok 2.2\nrefused: NothingBack\n")
-        self.assertEqual(node.journal, self.journal(RECT, DELETE))
-        self.assertEqual(node.frames, {to: [frame([RECT], to=to), frame([RECT, DELETE], to=to)] for to in (1, 3)})
+    def test_an_undo_and_a_redo_are_events_like_any_other(self):
+        node = self.second_of_three("create rect 0 0 10 10\nundo\nundo\nredo\nredo\n")
+        nothing = "refused: NothingBack\n"
+        self.assertEqual(node.text, f"ready 2 of 3\nok 1.2\nok 2.2\n{nothing}ok 3.2\n{nothing}")
+        events = [RECT, DELETE, RESTORE]
+        self.assertEqual(node.journal, self.journal(*events))
+        self.assertEqual(node.frames, {to: [frame(events[:count], to=to) for count in (1, 2, 3)] for to in (1, 3)})
 
     # A refused line, a note and a line that only prints send nothing, and neither is journalled.
     def test_lines_without_an_event_send_nothing(self):

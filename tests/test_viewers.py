@@ -6,15 +6,15 @@ from tests.worked import ELLIPSE_LINE, TIE, TIE_SNAPSHOT
 from tests.test_snapshots import MOVE
 
 # The shapes of the tie where the ellipse has the clock 2: site 2 has the sure clock 1, so the ellipse's event is kept.
-LATER = changed(TIE, [(4, 2), (46, 2)])
+LATER = changed(TIE, [(4, 3), (46, 2)])
 LATER_SNAPSHOT = bytes.fromhex(
-    "47444F53 02 00000007 01 02 0001 000000000002 0001 000000000001"
+    "47444F53 03 00000007 01 02 0001 000000000002 0001 000000000001"
     "00000001 00000000000102 01 00000005 00000005 0000000A 0000000A 00000000 FFFFFFFF 01 00 00 00 01 00000000000102"
     "00000001 00000000000201 0001 01 02 00000000 00000000 00000014 00000014 00"
 )
 # The ellipse of the tie alone, and two kept events of site 2 above the line, which is 1: it was deleted twice.
 KEPT = bytes.fromhex(
-    "47444F53 02 00000007 01 02 0001 000000000001 0002 000000000003"
+    "47444F53 03 00000007 01 02 0001 000000000001 0002 000000000003"
     "00000001 00000000000101 02 00000000 00000000 00000014 00000014 00000000 FFFFFFFF 01 00 00 00 01 00000000000101"
     "00000002 00000000000202 0001 02 00000000000101 00000000000302 0002 02 00000000000101"
 )
@@ -34,7 +34,7 @@ def rect(id, rank, *shape):
 
 def snapshot(known, objects, kept):
     """That of site 1 of session 7: of each site a count and a sure clock, then objects and events."""
-    front = b"GDOS\x02\0\0\0\x07\x01" + number(len(known), 1)
+    front = b"GDOS\x03\0\0\0\x07\x01" + number(len(known), 1)
     front += b"".join(number(count, 2) + number(sure, 6) for count, sure in known)
     events = b"".join(record(*event) for event in kept)
     return front + number(len(objects), 4) + b"".join(objects) + number(len(kept), 4) + events
@@ -66,6 +66,7 @@ class Faults(Case):
         self.expect_bad([(TIE_SNAPSHOT, *row) for row in [
             (0, 0x48, 0, "Magic"),
             (4, 1, 4, "Version"),
+            (4, 2, 4, "Version"),
             (10, 0, 10, "Field"),
             (10, 17, 10, "Field"),
             (38, 6, 38, "Field"),
@@ -83,7 +84,7 @@ class Faults(Case):
             (85, 3, 79, "Bound"),
             (87, 3, 79, "Bound"),
             (87, 0, 86, "Field"),
-            (88, 11, 88, "Field"),
+            (88, 15, 88, "Field"),
             (94, 3, 89, "FutureId"),
             (101, 2, 96, "Order"),
         ]])
@@ -94,7 +95,7 @@ class Faults(Case):
 
     def test_items_that_are_none(self):
         self.expect_all([
-            (["view"], TIE_SNAPSHOT + b"\x0F\x89", BAD_VIEW, bad(123, "Long")),
+            (["view"], TIE_SNAPSHOT + b"\x1F\xA1", BAD_VIEW, bad(123, "Long")),
             (["view"], TIE_SNAPSHOT + item(MOVE)[:12], BAD_VIEW, bad(135, "Short")),
         ])
 

@@ -19,6 +19,11 @@ def move(clock, site, number, target, place=(1, 2)):
     return record(clock, site, number, 3, stamp(*target) + struct.pack(">ii", *place))
 
 
+def disband(clock, site, number, target, member):
+    """What takes a group away, and its one member out of it."""
+    return record(clock, site, number, 12, stamp(*target) + b"\1" + stamp(*member) + b"\0")
+
+
 def log(records, session=7, site=1, sites=16):
     gated = b"".join(b"\xc3" + each for each in records)
-    return b"GDOL\x02" + session.to_bytes(4, "big") + bytes([site, sites]) + gated + b"\0"
+    return b"GDOL\x03" + session.to_bytes(4, "big") + bytes([site, sites]) + gated + b"\0"

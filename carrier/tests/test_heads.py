@@ -9,7 +9,7 @@ from carrier.frames import closing, frame, frames
 from carrier.keys import Keys
 from carrier.roster import SEATS
 from carrier.tests.rosters import SEEDS, SESSION, roster_with
-from carrier.tests.logs import create, log, move
+from carrier.tests.logs import create, disband, log, move
 from page.tests.places import WithFolder
 
 SIGNING = {seat: Keys(SEEDS[seat]).signing for seat in SEEDS}
@@ -63,9 +63,9 @@ class FeedsOfAJournal(WithJournal):
             self.assertEqual(feeds[2].digest(3), digests(2, records[3:])[3])
 
     def test_records_one_behind_the_other(self):
-        records = [create(1, 1, 1, b"a"), move(2, 1, 2, (1, 1)), create(3, 1, 3, b"long" * 40)]
+        records = [create(1, 1, 1, b"a"), move(2, 1, 2, (1, 1)), create(3, 1, 3, b"long" * 40), disband(4, 1, 4, (1, 1), (3, 1))]
         self.assertEqual([record for _, record in records_of(b"".join(records))], records)
-        for bad in (records[0] + b"\0", records[1][:-1], b"\0" * 30, records[0][:9] + b"\x0b" + records[0][10:]):
+        for bad in (records[0] + b"\0", records[1][:-1], b"\0" * 30, records[0][:9] + b"\x0f" + records[0][10:]):
             with self.assertRaises(FAULTS):
                 list(records_of(bad))
 
@@ -136,7 +136,7 @@ class Frames(unittest.TestCase):
         record = bytes.fromhex("000000000001 02 0001 01 01 00000000 00000000 0000000A 0000000A 00")
         self.assertEqual(
             frame(7, 2, 1, [record], 1, 1),
-            bytes.fromhex("47444F46 02 00000007 02 01 0000 0001 000000000001 0000 00000000000000 00 01") + record,
+            bytes.fromhex("47444F46 03 00000007 02 01 0000 0001 000000000001 0000 00000000000000 00 01") + record,
         )
 
     def test_eight_records_a_frame(self):

@@ -16,7 +16,7 @@ from carrier.tests.rosters import SEEDS, roster_with
 ALICE = bytes.fromhex("77076d0a7318a57d3c16c17251b26645df4c2f87ebc0992ab177fba51db92c2a")
 BOB = bytes.fromhex("de9edb7d7b7dc1b4d35b61c2ece435373f8343c85b78674dadfc7e146f882b4f")
 SHARED = bytes.fromhex("4a5d9d5ba4ce2de1728e3bf480350f25e07e21c947d19e3376f09b3c1e161742")
-FIRST = b"GDOF\x02 a frame"
+FIRST = b"GDOF\x03 a frame"
 
 
 def hkdf(secret, salt, info):

@@ -23,7 +23,7 @@ class WithBoard(WithTwoPages):
         ids = page.driver.execute_async_script(script, list(lines))
         wait_for(lambda: all(set(ids) <= set(each.ids()) for each in self.pages))
         self.settled(page)
-        page.do("ed.selection.set(arguments[0], null); ed.edits.done = []; ed.edits.undone = []; ed.focusBoard()", ids if select else [])
+        page.do("ed.selection.set(arguments[0], null); ed.focusBoard()", ids if select else [])
         return ids
 
     def assert_typed(self, page, act, *lines):
@@ -307,7 +307,7 @@ class Arranging(WithBoard):
         (group,) = self.one.selected()
         self.assertEqual(self.one.ask("ed.model.leaves(arguments[0]).length", group), 40)
         lines = self.typed_by(self.one, lambda: self.one.press("z", hold=["ctrl"]))
-        self.assertEqual([line.split()[0] for line in lines], ["ungroup"] * 3)
+        self.assertEqual([line.split()[0] for line in lines], ["disband"] * 3)
         self.assertEqual(set(self.one.ids()), set(names))
 
     def test_duplicate(self):
@@ -393,74 +393,3 @@ class LeavingOff(WithBoard):
 
         self.assert_typed(self.one, drag_and_type, f"move {rect} 350 260")
         self.assertEqual(self.one.ask("ed.tool"), "select")
-
-
-class Undoing(WithBoard):
-    def test_a_move_of_40_is_taken_back_in_one_step(self):
-        names = self.make(self.one, *(f"create rect {200 + 20 * (at % 20)} {200 + 30 * (at // 20)} 10 10" for at in range(40)), select=True)
-        self.assertEqual(len(self.typed_by(self.one, lambda: self.one.drag((295, 215), (395, 315), hold=["ctrl"]))), 40)
-        self.assertEqual(len(self.typed_by(self.one, lambda: self.one.press("z", hold=["ctrl"]))), 40)
-        self.assert_seen(names[0], x=200, y=200)
-        self.assert_seen(names[39], x=580, y=230)
-        self.assertEqual(len(self.typed_by(self.one, lambda: self.one.press("z", hold=["ctrl", "shift"]))), 40)
-        self.assert_seen(names[39], x=680, y=330)
-
-    def test_redo_makes_anew_what_was_made(self):
-        self.typed_by(self.one, lambda: self.one.draw("r", (300, 200), (400, 300)))
-        (name,) = self.one.selected()
-        self.typed_by(self.one, lambda: self.one.press(Keys.ARROW_RIGHT))
-        self.assert_typed(self.one, lambda: self.one.press("z", hold=["ctrl"]), f"move {name} 300 200")
-        self.assert_typed(self.one, lambda: self.one.press("z", hold=["ctrl"]), f"delete {name}")
-        lines = self.typed_by(self.one, lambda: self.one.press("y", hold=["ctrl"]))
-        (again,) = self.one.ids()
-        self.assertEqual(lines, ["create rect 300 200 100 100", f"width {again} 2"])
-        self.assert_typed(self.one, lambda: self.one.press("y", hold=["ctrl"]), f"move {again} 301 200")
-        self.assert_typed(self.one, lambda: self.one.press("z", hold=["ctrl", "shift"]))
-
-    def test_what_the_other_one_set_since_stays(self):
-        first, second = self.make(self.one, "create rect 300 200 100 60", "create rect 500 200 100 60", select=True)
-        self.typed_by(self.one, lambda: self.one.drag((330, 200), (340, 230), hold=["ctrl"]))
-        self.typed_by(self.two, lambda: self.two.do("ed.edits.do('m', [`move ${arguments[0]} 700 500`])", first))
-        self.assert_seen(first, x=700)
-        wait_for(lambda: self.one.ask("ed.node.events.at(-1).site") == 2)
-        self.assert_typed(self.one, lambda: self.one.press("z", hold=["ctrl"]), f"move {second} 500 200")
-        wait_for(lambda: "1 of 2 changes stayed" in self.one.banners())
-        self.assert_seen(first, x=700, y=500)
-
-    def test_what_was_deleted_is_put_back_as_new_objects(self):
-        first, second = self.make(self.one, "create rect 300 200 100 60 Start", "fill @1 FFF2AE", "create ellipse 500 200 90 60", select=True)
-        self.typed_by(self.one, lambda: self.one.press(Keys.DELETE))
-        wait_for(lambda: not self.two.ids())
-        self.assertEqual(self.one.banners(), "Deleted 2 objects for everybodyPut backCtrl+Z")
-        lines = self.typed_by(self.one, lambda: self.one.press("z", hold=["ctrl"]))
-        again, other = self.one.ids()
-        self.assertEqual(lines, ["create rect 300 200 100 60 Start", f"fill {again} FFF2AE", "create ellipse 500 200 90 60"])
-        self.assertEqual(self.one.selected(), [again, other])
-        self.assertEqual(self.one.banners(), "")
-        self.assert_seen(again, label="Start", fill="FFF2AE")
-        self.assert_typed(self.one, lambda: self.one.press("z", hold=["ctrl", "shift"]), f"delete {again}", f"delete {other}")
-        self.assertNotIn(first, self.one.ids())
-        self.assertNotIn(second, self.one.ids())
-
-    def test_the_banner_puts_back_what_was_deleted_whatever_was_done_since(self):
-        one, two = self.make(self.one, "create rect 300 200 100 60", "create rect 500 200 100 60", select=True)
-        self.one.do("ed.selection.set([arguments[0]], null)", one)
-        self.typed_by(self.one, lambda: self.one.press(Keys.BACKSPACE))
-        self.assertIn("Put backCtrl+Z", self.one.banners())
-        self.one.do("ed.selection.set([arguments[0]], null)", two)
-        self.typed_by(self.one, lambda: self.one.press(Keys.ARROW_RIGHT))
-        self.assertNotIn("Ctrl+Z", self.one.banners())
-        self.assert_typed(self.one, self.one.find(".banner .quiet").click, "create rect 300 200 100 60")
-        self.assert_typed(self.one, lambda: self.one.press("z", hold=["ctrl"]), f"move {two} 500 200")
-
-    def test_what_is_put_back_lacks_what_the_other_one_did_to_it_meanwhile(self):
-        (name,) = self.make(self.one, "create rect 300 200 100 60", select=True)
-        self.cut(1)
-        self.typed_by(self.one, lambda: self.one.press(Keys.DELETE))
-        self.typed_by(self.two, lambda: self.two.do("ed.edits.do('m', [`move ${arguments[0]} 700 500`])", name))
-        self.cut()
-        wait_for(lambda: self.one.ask("ed.node.events.some((each) => each.site === 2 && each.id === arguments[0])", name))
-        self.one.press("z", hold=["ctrl"])
-        wait_for(lambda: "It is a new one: without what Person 2 changed since" in self.one.banners())
-        (again,) = self.wait_until_same()
-        self.assertIn("at 300 200 size 100 60", again)

@@ -103,8 +103,8 @@ class Arranging(OnPhone):
         (group,) = self.page.selected()
         self.assert_typed(self.page, lambda: self.page.tap_on("#quick [data-run=ungroup]"), f"ungroup {group}")
         self.assert_typed(self.page, lambda: self.page.tap_on("#quick [data-run=delete]"), f"delete {a}", f"delete {b}", f"delete {c}")
-        lines = self.typed_by(self.page, lambda: self.page.tap_on(".banner .quiet"))
-        self.assertEqual([line.split()[0] for line in lines], ["create"] * 3)
+        self.assert_typed(self.page, lambda: self.page.tap_on(".banner .quiet"), f"restore {c}", f"restore {b}", f"restore {a}")
+        self.assertEqual(self.page.ids(), [a, b, c])
 
     def test_a_style_is_chosen(self):
         a, _, c = self.three()

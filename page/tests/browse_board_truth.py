@@ -28,7 +28,7 @@ class Refusals(WithBoard):
                 wait_for(lambda: words in self.one.bubble())
                 self.assertEqual(self.one.shown(), before)
                 self.one.do("document.getElementById('bubbles').replaceChildren()")
-        self.assertEqual(self.one.ask("ed.edits.done.length"), 0)
+        self.assertEqual(self.one.ask("ed.node.turns.undo.name"), "made")
         self.assertNotIn(other, self.one.selected())
 
     def test_of_several_lines_those_are_done_that_can_be(self):
@@ -165,7 +165,7 @@ class CutOff(WithBoard):
         self.assertEqual("".join(f"{line}\n" for line in self.one.shown()), replayed(self.journals[0]).rpartition("end ")[0])
         self.one.picture("board-back")
 
-    def test_an_undo_behind_a_time_apart_takes_what_is_still_ones_own(self):
+    def test_an_undo_behind_a_time_apart_takes_all_back_and_says_whose_goes_with_it(self):
         first, second = self.make(self.one, "create rect 300 200 100 60", "create rect 500 200 100 60", select=True)
         self.wait_until_same()
         self.cut(1)
@@ -176,7 +176,11 @@ class CutOff(WithBoard):
         self.cut()
         self.wait_until_same()
         self.assertEqual(self.one.item(first)["x"], 703)
-        self.assert_typed(self.one, lambda: self.one.press("z", hold=["ctrl"]), f"move {second} 500 200")
+        undone = [f"move {second} 500 200", f"move {first} 300 200"]
+        self.assert_typed(self.one, lambda: self.one.press("z", hold=["ctrl"]), *undone)
+        wait_for(lambda: self.one.banners() == "Undone, without what Person 2 changed there since")
+        self.assertEqual(self.one.item(first)["x"], 300)
+        self.assert_typed(self.one, lambda: self.one.press("y", hold=["ctrl"]), f"move {first} 703 500", f"move {second} 510 200")
 
 
 class Broken(WithBoard):

@@ -450,7 +450,8 @@ class WithTwoPages(unittest.TestCase):
         wait_for(page.is_settled)
 
     def typed_by(self, page, act):
-        """The lines that an act at a page had the node take, as its journal has them: places are those within groups."""
+        """The lines that an act at a page had the node take, as its journal has them: places are those within groups. What an
+        undo makes stands there as what it is, with the id of its object alone where no line says so: `restore 1.1`."""
         site = self.pages.index(page) + 1
         before = len(own_events(self.journals[site - 1], site))
         act()
@@ -466,5 +467,4 @@ class WithTwoPages(unittest.TestCase):
         self.one.do("ed.edits.do('clear', ed.model.items.filter((i) => !i.parent).map((i) => `delete ${i.id}`))")
         wait_for(lambda: not any(page.ids() for page in self.pages))
         for page in self.pages:
-            page.do("ed.selection.clear(); ed.edits.done = []; ed.edits.undone = []; ed.banner(null); ed.focusBoard();"
-                "document.getElementById('bubbles').replaceChildren()")
+            page.do("ed.selection.clear(); ed.banner(null); ed.focusBoard(); document.getElementById('bubbles').replaceChildren()")

@@ -5,7 +5,7 @@ import struct
 KINDS = {"rect": 1, "ellipse": 2, "line": 3, "text": 4}
 
 
-def header(session=7, site=1, sites=2, version=2):
+def header(session=7, site=1, sites=2, version=3):
     return b"GDOL" + struct.pack(">BIBB", version, session, site, sites)
 
 

@@ -149,7 +149,9 @@ class Telling(WithDesk):
         await until(lambda: desk.shown == 1 and desk.standing and desk.who)
         told = self.opened(desk)
         hello = {"is": "hello", "desk": 1, "site": 1, "sites": 2, "session": 7, "demo": False, "openly": False, "journal": "site.log"}
-        self.assertEqual(told["hello"], {**hello, "desks": [1], "names": {}, "gestures": []})
+        turns = {"number": 1, "undo": {"name": "", "edits": 1, "first": told["hello"]["turns"]["undo"]["first"]}, "redo": None}
+        turns["undo"]["last"] = turns["undo"]["first"]
+        self.assertEqual(told["hello"], {**hello, "desks": [1], "names": {}, "gestures": [], "turns": turns})
         self.assertEqual([each["id"] for each in told["picture"]["items"]], ["1.1"])
         self.assertEqual((told["picture"]["whole"], told["picture"]["edits"]), (True, 1))
         self.assertEqual([each["line"] for each in told["news"]["news"]], ["move 1.1 0 0"])
@@ -170,6 +172,21 @@ class Telling(WithDesk):
         self.assertEqual((len(told), clocks[1] - clocks[0]), (1, 2))
         self.assertGreater(clocks[0], first)
         self.assertEqual(self.opened(desk)["hello"]["gestures"], [clocks])
+
+    async def test_what_can_be_taken_back_is_told_behind_each_gesture_and_to_who_comes_later(self):
+        desk = await self.desk(poll_every=1000, refused={"raise 9.1": "NoObject"})
+        rows = [
+            ("Moved", ["move 1.1 0 0", "move 2.1 0 0"], ("Moved", 2), None), ("", ["raise 9.1"], ("Moved", 2), None),
+            ("", ["focus 1.1"], ("Moved", 2), None), ("", ["undo", "undo"], None, ("Moved", 2)), ("", ["redo", "redo"], ("Moved", 2), None),
+        ]
+        for name, lines, *wanted in rows:
+            turns = (await desk.batch(lines, name))["turns"]
+            due = [each and (each["name"], each["edits"]) for each in (turns["undo"], turns["redo"])]
+            self.assertEqual(due, wanted)
+            self.assertEqual(self.opened(desk)["hello"]["turns"], turns)
+        told = self.heard("turns")
+        self.assertEqual([each["number"] for each in told], [1, 2, 3])
+        self.assertEqual({**told[-1], "is": None, "desk": None}, {**turns, "is": None, "desk": None})
 
     async def stopped(self, *lines):
         """A desk whose node has stopped behind the lines of a gesture, which stand in its journal, and another one's event

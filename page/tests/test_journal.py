@@ -28,6 +28,22 @@ GROUP = (
     "00 00 00 00 00 02 01 3B 9A CA 00 C4 65 36 00"
 )
 MEMBERS = [{"dx": 5, "dy": -7, "id": "1.2"}, {"dx": 1_000_000_000, "dy": -1_000_000_000, "id": "2.1"}]
+# An ellipse in a group, which has none to tie, and a dissolved group, which lies low and ties two others; what takes a group
+# away, and gives its two members their links; and a rank.
+ELLIPSE = "02 FFFFFFFB 00000006 00000014 0000001E 0000AB0C 00FF8000 40 02 C3A9"
+PLAIN = "05 00000001 00000002 00000000 00000000 00000000 FFFFFFFF 01 00"
+TIES = "02 000000000001 01 00 000000000002 01 01 000000000004 01 00000005 FFFFFFF9"
+TIED = [{"id": "1.1", "link": None}, {"id": "2.1", "link": {"dx": 5, "dy": -7, "id": "4.1"}}]
+SEEN = {"at": [-5, 6], "size": [20, 30], "stroke": "00AB0C", "fill": "FF8000", "width": 64, "label": "\u00e9", "dissolved": False}
+BARE = {"at": [1, 2], "size": [0, 0], "stroke": "000000", "fill": None, "width": 1, "label": "", "link": None, "dissolved": True}
+TURNED = [
+    (11, f"000000000001 02 {ELLIPSE} 01 000000000003 01 00000001 FFFFFFFF 00 01 000000000002 02 00",
+     {"op": "restore", "target": "1.2", "kind": "ellipse", **SEEN, "link": {"dx": 1, "dy": -1, "id": "3.1"}, "rank": {"high": "2.2"}, "ties": []}),
+    (11, f"000000000003 01 {PLAIN} 00 01 00 000000000005 02 {TIES}",
+     {"op": "restore", "target": "3.1", "kind": "group", **BARE, "rank": {"low": "5.2"}, "ties": TIED}),
+    (12, f"000000000003 01 {TIES}", {"op": "disband", "target": "3.1", "ties": TIED}),
+    (13, "000000000003 01 00 000000000005 02", {"op": "rerank", "target": "3.1", "rank": {"low": "5.2"}}),
+]
 
 
 def bare(event):
@@ -43,10 +59,11 @@ class Reading(WithFolder):
     def test_the_worked_log(self):
         self.assertEqual(self.events(bytes.fromhex(HEAD + "".join(WORKED) + "00")), MADE)
 
-    def test_both_versions_read_alike(self):
+    def test_each_version_reads_alike(self):
         data = bytearray(bytes.fromhex(HEAD + "".join(WORKED) + "00"))
-        data[4] = 2
-        self.assertEqual(self.events(data), MADE)
+        for version in (1, 2, 3):
+            data[4] = version
+            self.assertEqual(self.events(data), MADE)
 
     def test_a_look(self):
         for bytes_of, wanted in LOOK.items():
@@ -59,8 +76,13 @@ class Reading(WithFolder):
         self.assertEqual(bare(made), {"op": "group", "members": MEMBERS})
         self.assertEqual((ended["id"], bare(ended)), ("4.2", {"op": "ungroup", "target": "3.1"}))
 
+    def test_what_an_undo_makes(self):
+        for tag, body, wanted in TURNED:
+            (event,) = self.events(log(header(), record("9.1", 1, tag, bytes.fromhex(body))))
+            self.assertEqual(bare(event), wanted)
+
     def test_the_operations_with_an_id_alone(self):
-        for tag, name in ((2, "delete"), (8, "ungroup"), (9, "raise"), (10, "lower")):
+        for tag, name in ((2, "delete"), (8, "ungroup"), (9, "raise"), (10, "lower"), (14, "reopen")):
             (event,) = self.events(log(header(), record("9.1", 1, tag, stamp("281474976710655.16"))))
             self.assertEqual(bare(event), {"op": name, "target": "281474976710655.16"})
 
@@ -82,14 +104,16 @@ class Reading(WithFolder):
 class ReadingOn(WithFolder):
     def test_each_event_comes_once_however_the_file_grows(self):
         records = [bytes.fromhex(each) for each in LOOK] + [bytes.fromhex(GROUP)]
+        records += [record("9.1", 8 + at, tag, bytes.fromhex(body)) for at, (tag, body, _) in enumerate(TURNED)]
         whole = log(header(), *records)
         journal, found = Journal(self.journal), []
         self.assertEqual(journal.read_on(), [])
         for cut in range(len(whole) + 1):
             self.journal.write_bytes(whole[:cut])
             found += journal.read_on()
-        self.assertEqual([event["seq"] for event in found], [2, 3, 4, 5, 6, 7, 1])
-        self.assertEqual(bare(found[-1]), {"op": "group", "members": MEMBERS})
+        self.assertEqual([event["seq"] for event in found], [2, 3, 4, 5, 6, 7, 1, 8, 9, 10, 11])
+        self.assertEqual(bare(found[6]), {"op": "group", "members": MEMBERS})
+        self.assertEqual([bare(event) for event in found[7:]], [wanted for _, _, wanted in TURNED])
 
     def test_it_grows_as_a_node_writes_it(self):
         first, second = (create(f"{clock}.1", clock, "rect", clock, 0, 1, 1) for clock in (1, 2))
@@ -123,8 +147,9 @@ class Faults(WithFolder):
         made = create("1.1", 1, "rect", 0, 0, 1, 1)
         rows = {
             "another magic": b"GDOB" + header()[4:] + b"\x00",
-            "version three": header(version=3) + b"\x00",
-            "no such tag": log(header(), record("1.1", 1, 11, stamp("1.1"))),
+            "version four": header(version=4) + b"\x00",
+            "no such tag": log(header(), record("1.1", 1, 15, stamp("1.1"))),
+            "no such height": log(header(), record("2.1", 1, 13, stamp("1.1") + b"\x02" + stamp("1.1"))),
             "no such kind": log(header(), made[:10] + b"\x05" + made[11:]),
             "no such style": log(header(), record("2.1", 1, 5, stamp("1.1") + b"\x04\x00\x00\x00\x00")),
             "a label of no UTF-8": log(header(), record("2.1", 1, 6, stamp("1.1") + b"\x01\xff")),

@@ -31,9 +31,9 @@ class Typed(unittest.TestCase):
     def test_only_lines_with_one_line_of_answer_go_through(self):
         for verb in ("create", "delete", "move", "resize", "stroke", "fill", "width", "text", "group", "ungroup"):
             self.assertEqual(typed(verb), verb.encode())
-        for verb in ("raise", "lower", "undo", "name", "focus"):
+        for verb in ("raise", "lower", "undo", "redo", "name", "focus"):
             self.assertEqual(typed(verb), verb.encode())
-        for text in ("", "   ", "quit", " quit", "poll", "show", "who", "status", "Create", "\tundo", "undo\t", "paint"):
+        for text in ("", "   ", "quit", " quit", "poll", "show", "who", "status", "Create", "\tundo", "undo\t", "Redo", "paint"):
             self.refused(text, "UnknownCommand")
 
     def test_what_is_no_text_is_refused(self):

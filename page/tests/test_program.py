@@ -73,7 +73,8 @@ class TwoSites(WithFolder):
         lines = ["create rect 10 20 30 40 caf\u00e9", "create ellipse 0 0 9 9", "create line 1 2 -3 -4", "create text 5 5 9 9 \u05d0 @1"]
         lines += ["fill @1 FFCC00", "stroke @2 00ab0c", "width @3 7", "text @4  a  b ", "fill @1 none", "move @1 -5 6"]
         lines += ["resize @2 -1 2", "group @1 @2", "move @12 100 100", "raise @3", "lower @4", "group @12 @3", "ungroup @16"]
-        lines += ["create rect 1 1 1 1", "delete @18", "undo"]
+        # What is taken back: the delete, the create, the end of the group, the group, and the lower.
+        lines += ["create rect 1 1 1 1", "delete @18", *["undo"] * 5, *["redo"] * 3]
         return (await self.desks[0].batch(lines))["answers"]
 
     async def same(self):
@@ -84,11 +85,11 @@ class TwoSites(WithFolder):
 
     async def test_drawings_and_events_are_those_that_the_program_prints(self):
         answers = await self.draw()
-        self.assertEqual([each for each in answers if not each.startswith("ok ")], ["refused: NotTakeable"])
+        self.assertEqual([each for each in answers if not each.startswith("ok ")], [])
         await self.same()
         for desk in self.desks:
             self.assertEqual(self.told(desk)["picture"]["items"], replayed(desk.journal, "json"))
-            await until(lambda: len(desk.history.events) == len(answers) - 1)
+            await until(lambda: len(desk.history.events) == len(answers))
             self.assertEqual([as_replayed(json.loads(each)) for each in desk.history.events], replayed(desk.journal, "events"))
             self.assertEqual(json.loads(await saved(PROGRAM, desk.journal, "json")), replayed(desk.journal, "json"))
         self.assertEqual({json.loads(each)["came"] for each in self.desks[1].history.events}, {"applied"})

@@ -62,16 +62,19 @@ class Ending(WithDesk):
         self.assertIn("can't use the network", end["end"]["meaning"])
         self.assertIn("end", self.opened(desk))
         self.script(show=[ROW])
+        self.assertIsNotNone(desk.turns.told()["undo"])
         await desk.start_again()
         self.assertEqual(len(self.heard("begun")), 1)
+        # It takes nothing back that was done before.
+        self.assertIsNone(self.heard("turns")[-1]["undo"])
         await until(lambda: self.heard("picture") and self.heard("picture")[-1]["items"])
         self.assertEqual((await desk.batch(["undo"]))["edits"], 2)
         self.assertNotIn("end", self.opened(desk))
 
     async def test_nothing_at_an_ended_node_is_ok(self):
         desk = await self.ended()
-        wanted = {"answers": ["refused: Ended", "refused: NoObject"], "edits": 1}
-        self.assertEqual(await desk.batch(["create rect 0 0 1 1", "raise @1"]), wanted)
+        answered = await desk.batch(["create rect 0 0 1 1", "raise @1"])
+        self.assertEqual((answered["answers"], answered["edits"]), (["refused: Ended", "refused: NoObject"], 1))
 
     async def test_no_second_node_starts_on_a_live_journal(self):
         desk = await self.desk()

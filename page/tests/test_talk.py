@@ -61,6 +61,8 @@ class Sockets(WithServer):
             self.assertEqual((await page.ask("batch", desk=desk, lines=["undo"]))["error"], "there is no such desk", desk)
         for lines in (None, "undo", {"0": "undo"}, ["undo"] * 10_001):
             self.assertIn("at most 10000 lines", (await page.ask("batch", lines=lines))["error"])
+        for name in (None, 1, ["Moved"], "m" * 101):
+            self.assertIn("at most 100 characters", (await page.ask("batch", lines=["undo"], name=name))["error"])
         self.assertEqual(self.edits(), [])
         self.assertEqual((await page.batch("undo"))[0][:3], "ok ")
 
@@ -71,6 +73,14 @@ class Sockets(WithServer):
             await page.next(lambda each: each["is"] == "reply")
         self.assertEqual(self.edits(), [])
         self.assertEqual((await (await self.open()).batch("undo"))[0][:3], "ok ")
+
+    async def test_a_gesture_is_called_by_its_name(self):
+        page, other = await self.open(), await self.open()
+        answers = await page.ask("batch", lines=["raise 1.1", "raise 2.1"], name="Raised \u05d0")
+        wanted = {"name": "Raised \u05d0", "edits": 2}
+        self.assertEqual(answers["turns"]["undo"], answers["turns"]["undo"] | wanted)
+        told = await other.kind("turns")
+        self.assertEqual((told["undo"], told["redo"]), (answers["turns"]["undo"], None))
 
     async def test_a_gesture_of_thousands_is_one_message(self):
         page = await self.open()

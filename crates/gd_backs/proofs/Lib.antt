@@ -1,16 +1,4 @@
-pub mod Objects
-pub mod Accepted
-pub mod Shown
-pub mod Ranges
-pub mod Sights
-pub mod Onward
-pub mod Changes
-pub mod Looks
-pub mod Placed
-pub mod Views
-pub mod Grouping
-pub mod Pictures
-pub mod Texts
-pub mod Restoring
-pub mod Restored
-pub mod Takings
+pub mod NextEvents
+pub mod Traces
+mod Turning
+pub mod Soundness

@@ -4,10 +4,11 @@ ghost use Rattle.gd_base.specs.Ranges.{is_within};
 
 use crate::label::Label;
 use crate::ranges::{COLOUR_LIMIT, PLACE_LIMIT, SIZE_LIMIT, WIDTH_LIMIT};
+use crate::rank::Rank;
 
 /// A new value for one part of an object, with a label of type `L` and a rank of type `R`. In a sound event places are from
 /// `-PLACE_LIMIT` to `PLACE_LIMIT`, sizes from `-SIZE_LIMIT` to `SIZE_LIMIT`, colours from 0 to `COLOUR_LIMIT` (a fill may
-/// also be none), widths from 1 to `WIDTH_LIMIT`, and a flag is set.
+/// also be none), widths from 1 to `WIDTH_LIMIT`.
 #[derive(Drop)]
 pub enum Content<L, R> {
     ToPlace { x: i32, y: i32 },
@@ -21,11 +22,20 @@ pub enum Content<L, R> {
     ToRank(R),
 }
 
-/// Where in the stack an operation puts an object.
+/// Where in the stack a user puts an object.
 #[derive(Clone, Copy, Debug, PartialEq, Eq)]
 pub enum Side {
     Bottom,
     Top,
+}
+
+/// Where in the stack an event puts an object.
+#[derive(Clone, Copy, Debug, PartialEq, Eq)]
+pub enum Height {
+    /// Below or above all that lies there.
+    To(Side),
+    /// At a rank that it had.
+    At(Rank),
 }
 
 /// The content behind a reference with another label and rank, each made of the one that is there.
@@ -54,7 +64,7 @@ impl<R: Copy> Content<Label, R> {
 }
 
 impl<L, R> Content<L, R> {
-    /// Whether its numbers are in their ranges, and a flag is set.
+    /// Whether its numbers are in their ranges.
     pub fn is_in_range(&self) -> bool
         ensures { result ≡ is_content self.now }
     {
@@ -63,8 +73,8 @@ impl<L, R> Content<L, R> {
             Content::ToSize { w, h } => is_within(SIZE_LIMIT, *w) && is_within(SIZE_LIMIT, *h),
             Content::ToStroke(colour) | Content::ToFill(Some(colour)) => *colour <= COLOUR_LIMIT,
             Content::ToWidth(width) => 1 <= *width && *width <= WIDTH_LIMIT,
-            Content::ToFlag(flag) => *flag,
-            Content::ToFill(None) | Content::ToText(_) | Content::ToRank(_) => true,
+            Content::ToFill(None) | Content::ToText(_) | Content::ToFlag(_) | Content::ToRank(_) =>
+                true,
         }
     }
 }

@@ -1,4 +1,4 @@
-//! What every crate speaks of: stamps, labels, names, notes, shapes, items, short lists, contents, operations, offers, faults
+//! What every crate speaks of: stamps, labels, names, notes, shapes, objects, ranks, ties, items, short lists, contents, operations, offers, faults
 //! and refusals, versions, and steps.
 #![tactic(auto)]
 
@@ -11,18 +11,21 @@ mod label;
 mod member;
 mod name;
 mod note;
+mod object;
 mod offer;
 mod op;
 mod place;
 mod ranges;
+mod rank;
 mod refusal;
 mod shape;
 mod site_status;
 mod stamp;
 mod steps;
+mod ties;
 mod version;
 
-pub use content::{Content, Side, is_within};
+pub use content::{Content, Height, Side, is_within};
 pub use fault::{FieldFault, FieldWhy, LogWhy, ViewWhy, WireFault, WireWhy};
 pub use ids::Ids;
 pub use item::{Item, ShapeItem};
@@ -30,16 +33,19 @@ pub use label::{Label, LabelFault};
 pub use member::{Member, Members};
 pub use name::Name;
 pub use note::Note;
+pub use object::{Kind, Link, Object};
 pub use offer::Offer;
-pub use op::{Edit, Op};
+pub use op::{Edit, Nothing, Op};
 pub use place::Place;
 pub use ranges::{
     CLOCK_LIMIT, COLOUR_LIMIT, EVENTS_OF_A_SITE, MOST_BACKS, MOST_MEMBERS, PLACE_LIMIT,
     SESSION_EVENTS, SITES, SIZE_LIMIT, WIDTH_LIMIT,
 };
+pub use rank::{Level, Rank};
 pub use refusal::{EditRefusal, FrameFault, LineFault, OverAck, Refusal};
 pub use shape::Shape;
 pub use site_status::SiteStatus;
 pub use stamp::Stamp;
 pub use steps::Steps;
+pub use ties::{Tie, Ties};
 pub use version::Version;

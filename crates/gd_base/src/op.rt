@@ -1,16 +1,18 @@
 ghost use Rattle.std.specs.Prelude.{◌≡◌};
 
-use crate::content::{Content, Side};
+use crate::content::{Content, Height, Side};
 use crate::ids::Ids;
 use crate::label::Label;
 use crate::member::Members;
+use crate::object::Object;
 use crate::shape::Shape;
 use crate::stamp::Stamp;
+use crate::ties::Ties;
 
-/// A change of a drawing, over how labels and the members of a group are kept. `Op<Label, Ids>` is what a user asks for;
-/// `gd_events` has the one of an event, and the one in the memory that it needs.
+/// A change of a drawing, over how labels, the members of a group, heights, objects and ties are kept. `Edit` is what a user asks
+/// for; `gd_events` has the one of an event, and the one in the memory that it needs.
 #[derive(Drop)]
-pub enum Op<L, M> {
+pub enum Op<L, M, R, O, T> {
     /// A new shape on top, with the event's stamp as its id.
     Create {
         kind: Shape,
@@ -26,22 +28,43 @@ pub enum Op<L, M> {
     /// The content goes into the object of that id, where it has the part.
     Set {
         id: Stamp,
-        content: Content<L, Side>,
+        content: Content<L, R>,
     },
     /// A new group on top, with the event's stamp as its id. Each member that is there is linked to it, with its shift.
     Group {
         members: M,
     },
+    /// The object stands under that id as it was, where the id is absent, and each other object that is tied has its new link.
+    Restore {
+        id: Stamp,
+        object: O,
+        ties: T,
+    },
+    /// The object of that id goes, where it is there, and each other object that is tied has its new link.
+    Disband {
+        id: Stamp,
+        ties: T,
+    },
 }
+
+/// What isn't there: no user asks for an object or for ties as they were, as only an undo makes them.
+#[derive(Clone, Copy)]
+pub enum Nothing {}
 
 /// A change that a user asks for. A place is where the object should appear; the groups that hold it are accounted for
 /// when the edit becomes an event.
-pub type Edit = Op<Label, Ids>;
+pub type Edit = Op<Label, Ids, Side, Nothing, Nothing>;
 
-/// The operation behind a reference with other labels and members, each made of those that are there.
+/// The operation behind a reference with other labels, members, objects and ties, each made of those that are there.
 #[macro_export]
 macro_rules! map_op {
-    ($op:expr, $label:ident => $text:expr, $members:ident => $all:expr) => {
+    (
+        $op:expr,
+        $label:ident => $text:expr,
+        $members:ident => $all:expr,
+        $object:ident => $whole:expr,
+        $ties:ident => $links:expr
+    ) => {
         match $op {
             $crate::Op::Create { kind, x, y, w, h, label: $label } => {
                 let text = $text;
@@ -56,22 +79,39 @@ macro_rules! map_op {
                 let members = $all;
                 $crate::Op::Group { members }
             }
+            $crate::Op::Restore { id, object: $object, ties: $ties } => {
+                let object = $whole;
+                let ties = $links;
+                $crate::Op::Restore { id: *id, object, ties }
+            }
+            $crate::Op::Disband { id, ties: $ties } => {
+                let ties = $links;
+                $crate::Op::Disband { id: *id, ties }
+            }
         }
     };
 }
 
-impl Op<Label, Ids> {
+impl Edit {
     pub fn copy(&self) -> Self
         ensures { result ≡ self.now }
     {
-        crate::map_op!(self, label => label.copy(), members => members.copy())
+        crate::map_op!(self,
+            label => label.copy(),
+            members => members.copy(),
+            object => *object,
+            ties => *ties)
     }
 }
 
-impl Op<Label, Members> {
+impl Op<Label, Members, Height, Object, Ties> {
     pub fn copy(&self) -> Self
         ensures { result ≡ self.now }
     {
-        crate::map_op!(self, label => label.copy(), members => members.copy())
+        crate::map_op!(self,
+            label => label.copy(),
+            members => members.copy(),
+            object => object.copy(),
+            ties => ties.copy())
     }
 }

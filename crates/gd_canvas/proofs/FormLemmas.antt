@@ -1,22 +1,22 @@
 -- What a canvas does for a form, as its definitions say it.
-use Rattle.std.proofs.Common.{◌≡◌, true, false, cond, List, [], Option, None, Some, refl, sym, ap, ◌∙◌}
+use Rattle.std.proofs.Common.{◌≡◌, not, Bool, true, false, cond, List, [], Option, None, Some, refl, sym, ap, ◌∙◌}
 use Rattle.std.specs.Prelude.{is_some, option_and_then, option_copied, option_map}
 use Rattle.std.specs.Borrow.{Bor}
 use Rattle.std.specs.FinMap as map_of
 use Rattle.gd_base.specs.Stamps.{Stamp}
 use Rattle.gd_model.specs.declared.form.Form.TheVariants.{Sets, Puts, Takes}
-use Rattle.gd_model.specs.declared.object.Link.{Link}
-use Rattle.gd_model.specs.declared.object.Object.{Object}
-use Rattle.gd_model.specs.declared.ties.Tie.{Tie}
+use Rattle.gd_base.specs.declared.object.Link.{Link}
+use Rattle.gd_base.specs.declared.object.Object.{Object}
+use Rattle.gd_base.specs.declared.ties.Tie.{Tie}
 use Rattle.gd_model.specs.Board.{Board, tie_all, board_with}
 use Rattle.gd_model.specs.Contents.{Content}
 use Rattle.gd_model.specs.Drawing.{first_tie}
 use Rattle.gd_model.specs.Objects.{tied_by}
 use Rattle.gd_model.specs.Forms.{form}
-use Rattle.gd_model.specs.Undoing.{old_in, undone, undone_by}
+use Rattle.gd_model.specs.Undoing.{Before, old_in, undone, undone_by}
 use Rattle.gd_drawing.proofs.Lookups.{get-tie_all, put_at-kept, at_itself}
 use Rattle.gd_canvas.specs.declared.kept.Kept.{Kept}
-use Rattle.gd_canvas.specs.Kept.{before_of, of_deleted, of_found, op_of}
+use Rattle.gd_canvas.specs.Kept.{before_of, of_found, of_made, of_taken, op_of}
 use Rattle.gd_canvas.specs.Settings.{replaced_by}
 
 -- what a borrowed object tells
@@ -38,7 +38,7 @@ tied_there r None = refl
 tied_there r (Some o) = refl
 
 -- an object is there after others are tied where it was
-tie_all-there : (ties : List Tie) (b : Board) (id : Stamp) → is_some (map_of.get (tie_all ties b) id) ≡ is_some (map_of.get b id)
+pub tie_all-there : (ties : List Tie) (b : Board) (id : Stamp) → is_some (map_of.get (tie_all ties b) id) ≡ is_some (map_of.get b id)
 tie_all-there ties b id = ap is_some (get-tie_all ties b id) ∙ tied_there (first_tie ties id) (map_of.get b id)
 
 -- an object that is put where none is, and now is the board with the others tied
@@ -48,6 +48,12 @@ puts-board id o ties b now absent e =
     ap (λ c. cond (map_of.contains_key c id) c (map_of.insert c id o)) e
     ∙ ap (λ t. cond t (tie_all ties b) (map_of.insert (tie_all ties b) id o)) (tie_all-there ties b id ∙ absent)
     ∙ ap (λ t. cond t b (map_of.insert (tie_all ties b) id o)) (sym absent)
+
+-- what puts an object is taken back by whether it did, which it does where none is
+pub made_before : (id : Stamp) (x : Option Object) (olds : List Tie) (is_made : Bool) → is_made ≡ not (is_some x)
+    → ◌≡◌ {A = Before} (of_made is_made id olds) (cond (is_some x) None (Some (Takes id olds)))
+made_before id None olds is_made e = ap (λ b. of_made b id olds) e
+made_before id (Some o) olds is_made e = ap (λ b. of_made b id olds) e
 
 -- ---- what is taken
 
@@ -78,8 +84,9 @@ takes-kept id ties b now absent e =
 -- ---- what is undone
 
 -- a form of an object is undone by another one of it
-pub put_back : (id : Stamp) (o : Object) (b : Board) → board_with (Puts id o []) b ≡ undone_by (Takes id []) (of_deleted id (Some o)) b
-put_back id o b = sym (at_itself id (board_with (Puts id o []) b) b)
+pub put_back : (id : Stamp) (o : Object) (olds ties : List Tie) (b : Board)
+    → board_with (Puts id o olds) b ≡ undone_by (Takes id ties) (of_taken id olds (Some o)) b
+put_back id o olds ties b = sym (at_itself id (board_with (Puts id o olds) b) b)
 
 pub set_back : (id : Stamp) (old new : Content) (b : Board) → board_with (Sets id old) b ≡ undone_by (Sets id new) (of_found id (Some old)) b
 set_back id old new b = sym (at_itself id (board_with (Sets id old) b) b)

@@ -1,25 +1,22 @@
 -- What two events find, the one in front of the other that covers it.
-use Rattle.std.proofs.Common.{◌≡◌, ℕ, not, Bool, true, false, cond, ◌&&◌, List, [], ◌∷◌, Option, None, Some, refl, sym, ap, subst, ◌∙◌}
-use Rattle.std.specs.Prelude.{Box, is_some, option_and_then, option_map, unwrap_or}
-use Rattle.std.specs.declared.alloc.Global.{Global}
+use Rattle.std.proofs.Common.{◌≡◌, ◌≤◌, not, Bool, true, false, cond, ◌&&◌, List, [], ◌∷◌, length, Option, None, Some, refl, sym, ap, subst, ◌∙◌, arith}
+use Rattle.std.specs.Prelude.{is_some, option_and_then, option_map, unwrap_or}
 use Rattle.gd_base.specs.Stamps.{Stamp, is_same}
 use Rattle.gd_base.proofs.StampLemmas.{is_same-true}
 use Rattle.gd_model.specs.declared.content.Part.{Part}
 use Rattle.gd_model.specs.declared.form.Form.{Form}
 use Rattle.gd_model.specs.declared.form.Form.TheVariants.{Sets, Puts, Takes}
-use Rattle.gd_model.specs.declared.object.Object.{Object}
-use Rattle.gd_model.specs.declared.ties.Tie.{Tie}
+use Rattle.gd_base.specs.declared.object.Object.{Object}
+use Rattle.gd_base.specs.declared.ties.Tie.{Tie}
 use Rattle.gd_model.specs.Contents.{Content}
-use Rattle.gd_model.specs.Forms.{form, member_ties}
-use Rattle.gd_model.specs.Objects.{fits, is_same_part, new_group, new_shape, old, part_of, put, set}
+use Rattle.gd_model.specs.Forms.{form}
+use Rattle.gd_model.specs.Objects.{fits, is_same_part, old, part_of, put, set}
 use Rattle.gd_model.specs.Relations.{covers_by}
 use Rattle.gd_model.specs.Splices.{splice, splice_by, splice_set}
 use Rattle.gd_model.specs.Undoing.{Before, old_in}
 use Rattle.gd_canvas.specs.declared.kept.Kept.{Kept}
-use Rattle.gd_canvas.specs.declared.kept.Kept.TheVariants.{Create, Delete, Set, Group}
-use Rattle.gd_canvas.specs.declared.kept.NewShape.{NewShape}
-use Rattle.gd_canvas.specs.Groupings.{GroupingValue}
-use Rattle.gd_canvas.specs.Kept.{Roomy, Found, before_of, found_in, of_deleted, of_found, of_made, op_of, sets, stored}
+use Rattle.gd_canvas.specs.declared.kept.Kept.TheVariants.{Set}
+use Rattle.gd_canvas.specs.Kept.{Roomy, Found, before_of, found_in, of_found, of_made, of_taken, op_of, sets, stored}
 use Rattle.gd_canvas.specs.Settings.{replaced_by}
 use Rattle.gd_canvas.specs.Touches.{is_set_by, sets_part}
 use Rattle.gd_canvas.proofs.FormLemmas.{old_found}
@@ -58,45 +55,54 @@ passed_found false c earlier first content second old0 old1 found0 found1 e g = 
 
 -- a content finds what it would in the object that is deleted, and leaves its own there
 set_deleted : (id : Stamp) (c : Content) (x : Option Object)
-    → ◌≡◌ {A = Pair} (of_found id (old_in c x), of_deleted id (option_map (set c) x)) (splice_by (Sets id c) (Takes id []) (of_deleted id x))
+    → ◌≡◌ {A = Pair} (of_found id (old_in c x), of_taken id [] (option_map (set c) x)) (splice_by (Sets id c) (Takes id []) (of_taken id [] x))
 set_deleted id c None = refl
 set_deleted id c (Some o) = by (fits c o.kind)
   where
     by : (b : Bool)
-        → ◌≡◌ {A = Pair} (of_found id (cond b (Some (old c o)) None), of_deleted id (Some (cond b (put c o) o)))
+        → ◌≡◌ {A = Pair} (of_found id (cond b (Some (old c o)) None), of_taken id [] (Some (cond b (put c o) o)))
         (cond b (Some (Sets id (old c o)), Some (Puts id (put c o) [])) (None, Some (Puts id o [])))
     by true = refl
     by false = refl
 
 pub set_then_deleted : (id j : Stamp) (c : Content) (x : Option Object) → is_same id j ≡ true
-    → ◌≡◌ {A = Pair} (of_found j (old_in c x), of_deleted id (option_map (set c) x)) (splice_by (Sets j c) (Takes id []) (of_deleted id x))
+    → ◌≡◌ {A = Pair} (of_found j (old_in c x), of_taken id [] (option_map (set c) x)) (splice_by (Sets j c) (Takes id []) (of_taken id [] x))
 set_then_deleted id j c x same =
-    let P : Stamp → Type 0 = λ q. ◌≡◌ {A = Pair} (of_found q (old_in c x), of_deleted id (option_map (set c) x)) (splice_by (Sets q c) (Takes id []) (of_deleted id x)) in
+    let P : Stamp → Type 0 = λ q. ◌≡◌ {A = Pair} (of_found q (old_in c x), of_taken id [] (option_map (set c) x)) (splice_by (Sets q c) (Takes id []) (of_taken id [] x)) in
     subst P (is_same-true id j same) (set_deleted id c x)
 
 -- an object is made where none is found
 put_deleted : (id : Stamp) (o : Object) (ties : List Tie) (x : Option Object)
-    → ◌≡◌ {A = Pair} (of_made (not (is_some x)) id [], of_deleted id (Some (unwrap_or x o))) (splice_by (Puts id o ties) (Takes id []) (of_deleted id x))
+    → ◌≡◌ {A = Pair} (of_made (not (is_some x)) id [], of_taken id [] (Some (unwrap_or x o))) (splice_by (Puts id o ties) (Takes id []) (of_taken id [] x))
 put_deleted id o ties None = refl
 put_deleted id o ties (Some p) = refl
 
 pub put_then_deleted : (id s : Stamp) (o : Object) (ties : List Tie) (x : Option Object) → is_same id s ≡ true
-    → ◌≡◌ {A = Pair} (of_made (not (is_some x)) s [], of_deleted id (Some (unwrap_or x o))) (splice_by (Puts s o ties) (Takes id []) (of_deleted id x))
+    → ◌≡◌ {A = Pair} (of_made (not (is_some x)) s [], of_taken id [] (Some (unwrap_or x o))) (splice_by (Puts s o ties) (Takes id []) (of_taken id [] x))
 put_then_deleted id s o ties x same =
-    let P : Stamp → Type 0 = λ q. ◌≡◌ {A = Pair} (of_made (not (is_some x)) s [], of_deleted q (Some (unwrap_or x o))) (splice_by (Puts s o ties) (Takes q []) (of_deleted q x)) in
+    let P : Stamp → Type 0 = λ q. ◌≡◌ {A = Pair} (of_made (not (is_some x)) s [], of_taken q [] (Some (unwrap_or x o))) (splice_by (Puts s o ties) (Takes q []) (of_taken q [] x)) in
     subst P (sym (is_same-true id s same)) (put_deleted s o ties x)
 
--- the earlier one of two deletes finds the object
-pub deleted_twice : (id j : Stamp) (x : Option Object) → is_same id j ≡ true
-    → ◌≡◌ {A = Pair} (of_deleted j x, None) (splice_by (Takes j []) (Takes id []) (of_deleted id x))
-deleted_twice id j x same =
-    let P : Stamp → Type 0 = λ q. ◌≡◌ {A = Pair} (of_deleted j x, None) (splice_by (Takes j []) (Takes q []) (of_deleted q x)) in
+-- the earlier one of two that take the object finds it
+pub deleted_twice : (id j : Stamp) (ties : List Tie) (x : Option Object) → is_same id j ≡ true
+    → ◌≡◌ {A = Pair} (of_taken j [] x, None) (splice_by (Takes j ties) (Takes id []) (of_taken id [] x))
+deleted_twice id j ties x same =
+    let P : Stamp → Type 0 = λ q. ◌≡◌ {A = Pair} (of_taken j [] x, None) (splice_by (Takes j ties) (Takes q []) (of_taken q [] x)) in
     subst P (sym (is_same-true id j same)) refl
 
 -- what a delete covers is of its object
 pub same_object : (id s : Stamp) (o : Object) (ties : List Tie) → covers_by (Takes id []) (Puts s o ties) ≡ true → is_same id s ≡ true
 same_object id s o [] e = e
 same_object id s o (t ∷ ts) e = cc
+
+pub taken_object : (id s : Stamp) (ties : List Tie) → covers_by (Takes id []) (Takes s ties) ≡ true → is_same id s ≡ true
+taken_object id s [] e = e
+taken_object id s (t ∷ ts) e = cc
+
+-- where nothing is tied there are no old links
+pub no_olds : (ties olds : List Tie) → length olds ≤ length ties → ties ≡ [] → olds ≡ []
+no_olds ties [] few none = refl
+no_olds ties (o ∷ os) few none = absurd (omega (arith, few, ap length none))
 
 -- ---- the same of what is kept
 
@@ -130,52 +136,37 @@ set_spliced s id c e is_found later j earlier first content second old0 old1 fou
     ∙ passed id j new (found_in later content found0) same
     ∙ ap (λ k. splice_by (form s (op_of k)) (Sets id c) (of_found id (found_in later content found0))) (sym is)
 
--- the later one deletes an object: that the earlier one makes
-pub create_spliced : (s id : Stamp) (e : Kept) (is_made made : Bool) (q : Stamp) (new : NewShape) (label : Box (List ℕ) Global) (x later : Option Object) (o : Object)
-    → e ≡ Create is_made q new label → covers_by (Takes id []) (form s (op_of e)) ≡ true
-    → o ≡ new_shape s new.kind new.x new.y new.w new.h label.value → made ≡ not (is_some x) → later ≡ Some (unwrap_or x o)
-    → ◌≡◌ {A = Pair} (of_made made s [], of_deleted id later) (splice_by (form s (op_of e)) (Takes id []) (of_deleted id x))
-create_spliced s id e is_made made q new label x later o is cov shape m l =
-    let shaped = new_shape s new.kind new.x new.y new.w new.h label.value in
-    let same = same_object id s shaped [] (ap (λ k. covers_by (Takes id []) (form s (op_of k))) (sym is) ∙ cov) in
-    (λ i. (of_made (m i) s [], of_deleted id (l i)))
-    ∙ ap (λ p. (of_made (not (is_some x)) s [], of_deleted id (Some (unwrap_or x p)))) shape
-    ∙ put_then_deleted id s shaped [] x same
-    ∙ ap (λ k. splice_by (form s (op_of k)) (Takes id []) (of_deleted id x)) (sym is)
+-- the later one takes an object: that the earlier one puts
+pub put_spliced : (id j : Stamp) (g : Form) (o : Object) (ties : List Tie) (made : Bool) (x later : Option Object) → g ≡ Puts j o ties
+    → covers_by (Takes id []) g ≡ true → made ≡ not (is_some x) → later ≡ Some (unwrap_or x o)
+    → ◌≡◌ {A = Pair} (of_made made j [], of_taken id [] later) (splice_by g (Takes id []) (of_taken id [] x))
+put_spliced id j g o ties made x later is cov m l =
+    let same = same_object id j o ties (ap (covers_by (Takes id [])) (sym is) ∙ cov) in
+    (λ i. (of_made (m i) j [], of_taken id [] (l i)))
+    ∙ put_then_deleted id j o ties x same
+    ∙ ap (λ f. splice_by f (Takes id []) (of_taken id [] x)) (sym is)
 
--- a group
-pub group_spliced : (s id : Stamp) (e : Kept) (g : Box GroupingValue Global) (x later : Option Object) (v : Before) → e ≡ Group g
-    → covers_by (Takes id []) (form s (op_of e)) ≡ true
-    → v ≡ of_made (not (is_some x)) s [] → later ≡ Some (unwrap_or x (new_group s))
-    → ◌≡◌ {A = Pair} (v, of_deleted id later) (splice_by (form s (op_of e)) (Takes id []) (of_deleted id x))
-group_spliced s id e g x later v is cov m l =
-    let ties = member_ties s g.value.members in
-    let same = same_object id s (new_group s) ties (ap (λ k. covers_by (Takes id []) (form s (op_of k))) (sym is) ∙ cov) in
-    (λ i. (m i, of_deleted id (l i)))
-    ∙ put_then_deleted id s (new_group s) ties x same
-    ∙ ap (λ k. splice_by (form s (op_of k)) (Takes id []) (of_deleted id x)) (sym is)
-
--- that it deletes
-pub delete_spliced : (s id : Stamp) (e : Kept) (j : Stamp) (before x y later : Option Object) → e ≡ Delete j before
-    → covers_by (Takes id []) (form s (op_of e)) ≡ true → y ≡ x → later ≡ None
-    → ◌≡◌ {A = Pair} (of_deleted j y, of_deleted id later) (splice_by (form s (op_of e)) (Takes id []) (of_deleted id x))
-delete_spliced s id e j before x y later is cov m l =
-    let same : is_same id j ≡ true = ap (λ k. covers_by (Takes id []) (form s (op_of k))) (sym is) ∙ cov in
-    (λ i. (of_deleted j (m i), of_deleted id (l i)))
-    ∙ deleted_twice id j x same
-    ∙ ap (λ k. splice_by (form s (op_of k)) (Takes id []) (of_deleted id x)) (sym is)
+-- that it takes
+pub taken_spliced : (id j : Stamp) (g : Form) (ties : List Tie) (x y later : Option Object) → g ≡ Takes j ties
+    → covers_by (Takes id []) g ≡ true → y ≡ x → later ≡ None
+    → ◌≡◌ {A = Pair} (of_taken j [] y, of_taken id [] later) (splice_by g (Takes id []) (of_taken id [] x))
+taken_spliced id j g ties x y later is cov m l =
+    let same = taken_object id j ties (ap (covers_by (Takes id [])) (sym is) ∙ cov) in
+    (λ i. (of_taken j [] (m i), of_taken id [] (l i)))
+    ∙ deleted_twice id j ties x same
+    ∙ ap (λ f. splice_by f (Takes id []) (of_taken id [] x)) (sym is)
 
 -- that it sets a part of. What was found is kept, and the object has what is held
 pub set_taken : (s id : Stamp) (e : Kept) (is_found now : Bool) (j : Stamp) (before before' : Found) (content content' : Roomy) (held : Content) (x : Option Content) (o later : Option Object)
     → e ≡ Set is_found j before content → covers_by (Takes id []) (form s (op_of e)) ≡ true
     → held ≡ sets s content → x ≡ option_and_then (replaced_by held) o → found_in now content' before' ≡ stored content x
     → later ≡ option_map (set held) o
-    → ◌≡◌ {A = Pair} (of_found j (found_in now content' before'), of_deleted id later) (splice_by (form s (op_of e)) (Takes id []) (of_deleted id o))
+    → ◌≡◌ {A = Pair} (of_found j (found_in now content' before'), of_taken id [] later) (splice_by (form s (op_of e)) (Takes id []) (of_taken id [] o))
 set_taken s id e is_found now j before before' content content' held x o later is cov h found keeps l =
     let same : is_same id j ≡ true = ap (λ k. covers_by (Takes id []) (form s (op_of k))) (sym is) ∙ cov in
     let first : found_in now content' before' ≡ old_in (sets s content) o =
     keeps ∙ ap (stored content) (found ∙ old_found held o ∙ ap (λ k. old_in k o) h) ∙ stored_found s content o in
     let second : later ≡ option_map (set (sets s content)) o = l ∙ ap (λ k. option_map (set k) o) h in
-    (λ i. (of_found j (first i), of_deleted id (second i)))
+    (λ i. (of_found j (first i), of_taken id [] (second i)))
     ∙ set_then_deleted id j (sets s content) o same
-    ∙ ap (λ k. splice_by (form s (op_of k)) (Takes id []) (of_deleted id o)) (sym is)
+    ∙ ap (λ k. splice_by (form s (op_of k)) (Takes id []) (of_taken id [] o)) (sym is)

@@ -2,7 +2,8 @@
 ghost use Rattle.std.specs.Prelude.{◌≡◌};
 
 use crate::contents;
-use gd_model::{Held, Link, Object};
+use gd_base::{Link, Object};
+use gd_model::Held;
 use gd_slots::Change;
 
 /// Puts a content into an object, where it has that part. What it replaces is what was there.

@@ -5,8 +5,8 @@ ghost use Rattle.gd_model.specs.Forms.{rank_at};
 ghost use Rattle.gd_model.specs.Objects.{is_same_part, part_of};
 ghost use Rattle.gd_canvas.specs.Kept.{found_in, of_content, old_text, sets, stored, unlabelled};
 
-use gd_base::{Content, Label, Side, Stamp, map_content};
-use gd_model::{Held, Rank};
+use gd_base::{Content, Height, Label, Rank, Side, Stamp, map_content};
+use gd_model::Held;
 use std::alloc::{AllocError, Global};
 
 /// A new label, and room for the old one.
@@ -17,7 +17,7 @@ pub struct Texts {
 }
 
 /// What an operation sets, with room for the label that it finds.
-pub type Roomy = Content<Box<Texts>, Side>;
+pub type Roomy = Content<Box<Texts>, Height>;
 
 /// What an operation found, but for a label, which lies beside the new one.
 pub type Found = Content<(), Rank>;
@@ -33,11 +33,11 @@ impl Texts {
 }
 
 /// The content with room for an old label. `AllocError` where memory ran out.
-pub fn roomy(alloc: Global, content: &Content<Box<Label>, Side>) -> Result<Roomy, AllocError>
+pub fn roomy(alloc: Global, content: &Content<Box<Label>, Height>) -> Result<Roomy, AllocError>
     ensures { IfOk result (λ r. of_content r
-        ≡ content_map (λ label. label.value) (λ side. side) content.now) }
+        ≡ content_map (λ label. label.value) (λ height. height) content.now) }
 {
-    Ok(map_content!(content, label => room_beside(alloc, label)?, side => *side))
+    Ok(map_content!(content, label => room_beside(alloc, label)?, height => *height))
 }
 
 fn room_beside(alloc: Global, label: &Label) -> Result<Box<Texts>, AllocError>
@@ -53,7 +53,7 @@ pub fn copied(alloc: Global, content: &Roomy) -> Result<Roomy, AllocError>
     ensures op { IfOk result (λ c. of_content c ≡ of_content content.now) }
     ensures old { IfOk result (λ c. old_text c ≡ old_text content.now) }
 {
-    Ok(map_content!(content, texts => Box::new(alloc, texts.copy())?, side => *side))
+    Ok(map_content!(content, texts => Box::new(alloc, texts.copy())?, height => *height))
 }
 
 pub fn copied_found(before: &Found) -> Found
@@ -63,26 +63,27 @@ pub fn copied_found(before: &Found) -> Found
 }
 
 /// What the operation says.
-pub fn said(content: &Roomy) -> Content<Label, Side>
+pub fn said(content: &Roomy) -> Content<Label, Height>
     ensures { result ≡ of_content content.now }
 {
-    map_content!(content, texts => texts.new.copy(), side => *side)
+    map_content!(content, texts => texts.new.copy(), height => *height)
 }
 
 /// What the operation sets at that stamp.
 pub fn held(stamp: Stamp, content: &Roomy) -> Held
     ensures { result ≡ sets stamp content.now }
 {
-    map_content!(content, texts => texts.new.copy(), side => rank_at(stamp, *side))
+    map_content!(content, texts => texts.new.copy(), height => rank_at(stamp, *height))
 }
 
 /// The rank that an event at that stamp gives.
-fn rank_at(stamp: Stamp, side: Side) -> Rank
-    ensures { result ≡ rank_at stamp side }
+pub fn rank_at(stamp: Stamp, height: Height) -> Rank
+    ensures { result ≡ rank_at stamp height }
 {
-    match side {
-        Side::Bottom => Rank::Low(stamp),
-        Side::Top => Rank::High(stamp),
+    match height {
+        Height::To(Side::Bottom) => Rank::Low(stamp),
+        Height::To(Side::Top) => Rank::High(stamp),
+        Height::At(rank) => rank,
     }
 }
 
@@ -147,7 +148,7 @@ pub fn pass_on(s: Stamp, earlier: &mut Roomy, old: &mut Found, later: &mut Roomy
     ensures second_op { of_content later.new ≡ of_content later.old }
 {
     *old = map_content!(&*found, _label => (), rank => *rank);
-    *found = map_content!(&*earlier, _texts => (), side => rank_at(s, *side));
+    *found = map_content!(&*earlier, _texts => (), height => rank_at(s, *height));
     if let Content::ToText(first) = earlier {
         if let Content::ToText(second) = later {
             first.old = second.old.copy();

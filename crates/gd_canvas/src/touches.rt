@@ -1,15 +1,17 @@
-//! What the form of an operation touches, and which members a new group links to it.
-ghost use Rattle.std.specs.Prelude.{◌≡◌, ◌≤◌, length};
+//! What the form of an operation touches: a part of its object, and the links of those that it ties.
+ghost use Rattle.std.specs.Prelude.{◌≡◌, ◌≤◌, ◌+◌, length, slice_get};
 ghost use Rattle.gd_base.specs.declared.ranges.TheConstants.{MOST_MEMBERS};
 ghost use Rattle.gd_base.specs.Stamps.{Stamp as StampValue};
 ghost use Rattle.gd_model.specs.Forms.{form};
+ghost use Rattle.gd_model.specs.Relations.{touches};
 ghost use Rattle.gd_canvas.specs.Kept.{op_of};
 ghost use Rattle.gd_canvas.specs.Slots.{slot_needed};
-ghost use Rattle.gd_canvas.specs.Touches.{linked_at, linked_ids, members_of, touch_of};
+ghost use Rattle.gd_canvas.specs.Touches.{tied_at, ties_of, touch_of};
 
 use crate::contents;
 use crate::kept::Kept;
-use gd_base::{Member, Stamp};
+use crate::tied::id_at;
+use gd_base::Stamp;
 use gd_model::Part;
 
 /// The id that the operation puts or takes at that stamp, which has to have a slot.
@@ -18,7 +20,7 @@ pub fn slot_needed(stamp: Stamp, kept: &Kept) -> Option<Stamp>
 {
     match kept {
         Kept::Create { .. } | Kept::Group(_) => Some(stamp),
-        Kept::Delete { id, .. } => Some(*id),
+        Kept::Delete { id, .. } | Kept::Restore { id, .. } | Kept::Disband { id, .. } => Some(*id),
         Kept::Set { .. } => None,
     }
 }
@@ -29,8 +31,10 @@ pub fn object_of(stamp: Stamp, kept: &Kept) -> Stamp
 {
     match kept {
         Kept::Create { .. } | Kept::Group(_) => stamp,
-        Kept::Delete { id, .. } => *id,
-        Kept::Set { id, .. } => *id,
+        Kept::Set { id, .. }
+        | Kept::Delete { id, .. }
+        | Kept::Restore { id, .. }
+        | Kept::Disband { id, .. } => *id,
     }
 }
 
@@ -41,49 +45,55 @@ pub fn part_of(kept: &Kept) -> Part
 {
     match kept {
         Kept::Set { content, .. } => contents::part_of(content),
-        Kept::Create { .. } | Kept::Delete { .. } | Kept::Group(_) => Part::Whole,
+        Kept::Create { .. }
+        | Kept::Delete { .. }
+        | Kept::Group(_)
+        | Kept::Restore { .. }
+        | Kept::Disband { .. } => Part::Whole,
     }
 }
 
-/// The members of a new group.
-pub fn members_of(kept: &Kept) -> &[Member]
-    ensures members { result.now ≡ members_of (op_of kept.now) }
-    ensures few { length result.now ≤ MOST_MEMBERS }
-{
-    match kept {
-        Kept::Group(grouping) => grouping.members(),
-        _ => &[],
-    }
-}
-
-/// How many of the members of a new group are linked to it.
-pub fn linked_count(stamp: Stamp, kept: &Kept) -> usize
-    ensures count { result ≡ length (linked_ids stamp (members_of (op_of kept.now))) }
+/// How many links an operation at that stamp ties.
+pub fn tied_count(stamp: Stamp, kept: &Kept) -> usize
+    ensures count { result ≡ length (ties_of (form stamp (op_of kept.now))) }
     ensures few { result ≤ MOST_MEMBERS }
 {
-    let members = members_of(kept);
-    let mut count = 0;
-    for member in members {
-        if member.id.is_before(stamp) {
-            count += 1;
-        }
+    match kept {
+        Kept::Group(grouping) => grouping.linked_count(stamp),
+        Kept::Restore { tied, .. } | Kept::Disband { tied, .. } => tied.ties().len(),
+        Kept::Create { .. } | Kept::Delete { .. } | Kept::Set { .. } => 0,
     }
-    count
 }
 
-/// The id of the member at that place among those that are linked to the new group. None past the last one.
-pub fn linked_at(stamp: Stamp, kept: &Kept, place: usize) -> Option<Stamp>
-    ensures { result ≡ linked_at stamp (op_of kept.now) place }
+/// The id of the object whose link it ties at that place. None past the last one.
+pub fn tied_at(stamp: Stamp, kept: &Kept, place: usize) -> Option<Stamp>
+    ensures { result ≡ tied_at stamp (op_of kept.now) place }
 {
-    let members = members_of(kept);
-    let mut left = place;
-    for member in members {
-        if member.id.is_before(stamp) {
-            if left == 0 {
-                return Some(member.id);
-            }
-            left -= 1;
-        }
+    match kept {
+        Kept::Group(grouping) => grouping.linked_at(stamp, place),
+        Kept::Restore { tied, .. } | Kept::Disband { tied, .. } => id_at(tied.ties(), place),
+        Kept::Create { .. } | Kept::Delete { .. } | Kept::Set { .. } => None,
     }
-    None
+}
+
+/// How many touches an operation at that stamp has.
+#[tactic(auto, using(crate::proofs::TouchLemmas::touch_count))]
+pub fn touch_count(stamp: Stamp, kept: &Kept) -> usize
+    ensures count { result ≡ length (touches stamp (op_of kept.now)) }
+    ensures few { result ≤ MOST_MEMBERS + 1 }
+{
+    tied_count(stamp, kept) + 1
+}
+
+/// Its touch at that place. None past the last one.
+pub fn touch_at(stamp: Stamp, kept: &Kept, place: usize) -> Option<(Stamp, Part)>
+    ensures { result ≡ slice_get (touches stamp (op_of kept.now)) place }
+{
+    if place == 0 {
+        return Some((object_of(stamp, kept), part_of(kept)));
+    }
+    match tied_at(stamp, kept, place - 1) {
+        Some(id) => Some((id, Part::Link)),
+        None => None,
+    }
 }

@@ -7,6 +7,7 @@ use Rattle.std.specs.FinMap.Entries.{is_sorted-where_key}
 use Rattle.std.proofs.lemmas.Bool.{and_parts, not-true}
 use Rattle.std.proofs.lemmas.List.{append-nil, map-append}
 use Rattle.gd_base.specs.Stamps.{Stamp, is_same, is_before}
+use Rattle.gd_base.specs.declared.content.Height.TheVariants.{To, At}
 use Rattle.gd_base.specs.declared.content.Side.TheVariants.{Bottom, Top}
 use Rattle.gd_base.proofs.Insertions as insertions
 use Rattle.gd_base.proofs.Insertions.{Every-inserted, Every-all_inserted, IsApart, Rises, Rises-inserted}
@@ -14,14 +15,14 @@ use Rattle.gd_base.proofs.Lists.{Every-weaker}
 use Rattle.gd_base.proofs.StampLemmas.{is_same-comm, is_before-trans}
 use Rattle.gd_events.specs.Events.{Event}
 use Rattle.gd_events.specs.Ordered.{inserted, ordered, is_new, are_distinct}
-use Rattle.gd_model.specs.Ranks.{level, is_same_rank, given_at, level_cmp}
-use Rattle.gd_model.specs.declared.object.Link.{Link}
-use Rattle.gd_model.specs.declared.object.Object.{Object}
+use Rattle.gd_base.specs.Ranks.{level, is_same_rank, given_at, level_cmp}
+use Rattle.gd_base.specs.declared.object.Link.{Link}
+use Rattle.gd_base.specs.declared.object.Object.{Object}
 use Rattle.gd_events.specs.Ops.{Op}
-use Rattle.gd_base.specs.declared.op.Op.TheVariants.{Create, Delete, Set, Group}
-use Rattle.gd_model.specs.declared.rank.Rank.{Rank}
-use Rattle.gd_model.specs.declared.rank.Rank.TheVariants.{Low, High}
-use Rattle.gd_model.specs.declared.ties.Tie.{Tie}
+use Rattle.gd_base.specs.declared.op.Op.TheVariants.{Create, Delete, Set, Group, Restore, Disband}
+use Rattle.gd_base.specs.declared.rank.Rank.{Rank}
+use Rattle.gd_base.specs.declared.rank.Rank.TheVariants.{Low, High}
+use Rattle.gd_base.specs.declared.ties.Tie.{Tie}
 use Rattle.gd_model.specs.Contents.{Content}
 use Rattle.gd_base.specs.declared.content.Content.TheVariants.{ToPlace, ToRank}
 use Rattle.gd_model.specs.declared.form.Form.{Form}
@@ -30,7 +31,7 @@ use Rattle.gd_model.specs.Forms.{form}
 use Rattle.gd_model.specs.Objects.{fits, put, set, tied_by}
 use Rattle.gd_model.specs.Drawing.{Drawing, has_id, find, is_there, at_id, without, placed, placed_if, first_tie, all_tied, draw, applied, picture}
 use Rattle.gd_model.specs.Board.{Board, levels, without_levels, board_with}
-use Rattle.gd_drawing.specs.Moves.{moved, moved_event, moved_picture, unranked}
+use Rattle.gd_drawing.specs.Moves.{is_fresh, AreFresh, moved, moved_event, moved_picture, unranked}
 use Rattle.gd_drawing.proofs.Lookups.{at_same, cond_same}
 use Rattle.gd_drawing.proofs.Stacking.{level_test, level_step, same_levels, at_rank, Stands, without-levels}
 use Rattle.gd_drawing.proofs.Listed.{find-stands}
@@ -274,13 +275,16 @@ module _ (r : Rank) where
         subst (λ us. AreSame (draw (Takes id us) d) (without id p)) (sym own)
         (take_by id (map_of.get b id) (find-stands b d stands id) refl)
 
-  own_form : (s : Stamp) (op : Op) → IsOwn s (form s op)
-  own_form s (Create kind x y w h label) = refl
-  own_form s (Group members) = refl
-  own_form s (Delete id) = refl
-  own_form s (Set id (ToRank Bottom)) = refl
-  own_form s (Set id (ToRank Top)) = refl
-  own_form s (Set id content) = tt
+  own_form : (s : Stamp) (op : Op) → is_fresh op ≡ true → IsOwn s (form s op)
+  own_form s (Create kind x y w h label) fresh = refl
+  own_form s (Group members) fresh = refl
+  own_form s (Delete id) fresh = refl
+  own_form s (Set id (ToRank (To Bottom))) fresh = refl
+  own_form s (Set id (ToRank (To Top))) fresh = refl
+  own_form s (Set id (ToRank (At rank))) fresh = cc
+  own_form s (Set id content) fresh = tt
+  own_form s (Restore id object ties) fresh = cc
+  own_form s (Disband id ties) fresh = cc
 
   -- what such a form gives was given before a later event
   own_gives : (s t : Stamp) (f : Form) → is_before s t ≡ true → IsOwn s f → Gives (RankBefore t) f
@@ -306,13 +310,13 @@ module _ (r : Rank) where
   ready-next s f d (e ∷ es) own before h =
       ranks-draw (RankBefore e.stamp) f d (own_gives s e.stamp f h.0 own) (later s e.stamp d h.0 before)
 
-  all_alike : (es : List Event) (b : Board) (d p : Drawing) → Stands b d → Ready d es → Rises stamp_of es → AreSame d p
-      → AreSame (fold applied d es) (fold moved_event p es)
-  all_alike [] b d p stands ready rises same = same
-  all_alike (e ∷ es) b d p stands ready rises same =
+  all_alike : (es : List Event) (b : Board) (d p : Drawing) → AreFresh es → Stands b d → Ready d es → Rises stamp_of es
+      → AreSame d p → AreSame (fold applied d es) (fold moved_event p es)
+  all_alike [] b d p fresh stands ready rises same = same
+  all_alike (e ∷ es) b d p fresh stands ready rises same =
       let f = form e.stamp e.op in
-      let own = own_form e.stamp e.op in
-      all_alike es (board_with f b) (draw f d) (moved f p) (step f b d stands)
+      let own = own_form e.stamp e.op fresh.0 in
+      all_alike es (board_with f b) (draw f d) (moved f p) fresh.1 (step f b d stands)
       (ready-next e.stamp f d es own ready rises.0) rises.1
       (form_alike e.stamp b d p stands ready same f own)
 
@@ -320,8 +324,9 @@ module _ (r : Rank) where
   ready_at_start [] = tt
   ready_at_start (e ∷ es) = tt
 
-  pub as_moved : (events : List Event) → IsTrue (are_distinct events)
+  pub as_moved : (events : List Event) → AreFresh events → IsTrue (are_distinct events)
       → unranked r (picture events) ≡ unranked r (moved_picture events)
-  as_moved events distinct =
-      all_alike (ordered events) map_of.empty [] [] nothing_stands (ready_at_start (ordered events))
+  as_moved events fresh distinct =
+      all_alike (ordered events) map_of.empty [] []
+      (Every-all_inserted (λ (e : Event). e.stamp) _ [] events tt fresh) nothing_stands (ready_at_start (ordered events))
       (rises-fold events [] tt (none_done events) distinct) refl

@@ -4,17 +4,20 @@ use Rattle.std.specs.Prelude.{is_some, option_map}
 use Rattle.std.specs.List.{AllByRecursion as Every, filter}
 use Rattle.std.proofs.lemmas.Bool.{and_parts, cond_both}
 use Rattle.gd_base.specs.Stamps.{Stamp, is_before}
+use Rattle.gd_base.specs.declared.content.Height.TheVariants.{To, At}
 use Rattle.gd_base.specs.declared.content.Side.TheVariants.{Bottom, Top}
 use Rattle.gd_base.proofs.Insertions.{Every-all_inserted}
 use Rattle.gd_events.specs.Events.{Event}
 use Rattle.gd_events.specs.Ordered.{ordered}
-use Rattle.gd_model.specs.Ranks.{level, given_at, is_below}
-use Rattle.gd_model.specs.declared.object.Object.{Object}
+use Rattle.gd_events.specs.Sound.{is_object_before, names_before}
+use Rattle.gd_base.proofs.StampLemmas.{is_before-trans}
+use Rattle.gd_base.specs.Ranks.{level, given_at, is_below}
+use Rattle.gd_base.specs.declared.object.Object.{Object}
 use Rattle.gd_events.specs.Ops.{Op}
-use Rattle.gd_base.specs.declared.op.Op.TheVariants.{Create, Set, Group}
-use Rattle.gd_model.specs.declared.rank.Rank.{Rank}
-use Rattle.gd_model.specs.declared.rank.Rank.TheVariants.{Low, High}
-use Rattle.gd_model.specs.declared.ties.Tie.{Tie}
+use Rattle.gd_base.specs.declared.op.Op.TheVariants.{Create, Set, Group, Restore}
+use Rattle.gd_base.specs.declared.rank.Rank.{Rank}
+use Rattle.gd_base.specs.declared.rank.Rank.TheVariants.{Low, High}
+use Rattle.gd_base.specs.declared.ties.Tie.{Tie}
 use Rattle.gd_model.specs.Contents.{Content}
 use Rattle.gd_base.specs.declared.content.Content.TheVariants.{ToRank}
 use Rattle.gd_model.specs.declared.form.Form.{Form}
@@ -60,13 +63,13 @@ before-tied s ties d = go d
     go (e ∷ es) = λ i. is_before (given_at (rank-tied (first_tie ties e.0) e.1 i)) s && go es i
 
 pub raised : (s id : Stamp) (o : Object) (d : Drawing) → ranks_before s d ≡ true → find id d ≡ Some o
-    → draw (form s (Set id (ToRank Top))) d ≡ without id d ++ (id, put (ToRank (High s)) o) ∷ []
+    → draw (form s (Set id (ToRank (To Top)))) d ≡ without id d ++ (id, put (ToRank (High s)) o) ∷ []
 raised s id o d h e =
     ap (λ x. placed_if id (option_map (put (ToRank (High s))) x) (without id d)) e
     ∙ placed-end id (put (ToRank (High s)) o) (without id d) (all_under s id (without id d) (before-filter s _ d h))
 
 pub lowered : (s id : Stamp) (o : Object) (d : Drawing) → ranks_before s d ≡ true → find id d ≡ Some o
-    → draw (form s (Set id (ToRank Bottom))) d ≡ (id, put (ToRank (Low s)) o) ∷ without id d
+    → draw (form s (Set id (ToRank (To Bottom)))) d ≡ (id, put (ToRank (Low s)) o) ∷ without id d
 lowered s id o d h e =
     ap (λ x. placed_if id (option_map (put (ToRank (Low s))) x) (without id d)) e
     ∙ placed-front id (put (ToRank (Low s)) o) (without id d) (all_over s id (without id d) (before-filter s _ d h))
@@ -141,17 +144,24 @@ module _ (P : Rank → Type 0) where
 abbrev pub RankBefore : Stamp → Rank → Type 0
 RankBefore s r = is_before (given_at r) s ≡ true
 
-gives : (s t : Stamp) (op : Op) → is_before t s ≡ true → Gives (RankBefore s) (form t op)
-gives s t (Create kind x y w h label) before = before
-gives s t (Group members) before = before
-gives s t (Set id (ToRank Bottom)) before = before
-gives s t (Set id (ToRank Top)) before = before
-gives s t (Set id content) before = tt
-gives s t op before = tt
+gives : (s t : Stamp) (op : Op) → is_before t s ≡ true → names_before t op ≡ true → Gives (RankBefore s) (form t op)
+gives s t (Create kind x y w h label) before named = before
+gives s t (Group members) before named = before
+gives s t (Set id (ToRank (To Bottom))) before named = before
+gives s t (Set id (ToRank (To Top))) before named = before
+gives s t (Set id (ToRank (At rank))) before named =
+    let both = and_parts (is_before id t) _ named in is_before-trans (given_at rank) t s both.1 before
+gives s t (Set id content) before named = tt
+gives s t (Restore id object ties) before named =
+    let both = and_parts (is_object_before t id object) _ named in
+    let own = and_parts (is_before id t) _ both.0 in
+    let rank = and_parts (is_before (given_at object.rank) t) _ own.1 in
+    is_before-trans (given_at object.rank) t s rank.0 before
+gives s t op before named = tt
 
 all_give : (s : Stamp) (es : List Event) → AreBefore s es → Every (λ e. Gives (RankBefore s) (form e.stamp e.op)) es
 all_give s [] h = tt
-all_give s (e ∷ es) h = (gives s e.stamp e.op h.0, all_give s es h.1)
+all_give s (e ∷ es) h = (gives s e.stamp e.op h.0.0 h.0.1, all_give s es h.1)
 
 pub tested : (s : Stamp) (d : Drawing) → Every (λ e. RankBefore s e.1.rank) d → ranks_before s d ≡ true
 tested s [] h = refl

@@ -1,13 +1,11 @@
-ghost use Rattle.std.specs.Prelude.{◌≡◌, ◌≤◌, Some, None, MatchResult};
-ghost use Rattle.std.specs.List.{list_all};
+ghost use Rattle.std.specs.Prelude.{◌≡◌, ◌≤◌, Some, MatchResult};
 ghost use Rattle.gd_events.specs.Events.{IsSoundWith, first_event};
 ghost use Rattle.gd_events.specs.Sound.{event_fault, IsSound};
-ghost use Rattle.gd_events.specs.Sound.{is_shift_in_range, is_in_range, has_members};
-ghost use Rattle.gd_events.specs.Sound.{is_member_before, names_before, is_above, rise_above, has_rising_members};
 
 use crate::op::Op;
 use crate::operation::Operation;
-use gd_base::{Label, Member, PLACE_LIMIT, SIZE_LIMIT, Shape, Stamp, is_within};
+use crate::rules::{has_members, has_rising_ids, is_in_range, names_before};
+use gd_base::{Label, Shape, Stamp};
 use std::marker::Model;
 use thiserror::Error;
 
@@ -18,11 +16,11 @@ pub enum EventFault {
     Seq,
     #[error("a place, a shift, a size, a colour or a width is out of its range")]
     Range,
-    #[error("a group has fewer than 2 members")]
+    #[error("a group has fewer than 2 members, or what is disbanded no tie")]
     MemberCount,
-    #[error("an id is not before the event's stamp")]
+    #[error("an id or the stamp of a rank is not before the event's stamp, or a link leads to no greater id")]
     FutureId,
-    #[error("the ids of a group's members do not rise strictly")]
+    #[error("the ids of members or of ties do not rise strictly")]
     MemberOrder,
 }
 
@@ -104,7 +102,7 @@ impl Event<Op> {
         if !names_before(stamp, &op) {
             return Err(EventFault::FutureId);
         }
-        if !has_rising_members(&op) {
+        if !has_rising_ids(&op) {
             return Err(EventFault::MemberOrder);
         }
         Ok(Event {
@@ -140,86 +138,5 @@ impl Default for Event {
             label: Label::default(),
         };
         Event::sound(Stamp::default(), 1, op)
-    }
-}
-
-fn is_in_range(op: &Op) -> bool
-    ensures { result ≡ is_in_range op.now }
-{
-    match op {
-        Op::Create { x, y, w, h, .. } => {
-            is_within(PLACE_LIMIT, *x)
-                && is_within(PLACE_LIMIT, *y)
-                && is_within(SIZE_LIMIT, *w)
-                && is_within(SIZE_LIMIT, *h)
-        }
-        Op::Delete { .. } => true,
-        Op::Set { content, .. } => content.is_in_range(),
-        Op::Group { members } => are_shifts_in_range(members.as_slice()),
-    }
-}
-
-fn are_shifts_in_range(members: &[Member]) -> bool
-    ensures { result ≡ list_all is_shift_in_range members.now }
-{
-    members.iter().all(|member| is_within(PLACE_LIMIT, member.dx)
-        && is_within(PLACE_LIMIT, member.dy))
-}
-
-fn has_members(op: &Op) -> bool
-    ensures { result ≡ has_members op.now }
-{
-    match op {
-        Op::Group { members } => members.as_slice().len() >= 2,
-        _ => true,
-    }
-}
-
-fn names_before(stamp: Stamp, op: &Op) -> bool
-    ensures { result ≡ names_before stamp op.now }
-{
-    match op {
-        Op::Create { .. } => true,
-        Op::Delete { id } | Op::Set { id, .. } => id.is_before(stamp),
-        Op::Group { members } => are_members_before(stamp, members.as_slice()),
-    }
-}
-
-fn are_members_before(stamp: Stamp, members: &[Member]) -> bool
-    ensures { result ≡ list_all (is_member_before stamp) members.now }
-{
-    members.iter().all(|member| member.id.is_before(stamp))
-}
-
-fn has_rising_members(op: &Op) -> bool
-    ensures { result ≡ has_rising_members op.now }
-{
-    match op {
-        Op::Group { members } => are_rising(members.as_slice()),
-        _ => true,
-    }
-}
-
-/// Whether the ids of the members rise strictly.
-#[tactic(auto, unfolding(crate::specs::Sound::rise_above))]
-fn are_rising(members: &[Member]) -> bool
-    ensures { result ≡ rise_above None members.now }
-{
-    let mut last = None;
-    for member in members {
-        if !is_above(last, member.id) {
-            return false;
-        }
-        last = Some(member.id);
-    }
-    true
-}
-
-fn is_above(last: Option<Stamp>, id: Stamp) -> bool
-    ensures { result ≡ is_above last id }
-{
-    match last {
-        None => true,
-        Some(last) => last.is_before(id),
     }
 }

@@ -5,8 +5,9 @@ ghost use Rattle.gd_json.specs.EventsJson.{box_fields, content_fields, event_jso
 ghost use Rattle.gd_json.specs.Values.{array, put_all};
 
 use crate::array::{ArrayText, JsonText};
+use crate::objects::{put_object, ties_of};
 use crate::values::{Fields, Items, Json};
-use gd_base::{Content, Label, Member, Side};
+use gd_base::{Content, Height, Label, Member, Side};
 use gd_events::{Event, EventList, Op};
 use std::alloc::{AllocError, Global};
 
@@ -71,6 +72,19 @@ fn put_op(fields: &mut Fields, op: &Op) -> Result<(), AllocError>
             let members = members_of(fields.alloc(), members.as_slice())?;
             fields.put("members", members)
         }
+        Op::Restore { id, object, ties } => {
+            fields.word("op", "restore")?;
+            fields.id("id", *id)?;
+            let ties = ties_of(fields.alloc(), ties.as_slice())?;
+            fields.put("ties", ties)?;
+            put_object(fields, object)
+        }
+        Op::Disband { id, ties } => {
+            fields.word("op", "disband")?;
+            fields.id("id", *id)?;
+            let ties = ties_of(fields.alloc(), ties.as_slice())?;
+            fields.put("ties", ties)
+        }
     }
 }
 
@@ -85,7 +99,7 @@ fn put_box(fields: &mut Fields, x: i32, y: i32, w: i32, h: i32) -> Result<(), Al
 }
 
 /// Puts the name of what sets a content, and the content.
-fn put_content(fields: &mut Fields, content: &Content<Label, Side>) -> Result<(), AllocError>
+fn put_content(fields: &mut Fields, content: &Content<Label, Height>) -> Result<(), AllocError>
     ensures { OnOk result (fields.new ≡ put_all fields.old (content_fields content.now)) }
 {
     match content {
@@ -115,9 +129,14 @@ fn put_content(fields: &mut Fields, content: &Content<Label, Side>) -> Result<()
             fields.word("op", "retext")?;
             fields.label("label", label)
         }
-        Content::ToFlag(_) => fields.word("op", "ungroup"),
-        Content::ToRank(Side::Top) => fields.word("op", "raise"),
-        Content::ToRank(Side::Bottom) => fields.word("op", "lower"),
+        Content::ToFlag(true) => fields.word("op", "ungroup"),
+        Content::ToFlag(false) => fields.word("op", "reopen"),
+        Content::ToRank(Height::To(Side::Top)) => fields.word("op", "raise"),
+        Content::ToRank(Height::To(Side::Bottom)) => fields.word("op", "lower"),
+        Content::ToRank(Height::At(rank)) => {
+            fields.word("op", "rerank")?;
+            fields.rank("rank", *rank)
+        }
     }
 }
 

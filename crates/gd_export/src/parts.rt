@@ -5,7 +5,7 @@ ghost use Rattle.std.specs.Prelude.{◌≡◌, OnOk, decimal, true};
 ghost use Rattle.std.specs.Fmt.{signed_decimal};
 ghost use Rattle.gd_export.specs.Texts.{is_quiet};
 ghost use Rattle.gd_json.specs.Parts.{colour_json, colour_or_null, id_json, id_or_null, kind_json, two};
-ghost use Rattle.gd_json.specs.Values.{plain, put_field, quoted};
+ghost use Rattle.gd_json.specs.Values.{flag, plain, put_field, quoted};
 
 use crate::texts::{colour_of, id_of, kind_of};
 use crate::values::{Fields, Items, Json};
@@ -25,6 +25,13 @@ impl Fields {
         ensures { OnOk result (self.new ≡ put_field self.old (key.now, decimal n)) }
     {
         self.put(key, Json::count(n))
+    }
+
+    pub fn flag(&mut self, key: &str, is_set: bool) -> Result<(), AllocError>
+        requires { is_quiet key.now ≡ true }
+        ensures { OnOk result (self.new ≡ put_field self.old (key.now, flag is_set)) }
+    {
+        self.put(key, Json::flag(is_set))
     }
 
     /// A word that needs no marks.

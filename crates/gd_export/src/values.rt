@@ -3,7 +3,7 @@
 ghost use Rattle.std.specs.Prelude.{◌≡◌, ◌++◌, ◌∷◌, [], IfOk, OnOk, decimal, string_bytes, true};
 ghost use Rattle.std.specs.Fmt.{signed_decimal};
 ghost use Rattle.gd_export.specs.Texts.{is_quiet};
-ghost use Rattle.gd_json.specs.Values.{array, null, object, plain, put_field, quoted};
+ghost use Rattle.gd_json.specs.Values.{array, flag, null, object, plain, put_field, quoted};
 ghost use Rattle.json.specs.Print.{escape};
 
 use gd_base::Label;
@@ -34,6 +34,14 @@ impl Json {
         ensures { result ≡ null }
     {
         Json { value: Value::Null }
+    }
+
+    pub fn flag(is_set: bool) -> Self
+        ensures { result ≡ flag is_set }
+    {
+        Json {
+            value: Value::Bool(is_set),
+        }
     }
 
     #[tactic(auto, using(crate::proofs::Spelled::integers))]

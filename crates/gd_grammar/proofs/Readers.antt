@@ -1,20 +1,19 @@
 -- Readings one behind the other, step by step, and readings by a tag, row by row.
-use Rattle.std.proofs.Common.{◌≡◌, ℕ, ◌+◌, Bool, true, false, cond, List, [], ◌∷◌, Ok, refl, arith}
-use Rattle.std.specs.Prelude.{◌==◌}
+use Rattle.std.proofs.Common.{◌≡◌, ℕ, ◌+◌, true, List, [], ◌∷◌, get_or, Ok, arith}
+use Rattle.std.specs.List.{AllByRecursion}
+use Rattle.std.specs.Prelude.{nat_le, ◌==◌}
 use Rattle.gd_base.specs.declared.fault.FieldFault.{FieldFault}
 use Rattle.gd_base.specs.declared.fault.FieldWhy.TheVariants.{Field}
-use Rattle.gd_base.specs.declared.version.Version.{Version}
 use Rattle.gd_grammar.specs.Reading.{Reader, fault_at, then_at, pure}
-use Rattle.gd_grammar.specs.Readers.{into, picked, by_tag}
-use Rattle.gd_grammar.specs.Fields.{byte_at}
+use Rattle.gd_grammar.specs.Readers.{into, picked, by_tag, by_tag_within}
+use Rattle.gd_grammar.specs.Fields.{byte_at, byte_within}
 use Rattle.gd_grammar.specs.FieldBytes.{AreBytes}
 use Rattle.gd_grammar.specs.Steady.{Steady}
 use Rattle.gd_grammar.specs.Exact.{Took, Exact, Runs}
-use Rattle.gd_grammar.specs.Versions.{has_version, since}
 use Rattle.gd_grammar.proofs.Steady.{Follows, Steady-then, Steady-weaken, Steady-done, behind, fault_there, either}
 use Rattle.gd_grammar.proofs.Exact.{joined, spelt, step, taking, done, on_tag}
-use Rattle.gd_grammar.proofs.SteadyFields.{field_ne, Steady-byte}
-use Rattle.gd_grammar.proofs.ExactFields.{exact_byte, tag_is, no_tag}
+use Rattle.gd_grammar.proofs.SteadyFields.{field_ne, Steady-byte, Steady-byte-within}
+use Rattle.gd_grammar.proofs.ExactFields.{exact_byte, exact_byte_within, tag_is, no_tag}
 
 -- a fact of one row, and those of the rows behind it
 infixr 5 ◌&◌
@@ -35,12 +34,14 @@ pub Steady-into : {A B : Type 0} (m : ℕ) (f : A → B) {r : Reader A} → Stea
 Steady-into m f {r = r} s = Steady-weaken (m + 0) m (into f r) (omega arith) (Steady-next m s (λ value. Steady-pure (f value)))
 
 -- the fields of each row take at most so many bytes
-unfoldable pub AllSteady : {A : Type 0} → ℕ → List (ℕ × Reader A) → Type 0
-AllSteady most [] = Unit {0}
-AllSteady most (row ∷ rows) = Steady most row.1 × AllSteady most rows
+abbrev pub SteadyRow : {A : Type 0} → ℕ → ℕ × Reader A → Type 0
+SteadyRow most row = Steady most row.1
+
+abbrev pub AllSteady : {A : Type 0} → ℕ → List (ℕ × Reader A) → Type 0
+AllSteady most rows = AllByRecursion (SteadyRow most) rows
 
 picked-follows : {A : Type 0} (most : ℕ) (rows : List (ℕ × Reader A)) → AllSteady most rows → (tag : ℕ) → Follows most (λ bytes rest. picked rows tag (fault_at Field bytes) rest)
-unfolding AllSteady picked
+unfolding picked
 picked-follows most [] all tag = fault_there most Field field_ne
 picked-follows most (row ∷ rows) all tag = either (tag == row.0) (λ _. behind most row.1 all.0) (λ _. picked-follows most rows all.1 tag)
 
@@ -48,13 +49,9 @@ pub Steady-tags : {A : Type 0} (most : ℕ) (rows : List (ℕ × Reader A)) → 
 unfolding by_tag then_at
 Steady-tags most rows all = Steady-then 1 most byte_at (λ tag bytes rest. picked rows tag (fault_at Field bytes) rest) Steady-byte (picked-follows most rows all)
 
-pub steady-since : {A : Type 0} (most : ℕ) (first version : Version) (rows : List (ℕ × Reader A)) → AllSteady most rows → AllSteady most (since first version rows)
-unfolding AllSteady
-steady-since {A} most first version rows all = by_test (has_version version first)
-  where
-    by_test : (b : Bool) → AllSteady most (cond b rows [])
-    by_test true = all
-    by_test false = tt
+pub Steady-tags-within : {A : Type 0} (last most : ℕ) (rows : List (ℕ × Reader A)) → AllSteady most rows → Steady (1 + most) (by_tag_within last rows)
+unfolding by_tag_within then_at
+Steady-tags-within last most rows all = Steady-then 1 most (byte_within last) (λ tag bytes rest. picked rows tag (fault_at Field bytes) rest) (Steady-byte-within last) (picked-follows most rows all)
 
 -- ---- spelled
 
@@ -75,13 +72,12 @@ took-into f tag exact sound same whole bytes z are text e =
     taking exact bytes are _ z e (λ a.
     done _ z a.on (record { sound = sound a.value a.sound; text = spelt (joined text a.text) (same a.value) }))
 
-unfoldable pub AllTook : {A : Type 0} → (A → Type 0) → (A → List ℕ) → List (ℕ × Reader A) → Type 0
-AllTook Sound spell [] = Unit {0}
-AllTook Sound spell (row ∷ rows) = TookAs Sound spell row × AllTook Sound spell rows
+abbrev pub AllTook : {A : Type 0} → (A → Type 0) → (A → List ℕ) → List (ℕ × Reader A) → Type 0
+AllTook Sound spell rows = AllByRecursion (TookAs Sound spell) rows
 
 picked-took : {A : Type 0} {Sound : A → Type 0} {spell : A → List ℕ} (rows : List (ℕ × Reader A)) → AllTook Sound spell rows → (tag : ℕ) (fault : FieldFault) (whole rest : List ℕ) (z : A × List ℕ)
     → AreBytes rest → Runs whole (tag ∷ []) rest → picked rows tag fault rest ≡ Ok z → Took Sound spell whole z
-unfolding AllTook picked
+unfolding picked
 picked-took [] all tag fault whole rest z are text e = no_tag _ z e
 picked-took (row ∷ rows) all tag fault whole rest z are text e =
     on_tag tag row.0 _ _ z e (λ is h. all.0 whole rest z are (tag_is tag row.0 text is) h) (λ h. picked-took rows all.1 tag fault whole rest z are text h)
@@ -94,11 +90,10 @@ took-tags rows all bytes z are e =
     let tag = step exact_byte bytes are _ z e in
     picked-took rows all tag.value (fault_at Field bytes) bytes tag.rest z tag.left tag.text tag.on
 
-pub took-since : {A : Type 0} (Sound : A → Type 0) (spell : A → List ℕ) (first version : Version) (rows : List (ℕ × Reader A)) → (has_version version first ≡ true → AllTook Sound spell rows)
-    → AllTook Sound spell (since first version rows)
-unfolding AllTook
-took-since Sound spell first version rows all = by_test (has_version version first) refl
-  where
-    by_test : (b : Bool) → has_version version first ≡ b → AllTook Sound spell (cond b rows [])
-    by_test true has = all has
-    by_test false has = tt
+-- and so is what is read by a tag that is at most so great, and so great is the first byte
+pub took-tags-within : {A : Type 0} {Sound : A → Type 0} {spell : A → List ℕ} (last : ℕ) (rows : List (ℕ × Reader A)) → AllTook Sound spell rows → (bytes : List ℕ) (z : A × List ℕ) → AreBytes bytes
+    → by_tag_within last rows bytes ≡ Ok z → Took Sound spell bytes z × (nat_le (get_or bytes 0 0) last ≡ true)
+unfolding by_tag_within then_at
+took-tags-within last rows all bytes z are e =
+    let tag = step (exact_byte_within last) bytes are _ z e in
+    (picked-took rows all tag.value (fault_at Field bytes) bytes tag.rest z tag.left tag.text tag.on, rw tag.text.is tag.sound)

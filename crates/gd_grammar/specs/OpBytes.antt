@@ -1,47 +1,52 @@
--- The bytes of an operation on a drawing: a tag, and the fields by the tag. An id that isn't before the event's stamp is FutureId
--- at its first byte. That, and whether a member's id is above that of the member before it, is judged before the fields behind
--- the id. In version One a label has at most 64 bytes, and nothing puts an object at the bottom.
-use Rattle.std.specs.Prelude.{ℕ, true, List, [], ◌∷◌, Option, Some, None}
-use Rattle.gd_base.specs.Contents.{Said}
+-- The bytes of an operation on a drawing: a tag, and the fields by the tag. An id or the stamp of a rank that isn't before the
+-- event's stamp is FutureId at its first byte, and so is a group that isn't above what is linked to it. That, and whether the id
+-- of a member or of a tie is above that of the one before it, is judged before the fields behind the id. In version One a label
+-- has at most 64 bytes. Since version Two an object is put at the bottom, and since version Three there is what an undo does.
+use Rattle.std.specs.Prelude.{ℕ, true, false, List, [], ◌∷◌, Option, Some, None}
 use Rattle.gd_base.specs.Ranges.{place_limit, size_limit}
 use Rattle.gd_base.specs.Stamps.{Stamp}
 use Rattle.gd_base.specs.declared.content.Content.TheVariants.{ToPlace, ToSize, ToStroke, ToFill, ToWidth, ToText, ToFlag, ToRank}
+use Rattle.gd_base.specs.declared.content.Height.TheVariants.{To, At}
 use Rattle.gd_base.specs.declared.content.Side.TheVariants.{Bottom, Top}
 use Rattle.gd_base.specs.declared.member.Member.{Member}
-use Rattle.gd_base.specs.declared.op.Op.TheVariants.{Create, Delete, Set, Group}
+use Rattle.gd_base.specs.declared.op.Op.TheVariants.{Create, Delete, Set, Group, Restore, Disband}
+use Rattle.gd_base.specs.declared.ties.Tie.{Tie}
 use Rattle.gd_base.specs.declared.version.Version.{Version}
-use Rattle.gd_base.specs.declared.version.Version.TheVariants.{Two}
-use Rattle.gd_events.specs.Ops.{Op}
-use Rattle.gd_grammar.specs.EventBytes.{shape_at, label_at, colour_at, fill_at, width_at, member_count_at, member_id_at}
+use Rattle.gd_events.specs.Ops.{Op, Done}
+use Rattle.gd_grammar.specs.EventBytes.{last_tag, shape_at, label_at, colour_at, fill_at, width_at, count_at, member_id_at}
 use Rattle.gd_grammar.specs.Fields.{id_at, signed_at}
+use Rattle.gd_grammar.specs.ObjectBytes.{link_at, rank_at, object_at}
 use Rattle.gd_grammar.specs.Reading.{Reader, pure, many_at}
-use Rattle.gd_grammar.specs.Readers.{◌>>=◌, into, by_tag}
-use Rattle.gd_grammar.specs.Versions.{since}
+use Rattle.gd_grammar.specs.Readers.{◌>>=◌, into, by_tag, by_tag_within}
 
 -- ---- contents
 
-unfoldable pub place_at : Reader Said
+unfoldable pub place_at : Reader Done
 place_at = do
   x ← signed_at place_limit
   y ← signed_at place_limit
   pure (ToPlace x y)
 
-unfoldable pub size_at : Reader Said
+unfoldable pub size_at : Reader Done
 size_at = do
   w ← signed_at size_limit
   h ← signed_at size_limit
   pure (ToSize w h)
 
 -- the parts of the look
-abbrev pub look_rows : List (ℕ × Reader Said)
+abbrev pub look_rows : List (ℕ × Reader Done)
 look_rows = (1, into ToStroke colour_at) ∷ (2, into ToFill fill_at) ∷ (3, into ToWidth width_at) ∷ []
 
 -- which part of the look, and its value
-unfoldable pub look_at : Reader Said
+unfoldable pub look_at : Reader Done
 look_at = by_tag look_rows
 
-abbrev pub text_at : Version → Reader Said
+abbrev pub text_at : Version → Reader Done
 text_at version = into ToText (label_at version)
+
+-- a rank that it had
+abbrev pub level_at : Stamp → Reader Done
+level_at stamp = into (λ rank. ToRank (At rank)) (rank_at (Some stamp))
 
 -- ---- operations
 
@@ -55,7 +60,7 @@ create_at version = do
   label ← label_at version
   pure (Create kind x y w h label)
 
-unfoldable pub set_at : Stamp → Reader Said → Reader Op
+unfoldable pub set_at : Stamp → Reader Done → Reader Op
 set_at stamp content = do
   id ← id_at stamp
   c ← content
@@ -74,19 +79,51 @@ members_at count stamp last bytes = many_at (member_at stamp) (λ m. Some m.id) 
 
 unfoldable pub group_at : Stamp → Reader Op
 group_at stamp = do
-  count ← member_count_at
+  count ← count_at 2
   members ← members_at count stamp None
   pure (Group members)
 
+unfoldable pub tie_at : Stamp → Option Stamp → Reader Tie
+tie_at stamp last = do
+  id ← member_id_at stamp last
+  link ← link_at (Some (record { stamp = stamp; id = id }))
+  pure (record { id = id; link = link })
+
+-- so many ties behind a last one, if there is one
+abbrev pub ties_at : ℕ → Stamp → Option Stamp → Reader (List Tie)
+ties_at count stamp last bytes = many_at (tie_at stamp) (λ t. Some t.id) count last bytes
+
+-- their number, at least so many, and the ties
+unfoldable pub all_ties_at : ℕ → Stamp → Reader (List Tie)
+all_ties_at least stamp = do
+  count ← count_at least
+  ties_at count stamp None
+
+unfoldable pub restore_at : Stamp → Reader Op
+restore_at stamp = do
+  id ← id_at stamp
+  object ← object_at (Some (record { stamp = stamp; id = id }))
+  ties ← all_ties_at 0 stamp
+  pure (Restore id object ties)
+
+unfoldable pub disband_at : Stamp → Reader Op
+disband_at stamp = do
+  id ← id_at stamp
+  ties ← all_ties_at 1 stamp
+  pure (Disband id ties)
+
 -- those that set something other than a label
-abbrev pub small_rows : Version → Stamp → List (ℕ × Reader Op)
-small_rows version stamp =
+abbrev pub small_rows : Stamp → List (ℕ × Reader Op)
+small_rows stamp =
     (3, set_at stamp place_at)
     ∷ (4, set_at stamp size_at)
     ∷ (5, set_at stamp look_at)
     ∷ (8, set_at stamp (pure (ToFlag true)))
-    ∷ (9, set_at stamp (pure (ToRank Top)))
-    ∷ since Two version ((10, set_at stamp (pure (ToRank Bottom))) ∷ [])
+    ∷ (9, set_at stamp (pure (ToRank (To Top))))
+    ∷ (10, set_at stamp (pure (ToRank (To Bottom))))
+    ∷ (13, set_at stamp (level_at stamp))
+    ∷ (14, set_at stamp (pure (ToFlag false)))
+    ∷ []
 
 abbrev pub op_rows : Version → Stamp → List (ℕ × Reader Op)
 op_rows version stamp =
@@ -94,7 +131,9 @@ op_rows version stamp =
     ∷ (2, into Delete (id_at stamp))
     ∷ (6, set_at stamp (text_at version))
     ∷ (7, group_at stamp)
-    ∷ small_rows version stamp
+    ∷ (11, restore_at stamp)
+    ∷ (12, disband_at stamp)
+    ∷ small_rows stamp
 
 unfoldable pub op_at : Version → Stamp → Reader Op
-op_at version stamp = by_tag (op_rows version stamp)
+op_at version stamp = by_tag_within (last_tag version) (op_rows version stamp)

@@ -3,7 +3,7 @@ use Rattle.std.specs.Prelude.{ℕ, List, [], ◌∷◌, Err, ◌==◌, if◌then
 use Rattle.gd_base.specs.declared.fault.FieldFault.{FieldFault}
 use Rattle.gd_base.specs.declared.fault.FieldWhy.TheVariants.{Field}
 use Rattle.gd_grammar.specs.Reading.{Reader, fault_at, then_at, pure}
-use Rattle.gd_grammar.specs.Fields.{byte_at}
+use Rattle.gd_grammar.specs.Fields.{byte_at, byte_within}
 
 infixl 10 ◌>>=◌
 abbrev pub ◌>>=◌ : {A B : Type 0} → Reader A → (A → Reader B) → Reader B
@@ -22,7 +22,11 @@ picked (row ∷ rows) tag fault rest = if tag == row.0 then row.1 rest else pick
 unfoldable pub by_tag : {A : Type 0} → List (ℕ × Reader A) → Reader A
 by_tag rows bytes = then_at byte_at (λ tag. picked rows tag (fault_at Field bytes)) bytes
 
+-- the same, where a tag is at most so great
+unfoldable pub by_tag_within : {A : Type 0} → ℕ → List (ℕ × Reader A) → Reader A
+by_tag_within most rows bytes = then_at (byte_within most) (λ tag. picked rows tag (fault_at Field bytes)) bytes
+
 -- names all of these at once where a proof looks into readings
 unfoldable pub steps : Unit {0}
-unfolding then_at pure picked by_tag
+unfolding then_at pure picked by_tag by_tag_within
 steps = tt

@@ -11,9 +11,9 @@ use Rattle.gd_events.specs.Sound.{is_above}
 use Rattle.gd_grammar.specs.Drawings.{event_at}
 use Rattle.gd_grammar.specs.Fields.{stamp_at, word_at}
 use Rattle.gd_grammar.specs.Reading.{ranged}
-use Rattle.gd_model.specs.declared.object.Object.{Object}
+use Rattle.gd_base.specs.declared.object.Object.{Object}
 use Rattle.gd_outside.specs.Seen.{SeenSource}
-use Rattle.gd_snapshots.specs.ObjectBytes.{object_at}
+use Rattle.gd_grammar.specs.ObjectBytes.{object_at}
 use Rattle.gd_snapshots.specs.SnapshotBytes.{Views, in_view, misread_at, number_within, placed_at, kept_at}
 use Rattle.gd_snapshots.specs.Snapshots.{Placed, is_bounded}
 use Rattle.gd_snapshots.specs.declared.known.Known.{Known}
@@ -56,7 +56,7 @@ abbrev id : List ℕ → Views Stamp
 id bytes = in_view (stamp_at bytes)
 
 abbrev object : List ℕ → Views Object
-object bytes = in_view (object_at bytes)
+object bytes = in_view (object_at None bytes)
 
 abbrev behind-id : Stamp → List ℕ → Views Placed
 behind-id id rest = object rest >>= λ object. Ok ((id, object.0), object.1)

@@ -3,10 +3,7 @@ use Rattle.std.proofs.Common.{◌≡◌, ℕ, ◌+◌, ◌*◌, ◌<◌, ◌^◌
 use Rattle.std.specs.Int.{bytes_high_first}
 use Rattle.std.specs.List.{AllByRecursion}
 use Rattle.std.proofs.lemmas.List.{append-nil, length-append}
-use Rattle.gd_grammar.specs.FieldBytes.{word_bytes, signed_bytes, label_bytes, each_bytes}
-use Rattle.gd_grammar.specs.Spelling.{fill_bytes}
-use Rattle.gd_model.specs.declared.object.Object.{Object}
-use Rattle.gd_snapshots.specs.ObjectBytes.{kind_byte, flag_byte, link_bytes, rank_bytes, object_bytes}
+use Rattle.gd_grammar.specs.FieldBytes.{each_bytes}
 use Rattle.gd_snapshots.specs.SnapshotBytes.{known_bytes}
 use Rattle.gd_snapshots.specs.Snapshots.{IsKnown, IsSnapshot, Snapshot}
 use Rattle.gd_snapshots.specs.declared.known.Known.{Known}
@@ -45,15 +42,6 @@ none-left (k ∷ ks) h = absurd (omega (arith, h))
 pub known_end : (all left : List Known) (before out : List ℕ) → length left ≡ 0 → PutKnown all before left out → out ≡ before ++ each_bytes known_bytes all
 unfolding each_bytes
 known_end all left before out none put = sym (put.text ∙ ap (λ (ks : List Known). out ++ each_bytes known_bytes ks) (none-left left none) ∙ append-nil out)
-
--- ---- an object
-
--- its parts were put behind the bytes that were there
-pub object_put : (o : Object) (out : List ℕ)
-    → out ++ kind_byte o.kind ∷ signed_bytes o.x ++ signed_bytes o.y ++ signed_bytes o.w ++ signed_bytes o.h ++ word_bytes o.stroke ++ fill_bytes o.fill ++ o.width ∷ [] ++ label_bytes o.label ++ link_bytes o.link ++ flag_byte o.dissolved ∷ [] ++ rank_bytes o.rank
-    ≡ out ++ object_bytes o
-unfolding object_bytes
-object_put o out = simp append_assoc
 
 -- ---- how many there are
 

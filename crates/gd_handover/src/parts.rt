@@ -11,9 +11,8 @@ use crate::fault::SnapshotFault;
 use crate::judged::{is_above, is_bounded, least_sure};
 use crate::reader::Reader;
 use crate::snapshot::{KnownList, PlacedList};
-use gd_base::{Stamp, ViewWhy};
+use gd_base::{Object, Stamp, ViewWhy};
 use gd_events::{Event, EventList};
-use gd_model::Object;
 use gd_outside::Source;
 use gd_snapshots::Known;
 use std::alloc::Global;
@@ -44,7 +43,7 @@ pub fn read_known<S: Source>(
     ensures part { Part (λ bytes. in_view (all_known_at sites bytes)) result reader.old reader.new
         (S.seen source.old) (S.seen source.new) }
     ensures few { IfOk result (λ _. length reader.new.ahead ≤ 8) }
-    ensures near { IfOk result (λ _. reader.new.place ≤ reader.old.place + 500 * sites) }
+    ensures near { IfOk result (λ _. reader.new.place ≤ reader.old.place + 1100 * sites) }
     ensures long { IfOk result (λ known. length known ≡ sites) }
 {
     let mut known = KnownList::new();
@@ -70,7 +69,7 @@ pub fn read_number<S: Source>(
     ensures part { Part (λ bytes. in_view (number_within most before bytes)) result reader.old
         reader.new (S.seen source.old) (S.seen source.new) }
     ensures few { IfOk result (λ _. length reader.new.ahead ≤ least - 4) }
-    ensures near { IfOk result (λ _. reader.new.place ≤ reader.old.place + 500) }
+    ensures near { IfOk result (λ _. reader.new.place ≤ reader.old.place + 1100) }
     ensures most { IfOk result (λ number. before + number ≤ most) }
 {
     let at = reader.place;
@@ -97,7 +96,7 @@ pub fn read_objects<S: Source>(
     ensures part { Part (objects_at count None) result reader.old reader.new
         (S.seen source.old) (S.seen source.new) }
     ensures few { IfOk result (λ _. length reader.new.ahead ≤ 4) }
-    ensures near { IfOk result (λ _. reader.new.place ≤ reader.old.place + 1000 * count) }
+    ensures near { IfOk result (λ _. reader.new.place ≤ reader.old.place + 2200 * count) }
     ensures long { IfOk result (λ objects. length objects ≡ count) }
 {
     let mut objects = PlacedList::new(alloc);
@@ -124,7 +123,7 @@ fn read_placed<S: Source>(
     ensures part { Part (placed_at last) result reader.old reader.new
         (S.seen source.old) (S.seen source.new) }
     ensures few { IfOk result (λ _. length reader.new.ahead ≤ least - 44) }
-    ensures near { IfOk result (λ _. reader.new.place ≤ reader.old.place + 1000) }
+    ensures near { IfOk result (λ _. reader.new.place ≤ reader.old.place + 2200) }
 {
     let at = reader.place;
     let id = reader.next::<Stamp, S>(source, least)?;
@@ -152,7 +151,7 @@ pub fn read_kept<S: Source>(
     ensures part { Part (all_kept_at known.now count None) result reader.old reader.new
         (S.seen source.old) (S.seen source.new) }
     ensures few { IfOk result (λ _. length reader.new.ahead ≤ 0) }
-    ensures near { IfOk result (λ _. reader.new.place ≤ reader.old.place + 500 * count) }
+    ensures near { IfOk result (λ _. reader.new.place ≤ reader.old.place + 1100 * count) }
 {
     let line = least_sure(known);
     let mut kept = EventList::new(alloc);
@@ -181,7 +180,7 @@ fn read_event<S: Source>(
     ensures part { Part (kept_at known.now last) result reader.old reader.new
         (S.seen source.old) (S.seen source.new) }
     ensures few { IfOk result (λ _. length reader.new.ahead ≤ least - 17) }
-    ensures near { IfOk result (λ _. reader.new.place ≤ reader.old.place + 500) }
+    ensures near { IfOk result (λ _. reader.new.place ≤ reader.old.place + 1100) }
 {
     let at = reader.place;
     let event = reader.next::<Event, S>(source, least)?;

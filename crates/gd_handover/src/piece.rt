@@ -7,9 +7,8 @@ ghost use Rattle.gd_snapshots.specs.Pieces.{PieceLaws};
 
 use crate::fields;
 use crate::head::Head;
-use gd_base::{FieldFault, Stamp, Version};
+use gd_base::{FieldFault, Object, Stamp, Version};
 use gd_events::Event;
-use gd_model::Object;
 use gd_snapshots::Known;
 use gd_wire::{Bytes, Drawings};
 
@@ -92,17 +91,18 @@ impl Piece for Stamp {
 }
 
 impl Piece for Object {
-    ghost use Rattle.gd_snapshots.specs.ObjectBytes.{object_at};
+    ghost use Rattle.std.specs.Prelude.{None};
+    ghost use Rattle.gd_grammar.specs.ObjectBytes.{object_at};
     ghost use Rattle.gd_snapshots.proofs.PieceLaws.{object_piece};
 
-    ghost read = { object_at };
+    ghost read = { object_at None };
 
     ghost least = { 37 };
 
     ghost laws = { object_piece };
 
     fn parse<'a>(bytes: &mut Bytes<'a>) -> Result<Self, FieldFault> {
-        fields::object(bytes)
+        bytes.object(&None)
     }
 }
 
@@ -117,6 +117,6 @@ impl Piece for Event {
     ghost laws = { event_piece };
 
     fn parse<'a>(bytes: &mut Bytes<'a>) -> Result<Self, FieldFault> {
-        bytes.event::<Drawings>(Version::Two)
+        bytes.event::<Drawings>(Version::Three)
     }
 }

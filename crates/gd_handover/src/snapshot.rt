@@ -5,9 +5,8 @@ ghost use Rattle.gd_base.specs.declared.ranges.TheConstants.{SITES};
 ghost use Rattle.gd_snapshots.specs.Snapshots.{IsSnapshot};
 
 use arrayvec::ArrayVec;
-use gd_base::{SITES, Stamp};
+use gd_base::{Object, SITES, Stamp};
 use gd_events::EventList;
-use gd_model::Object;
 use gd_snapshots::Known;
 use std::alloc::{AllocError, Global};
 use std::marker::Model;

@@ -9,10 +9,9 @@ ghost use Rattle.gd_snapshots.specs.SnapshotBytes.{placed_bytes, snapshot_pieces
 
 use crate::pieces::{front_of, number_of, placed_of};
 use crate::snapshot::Snapshot;
-use gd_base::Stamp;
+use gd_base::{Object, Stamp};
 use gd_effects::print;
 use gd_events::ListedEvent;
-use gd_model::Object;
 use gd_outside::{End, Sink};
 use gd_wire::{EventBytes, write_event};
 

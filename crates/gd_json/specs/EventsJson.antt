@@ -1,17 +1,24 @@
 -- Events as one line of JSON: an array with an object for each event, in the list's order. Each object has `clock`, `seq` and
 -- `site`, under `op` the name of the operation, and the operation's own keys. All keys stand in the order of their bytes.
-use Rattle.std.specs.Prelude.{ℕ, ℤ, List, [], ◌∷◌, ◌++◌, map, codes, decimal}
+use Rattle.std.specs.Prelude.{ℕ, ℤ, true, false, Option, Some, None, List, [], ◌∷◌, ◌++◌, map, codes, decimal}
 use Rattle.std.specs.Fmt.{signed_decimal}
-use Rattle.gd_base.specs.Contents.{Said}
 use Rattle.gd_base.specs.Stamps.{Stamp}
 use Rattle.gd_base.specs.declared.content.Content.TheVariants.{ToPlace, ToSize, ToStroke, ToFill, ToWidth, ToText, ToFlag, ToRank}
+use Rattle.gd_base.specs.declared.content.Height.TheVariants.{To, At}
 use Rattle.gd_base.specs.declared.content.Side.TheVariants.{Bottom, Top}
 use Rattle.gd_base.specs.declared.member.Member.{Member}
-use Rattle.gd_base.specs.declared.op.Op.TheVariants.{Create, Delete, Set, Group}
+use Rattle.gd_base.specs.declared.op.Op.TheVariants.{Create, Delete, Set, Group, Restore, Disband}
+use Rattle.gd_base.specs.declared.object.Kind.{Kind}
+use Rattle.gd_base.specs.declared.object.Kind.TheVariants as kinds
+use Rattle.gd_base.specs.declared.object.Link.{Link}
+use Rattle.gd_base.specs.declared.object.Object.{Object}
+use Rattle.gd_base.specs.declared.rank.Rank.{Rank}
+use Rattle.gd_base.specs.declared.rank.Rank.TheVariants.{Low, High}
+use Rattle.gd_base.specs.declared.ties.Tie.{Tie}
 use Rattle.gd_events.specs.Events.{Event}
-use Rattle.gd_events.specs.Ops.{Op}
-use Rattle.gd_json.specs.Values.{Field, array, in_order, object, plain, quoted}
-use Rattle.gd_json.specs.Parts.{colour_json, colour_or_null, id_json, kind_json}
+use Rattle.gd_events.specs.Ops.{Op, Done}
+use Rattle.gd_json.specs.Values.{Field, array, flag, in_order, null, object, plain, quoted}
+use Rattle.gd_json.specs.Parts.{colour_json, colour_or_null, id_json, kind_json, two}
 
 abbrev pub id_field : Stamp → Field
 id_field id = (codes "id", id_json id)
@@ -33,6 +40,48 @@ member_fields m = number_field (codes "dx") m.dx ∷ number_field (codes "dy") m
 unfoldable pub member_json : Member → List ℕ
 member_json m = object (in_order (member_fields m))
 
+-- ---- objects and ties as they were
+
+abbrev pub link_fields : Link → List Field
+link_fields link = number_field (codes "dx") link.dx ∷ number_field (codes "dy") link.dy ∷ id_field link.parent ∷ []
+
+-- a group and the shift, as a member has them, or null
+unfoldable pub link_json : Option Link → List ℕ
+link_json None = null
+link_json (Some link) = object (in_order (link_fields link))
+
+-- the stamp of a rank, under how high it is
+unfoldable pub rank_json : Rank → List ℕ
+rank_json (Low stamp) = object (in_order ((codes "low", id_json stamp) ∷ []))
+rank_json (High stamp) = object (in_order ((codes "high", id_json stamp) ∷ []))
+
+abbrev pub kind_or_group : Kind → List ℕ
+kind_or_group (kinds.Shape shape) = kind_json shape
+kind_or_group kinds.Group = plain (codes "group")
+
+-- how an object looks
+abbrev pub look_of : Object → List Field
+look_of o = (codes "stroke", colour_json o.stroke) ∷ (codes "fill", colour_or_null o.fill) ∷ count_field (codes "width") o.width ∷ []
+
+-- to which group it is linked, whether it is dissolved, and how high it lies
+abbrev pub state_of : Object → List Field
+state_of o = (codes "link", link_json o.link) ∷ (codes "dissolved", flag o.dissolved) ∷ (codes "rank", rank_json o.rank) ∷ []
+
+-- the fields of an item, also of a group, and those of its state
+abbrev pub object_fields : Object → List Field
+object_fields o =
+    (codes "kind", kind_or_group o.kind) ∷ (codes "at", two o.x o.y) ∷ (codes "size", two o.w o.h) ∷ (codes "label", quoted o.label)
+    ∷ look_of o ++ state_of o
+
+abbrev pub tie_fields : Tie → List Field
+tie_fields t = id_field t.id ∷ (codes "link", link_json t.link) ∷ []
+
+unfoldable pub tie_json : Tie → List ℕ
+tie_json t = object (in_order (tie_fields t))
+
+abbrev pub ties_field : List Tie → Field
+ties_field ties = (codes "ties", array (map tie_json ties))
+
 -- ---- a row for each operation
 
 -- a name, in front of the other fields
@@ -40,16 +89,18 @@ abbrev pub named : List ℕ → List Field → List Field
 named op fields = (codes "op", plain op) ∷ fields
 
 -- what sets a content
-abbrev pub content_fields : Said → List Field
+abbrev pub content_fields : Done → List Field
 content_fields (ToPlace x y) = named (codes "move") (number_field (codes "x") x ∷ number_field (codes "y") y ∷ [])
 content_fields (ToSize w h) = named (codes "resize") (number_field (codes "w") w ∷ number_field (codes "h") h ∷ [])
 content_fields (ToStroke colour) = named (codes "restyle") ((codes "stroke", colour_json colour) ∷ [])
 content_fields (ToFill fill) = named (codes "restyle") ((codes "fill", colour_or_null fill) ∷ [])
 content_fields (ToWidth width) = named (codes "restyle") (count_field (codes "width") width ∷ [])
 content_fields (ToText label) = named (codes "retext") ((codes "label", quoted label) ∷ [])
-content_fields (ToFlag flag) = named (codes "ungroup") []
-content_fields (ToRank Top) = named (codes "raise") []
-content_fields (ToRank Bottom) = named (codes "lower") []
+content_fields (ToFlag true) = named (codes "ungroup") []
+content_fields (ToFlag false) = named (codes "reopen") []
+content_fields (ToRank (To Top)) = named (codes "raise") []
+content_fields (ToRank (To Bottom)) = named (codes "lower") []
+content_fields (ToRank (At rank)) = named (codes "rerank") ((codes "rank", rank_json rank) ∷ [])
 
 abbrev pub op_fields : Op → List Field
 op_fields (Create kind x y w h label) =
@@ -57,6 +108,8 @@ op_fields (Create kind x y w h label) =
 op_fields (Delete id) = named (codes "delete") (id_field id ∷ [])
 op_fields (Set id content) = id_field id ∷ content_fields content
 op_fields (Group members) = named (codes "group") ((codes "members", array (map member_json members)) ∷ [])
+op_fields (Restore id o ties) = named (codes "restore") (id_field id ∷ ties_field ties ∷ object_fields o)
+op_fields (Disband id ties) = named (codes "disband") (id_field id ∷ ties_field ties ∷ [])
 
 -- ---- events
 

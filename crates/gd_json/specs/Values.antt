@@ -1,6 +1,6 @@
 -- JSON as bytes. It is compact: nothing stands between its parts. An object is a list of fields, each a key and a value that
 -- is written already.
-use Rattle.std.specs.Prelude.{ℕ, Bool, ◌||◌, ◌==◌, List, [], ◌∷◌, ◌++◌, map, flat_map, codes, if◌then◌else◌}
+use Rattle.std.specs.Prelude.{ℕ, Bool, true, false, ◌||◌, ◌==◌, List, [], ◌∷◌, ◌++◌, map, flat_map, codes, if◌then◌else◌}
 use Rattle.std.specs.Cmp.Lexicographic.{slice_cmp}
 use Rattle.std.specs.List.{fold}
 use Rattle.std.specs.Ordering.{match_ordering, nat_cmp}
@@ -23,6 +23,10 @@ plain text = codes "\"" ++ text ++ codes "\""
 
 abbrev pub null : List ℕ
 null = codes "null"
+
+abbrev pub flag : Bool → List ℕ
+flag false = codes "false"
+flag true = codes "true"
 
 abbrev pub behind_commas : List (List ℕ) → List ℕ
 behind_commas [] = []

@@ -1,12 +1,17 @@
 -- Worked rows: items and events, and their JSON, written by hand.
-use Rattle.std.specs.Prelude.{ℕ, ℤ, pos, negsuc, List, [], ◌∷◌, ◌++◌, codes, Some, None, true}
+use Rattle.std.specs.Prelude.{ℕ, ℤ, pos, negsuc, List, [], ◌∷◌, ◌++◌, codes, Some, None, true, false}
 use Rattle.gd_base.specs.Stamps.{Stamp}
 use Rattle.gd_base.specs.declared.item.Item.{Item}
 use Rattle.gd_base.specs.declared.member.Member.{Member}
 use Rattle.gd_base.specs.declared.shape.Shape.TheVariants.{Rect, Ellipse, Line, Text}
 use Rattle.gd_base.specs.declared.content.Content.TheVariants.{ToPlace, ToSize, ToStroke, ToFill, ToWidth, ToText, ToFlag, ToRank}
+use Rattle.gd_base.specs.declared.content.Height.TheVariants.{To, At}
 use Rattle.gd_base.specs.declared.content.Side.TheVariants.{Bottom, Top}
-use Rattle.gd_base.specs.declared.op.Op.TheVariants.{Create, Delete, Set, Group}
+use Rattle.gd_base.specs.declared.op.Op.TheVariants.{Create, Delete, Set, Group, Restore, Disband}
+use Rattle.gd_base.specs.declared.object.Kind.TheVariants as kinds
+use Rattle.gd_base.specs.declared.object.Object.{Object}
+use Rattle.gd_base.specs.declared.rank.Rank.TheVariants.{Low, High}
+use Rattle.gd_base.specs.declared.ties.Tie.{Tie}
 use Rattle.gd_events.specs.Ops.{Op}
 use Rattle.gd_events.specs.Events.{Event}
 
@@ -75,6 +80,46 @@ items_of_json = (
     ∷ (lone_text, codes "{\"at\":[1,2],\"fill\":null,\"id\":\"3.1\",\"in\":null,\"kind\":\"text\",\"label\":\"none\",\"size\":[3,4],\"stroke\":\"0A0B0C\",\"width\":5}")
     ∷ []
 
+-- a shape in a group, and a dissolved group in none
+abbrev pub old_shape : Object
+old_shape = record {
+  kind = kinds.Shape Line;
+  x = pos 1;
+  y = negsuc 1;
+  w = pos 3;
+  h = pos 4;
+  stroke = 0x0A0B0C;
+  fill = Some 0xFF8000;
+  width = 5;
+  label = odd_label;
+  link = Some record { parent = at_stamp 9 2; dx = pos 6; dy = negsuc 6 };
+  dissolved = false;
+  rank = Low (at_stamp 8 1);
+}
+
+abbrev pub old_group : Object
+old_group = record {
+  kind = kinds.Group;
+  x = pos 0;
+  y = pos 0;
+  w = pos 0;
+  h = pos 0;
+  stroke = 0;
+  fill = None;
+  width = 1;
+  label = [];
+  link = None;
+  dissolved = true;
+  rank = High (at_stamp 9 2);
+}
+
+-- two ties, of which one leads to no group
+abbrev pub old_ties : List Tie
+old_ties = record { id = at_stamp 2 1; link = None } ∷ record { id = at_stamp 7 3; link = Some record { parent = at_stamp 9 2; dx = pos 10; dy = pos 0 } } ∷ []
+
+abbrev pub old_ties_json : List ℕ
+old_ties_json = codes "\"ties\":[{\"id\":\"2.1\",\"link\":null},{\"id\":\"7.3\",\"link\":{\"dx\":10,\"dy\":0,\"id\":\"9.2\"}}]"
+
 -- each operation, with the JSON of its event
 abbrev pub events_of_json : List (Event × List ℕ)
 events_of_json = (
@@ -94,6 +139,19 @@ events_of_json = (
       codes "{\"clock\":16,\"members\":[{\"dx\":0,\"dy\":-9,\"id\":\"2.1\"},{\"dx\":10,\"dy\":0,\"id\":\"7.3\"}],\"op\":\"group\",\"seq\":10,\"site\":3}",
     )
     ∷ (event 17 3 11 (Set (at_stamp 16 3) (ToFlag true)), codes "{\"clock\":17,\"id\":\"16.3\",\"op\":\"ungroup\",\"seq\":11,\"site\":3}")
-    ∷ (event 18 3 12 (Set (at_stamp 7 3) (ToRank Top)), codes "{\"clock\":18,\"id\":\"7.3\",\"op\":\"raise\",\"seq\":12,\"site\":3}")
-    ∷ (event 281474976710655 16 65535 (Set (at_stamp 7 3) (ToRank Bottom)), codes "{\"clock\":281474976710655,\"id\":\"7.3\",\"op\":\"lower\",\"seq\":65535,\"site\":16}")
+    ∷ (event 18 3 12 (Set (at_stamp 7 3) (ToRank (To Top))), codes "{\"clock\":18,\"id\":\"7.3\",\"op\":\"raise\",\"seq\":12,\"site\":3}")
+    ∷ (
+      event 19 3 13 (Restore (at_stamp 7 3) old_shape []),
+      codes "{\"at\":[1,-2],\"clock\":19,\"dissolved\":false,\"fill\":\"FF8000\",\"id\":\"7.3\",\"kind\":\"line\",\"label\":" ++ odd_label_json
+          ++ codes ",\"link\":{\"dx\":6,\"dy\":-7,\"id\":\"9.2\"},\"op\":\"restore\",\"rank\":{\"low\":\"8.1\"},\"seq\":13,\"site\":3,\"size\":[3,4],\"stroke\":\"0A0B0C\",\"ties\":[],\"width\":5}",
+    )
+    ∷ (
+      event 20 3 14 (Restore (at_stamp 9 2) old_group old_ties),
+      codes "{\"at\":[0,0],\"clock\":20,\"dissolved\":true,\"fill\":null,\"id\":\"9.2\",\"kind\":\"group\",\"label\":\"\",\"link\":null,\"op\":\"restore\",\"rank\":{\"high\":\"9.2\"},"
+          ++ codes "\"seq\":14,\"site\":3,\"size\":[0,0],\"stroke\":\"000000\"," ++ old_ties_json ++ codes ",\"width\":1}",
+    )
+    ∷ (event 21 3 15 (Disband (at_stamp 9 2) old_ties), codes "{\"clock\":21,\"id\":\"9.2\",\"op\":\"disband\",\"seq\":15,\"site\":3," ++ old_ties_json ++ codes "}")
+    ∷ (event 22 3 16 (Set (at_stamp 7 3) (ToRank (At (High (at_stamp 7 3))))), codes "{\"clock\":22,\"id\":\"7.3\",\"op\":\"rerank\",\"rank\":{\"high\":\"7.3\"},\"seq\":16,\"site\":3}")
+    ∷ (event 23 3 17 (Set (at_stamp 9 2) (ToFlag false)), codes "{\"clock\":23,\"id\":\"9.2\",\"op\":\"reopen\",\"seq\":17,\"site\":3}")
+    ∷ (event 281474976710655 16 65535 (Set (at_stamp 7 3) (ToRank (To Bottom))), codes "{\"clock\":281474976710655,\"id\":\"7.3\",\"op\":\"lower\",\"seq\":65535,\"site\":16}")
     ∷ []

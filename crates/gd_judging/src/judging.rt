@@ -10,7 +10,9 @@ ghost use Rattle.gd_reference.specs.Judging.{target, with_target, of_shape, of_g
 ghost use Rattle.gd_judging.specs.Targets.{told, in_range};
 
 use crate::groups::group;
-use gd_base::{Content, Edit, EditRefusal, Label, PLACE_LIMIT, Place, Side, Stamp};
+use gd_base::{
+    Content, Edit, EditRefusal, Height, Label, PLACE_LIMIT, Place, Side, Stamp, map_content,
+};
 use gd_canvas::{Canvas, Kind};
 use gd_events::Op;
 use gd_view::{Shown, shown};
@@ -48,6 +50,8 @@ pub fn judge(canvas: &Canvas, edit: &Edit) -> Result<Op, EditRefusal>
         Edit::Delete { id } => of_any(target(canvas, *id), Op::Delete { id: *id }),
         Edit::Set { id, content } => set(target(canvas, *id), *id, content),
         Edit::Group { members } => group(canvas, members.as_slice()),
+        Edit::Restore { object, .. } => match *object {},
+        Edit::Disband { ties, .. } => match *ties {},
     }
 }
 
@@ -86,7 +90,7 @@ fn set_in(shown: &Shown, id: Stamp, content: &Content<Label, Side>) -> Result<Op
 {
     let change = Op::Set {
         id,
-        content: content.copy(),
+        content: map_content!(content, label => label.copy(), side => Height::To(*side)),
     };
     match content {
         Content::ToPlace { x, y } => moved(shown.above, id, *x, *y),

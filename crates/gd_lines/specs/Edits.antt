@@ -5,7 +5,9 @@ use Rattle.gd_base.specs.Contents.{Said}
 use Rattle.gd_base.specs.Ranges.{place_limit, size_limit}
 use Rattle.gd_base.specs.Stamps.{Stamp}
 use Rattle.gd_base.specs.declared.content.Content.TheVariants.{ToPlace, ToSize, ToStroke, ToFill, ToWidth, ToText, ToFlag, ToRank}
+use Rattle.gd_base.specs.declared.content.Side.{Side}
 use Rattle.gd_base.specs.declared.content.Side.TheVariants.{Bottom, Top}
+use Rattle.gd_base.specs.declared.op.Nothing.{Nothing}
 use Rattle.gd_base.specs.declared.op.Op as sum
 use Rattle.gd_base.specs.declared.op.Op.TheVariants.{Create, Delete, Set, Group}
 use Rattle.gd_base.specs.declared.ranges.TheConstants.{MOST_MEMBERS, WIDTH_LIMIT}
@@ -20,7 +22,7 @@ use Rattle.gd_lines.specs.WordKinds.{number_in, natural_in, id, colour, fill, ki
 
 -- a change that a user asks for
 abbrev pub Edit : Type 0
-Edit = sum.Op (List ℕ) (List Stamp)
+Edit = sum.Op (List ℕ) (List Stamp) Side Nothing Nothing
 
 -- ---- words
 

@@ -15,7 +15,8 @@ use Rattle.gd_lines.specs.declared.command.Command.TheVariants as command
 use Rattle.gd_lines.specs.declared.command.ScriptLine.{ScriptLine}
 use Rattle.gd_lines.specs.declared.command.ScriptLine.TheVariants as script
 
--- the numbers of the edit are in their ranges, its ids are stamps, its label is one, and its group has 2 to 32 members
+-- the numbers of the edit are in their ranges, its ids are stamps, its label is one, and its group has 2 to 32 members. Nobody asks
+-- for the rest
 abbrev pub IsEdit : Edit → Type 0
 IsEdit (op.Create kind x y w h label) =
     (is_within place_limit x && (is_within place_limit y
@@ -24,6 +25,7 @@ IsEdit (op.Create kind x y w h label) =
 IsEdit (op.Delete id) = IsStamp id
 IsEdit (op.Set id content) = IsStamp id × IsSaid content
 IsEdit (op.Group ids) = (2 ≤ length ids) × (length ids ≤ MOST_MEMBERS) × AllByRecursion IsStamp ids
+IsEdit other = ⊥
 
 abbrev pub IsCommand : Command → Type 0
 IsCommand (command.Edit edit) = IsEdit edit

@@ -6,6 +6,7 @@ use Rattle.gd_base.specs.declared.refusal.LineFault.{LineFault}
 use Rattle.gd_base.specs.declared.refusal.LineFault.TheVariants.{BadId, BadLabel}
 use Rattle.gd_lines.specs.declared.command.Command.{Command}
 use Rattle.gd_lines.specs.declared.command.Command.TheVariants as command
+use Rattle.gd_lines.specs.declared.command.Turn.TheVariants.{Undo, Redo}
 use Rattle.gd_lines.specs.Edits.{edit_rows}
 use Rattle.gd_lines.specs.LineWords.{without_cr}
 use Rattle.gd_lines.specs.Readers.{◌>>=◌}
@@ -36,7 +37,8 @@ alone name value = row name (exactly 0) (λ n. pure value)
 -- what a site of a rehearsal may be asked for too
 unfoldable pub asked_rows : List (Row Command)
 asked_rows =
-    alone (codes "undo") command.Undo
+    alone (codes "undo") (command.Turn Undo)
+    ∷ alone (codes "redo") (command.Turn Redo)
     ∷ alone (codes "show") command.Show
     ∷ alone (codes "status") command.Status
     ∷ row (codes "focus") (exactly 1) (λ n. focus_words)

@@ -4,5 +4,5 @@
 mod command;
 mod reply;
 
-pub use command::{Command, LONGEST_LINE, ScriptLine};
+pub use command::{Command, LONGEST_LINE, ScriptLine, Turn};
 pub use reply::Reply;

@@ -1,7 +1,5 @@
 use crate::content::Held;
-use crate::object::Object;
-use crate::ties::Ties;
-use gd_base::Stamp;
+use gd_base::{Object, Stamp, Ties};
 
 /// What an operation does. The definitions and the code go by these three forms.
 #[derive(Drop)]

@@ -1,4 +1,4 @@
--- A site that is ready stays ready, whatever lines and datagrams come; and one that goes on from a log is ready.
+-- A site that keeps itself well does so whatever lines and datagrams come; and so does one that goes on from a log.
 use Rattle.std.proofs.Common.{◌≡◌, ℕ, suc, Bool, true, false, cond, List, [], ◌∷◌, Option, Some, None, Result, Ok}
 use Rattle.std.proofs.Common.{Err, refl}
 use Rattle.std.proofs.lemmas.Bool.{cond_both}
@@ -11,7 +11,7 @@ use Rattle.gd_lines.specs.declared.command.Command.TheVariants as command
 use Rattle.gd_node.proofs.ReadLogs.{read_ruled}
 use Rattle.gd_node.specs.GoingOn.{GoingOn, IsGoingOn, site_of}
 use Rattle.gd_outside.specs.Seen.{Entry, Packet, Pause, Failure}
-use Rattle.gd_protocol.proofs.Backs.{IsReady, ready_line, ready_take_frame}
+use Rattle.gd_protocol.proofs.WellSites.{well_line, well_take_frame}
 use Rattle.gd_protocol.specs.Sites.{IsWell}
 use Rattle.gd_reference.specs.Dialogues.{ends_at, left_after_heard, state_after, state_after_heard}
 use Rattle.gd_reference.specs.InputLines.{Read, Over}
@@ -19,30 +19,30 @@ use Rattle.gd_reference.specs.NodeRun.{HeardLine, IsEntry, IsHeard, IsRead, Read
 use Rattle.gd_reference.specs.NodeRun.{entries_after, is_too_long, most_datagrams, node_manner, received, site_after}
 use Rattle.gd_reference.specs.SiteEffects.{after_read}
 use Rattle.gd_reference.specs.SlowSite.{SlowSite, resumed}
-use Rattle.gd_reference.specs.World.{Edits, Focuses, Names, Undoes}
+use Rattle.gd_reference.specs.World.{Edits, Focuses, Names, Turns}
 use Rattle.gd_site.proofs.Ruled.{well_resumed}
 
-ready_datagram : (slow : SlowSite) (bytes : List ℕ) → IsEntry (Packet bytes) → IsReady slow
-    → IsReady (after_datagram slow bytes)
-ready_datagram slow bytes are h = go (is_too_long bytes) (frame bytes) refl
+well_datagram : (slow : SlowSite) (bytes : List ℕ) → IsEntry (Packet bytes) → IsWell slow
+    → IsWell (after_datagram slow bytes)
+well_datagram slow bytes are h = go (is_too_long bytes) (frame bytes) refl
   where
     go : (long : Bool) (read : Result Frame Misread) → frame bytes ≡ read
-        → IsReady (cond long slow (after_read slow read))
+        → IsWell (cond long slow (after_read slow read))
     go true read is = h
-    go false (Ok f) is = ready_take_frame slow f (frame-taken bytes f are is).0 h
+    go false (Ok f) is = well_take_frame slow f (frame-taken bytes f are is).0 h
     go false (Err misread) is = h
 
--- a ready site, and entries in their ranges
+-- a site that keeps itself well, and entries in their ranges
 abbrev Stays : SlowSite → List Entry → Type 0
-Stays slow entries = IsReady slow × Every IsEntry entries
+Stays slow entries = IsWell slow × Every IsEntry entries
 
-stays_received : (most count : ℕ) (slow : SlowSite) (entries : List Entry) → Every IsEntry entries → IsReady slow
+stays_received : (most count : ℕ) (slow : SlowSite) (entries : List Entry) → Every IsEntry entries → IsWell slow
     → Stays (received most count slow entries).site (received most count slow entries).entries
 unfolding received
 stays_received (suc most) count slow (Pause ∷ entries) are h = (h, are.1)
 stays_received (suc most) count slow (Failure ∷ entries) are h = (h, are.1)
 stays_received (suc most) count slow (Packet bytes ∷ entries) are h =
-    stays_received most (suc count) (after_datagram slow bytes) entries are.1 (ready_datagram slow bytes are.0 h)
+    stays_received most (suc count) (after_datagram slow bytes) entries are.1 (well_datagram slow bytes are.0 h)
 stays_received most count slow entries are h = (h, are)
 
 is_focus : (focus : Option Stamp) → IsCommand (command.Focus focus) → IsFocus focus
@@ -50,41 +50,42 @@ is_focus None h = tt
 is_focus (Some id) h = h
 
 stays_command : (slow : SlowSite) (entries : List Entry) (c : ReadLine) → IsRead c → Every IsEntry entries
-    → IsReady slow → Stays (after_command slow entries c) (entries_after slow entries c)
-stays_command slow entries (Ok (command.Edit wish)) ranged are h = (ready_line slow (Edits wish) ranged h, are)
-stays_command slow entries (Ok command.Undo) ranged are h = (ready_line slow Undoes tt h, are)
-stays_command slow entries (Ok (command.Name name)) ranged are h = (ready_line slow (Names name) ranged h, are)
+    → IsWell slow → Stays (after_command slow entries c) (entries_after slow entries c)
+stays_command slow entries (Ok (command.Edit wish)) ranged are h = (well_line slow (Edits wish) ranged h, are)
+stays_command slow entries (Ok (command.Turn which)) ranged are h =
+    (well_line slow (Turns which) tt h, are)
+stays_command slow entries (Ok (command.Name name)) ranged are h = (well_line slow (Names name) ranged h, are)
 stays_command slow entries (Ok (command.Focus focus)) ranged are h =
-    (ready_line slow (Focuses focus) (is_focus focus ranged) h, are)
+    (well_line slow (Focuses focus) (is_focus focus ranged) h, are)
 stays_command slow entries (Ok command.Poll) ranged are h = stays_received most_datagrams 0 slow entries are h
 stays_command slow entries c ranged are h = (h, are)
 
 stays_heard : (slow : SlowSite) (entries : List Entry) (l : HeardLine) → IsHeard l → Every IsEntry entries
-    → IsReady slow
+    → IsWell slow
     → Stays (state_after_heard node_manner slow entries l) (left_after_heard node_manner slow entries l)
 stays_heard slow entries (Read c) ranged are h = stays_command slow entries c ranged are h
 stays_heard slow entries Over ranged are h = (h, are)
 
-ready_after : (slow : SlowSite) (entries : List Entry) (ls : List HeardLine) → Every IsHeard ls → Every IsEntry entries
-    → IsReady slow → IsReady (site_after slow entries ls)
+well_on : (slow : SlowSite) (entries : List Entry) (ls : List HeardLine) → Every IsHeard ls → Every IsEntry entries
+    → IsWell slow → IsWell (site_after slow entries ls)
 unfolding state_after
-ready_after slow entries [] ranged are h = h
-ready_after slow entries (l ∷ ls) ranged are h =
+well_on slow entries [] ranged are h = h
+well_on slow entries (l ∷ ls) ranged are h =
     let one = stays_heard slow entries l ranged.0 are h in
     let next = state_after_heard node_manner slow entries l in
     let left = left_after_heard node_manner slow entries l in
-    cond_both (ends_at node_manner l) slow (site_after next left ls) IsReady (λ ends. h)
-    (λ on. ready_after next left ls ranged.1 one.1 one.0)
+    cond_both (ends_at node_manner l) slow (site_after next left ls) IsWell (λ ends. h)
+    (λ on. well_on next left ls ranged.1 one.1 one.0)
 
 -- ---- a node that goes on from a log
 
-ready_begun : (n : GoingOn) → IsGoingOn n → IsReady (resumed n.me n.sites n.session n.events)
+well_begun : (n : GoingOn) → IsGoingOn n → IsWell (resumed n.me n.sites n.session n.events)
 unfolding resumed
-ready_begun n is =
-    let ruled = read_ruled n.me n.sites n.session n.contents n.events is.contents is.read in
-    record { well = well_resumed n.me n.sites n.session n.events ruled; backs = tt }
+well_begun n is =
+    well_resumed n.me n.sites n.session n.events
+    (read_ruled n.me n.sites n.session n.contents n.events is.contents is.read)
 
 pub well_after : (n : GoingOn) → IsGoingOn n → IsWell (site_of n)
 well_after n is =
     let begun = resumed n.me n.sites n.session n.events in
-    (ready_after begun n.entries n.lines is.lines is.entries (ready_begun n is)).well
+    well_on begun n.entries n.lines is.lines is.entries (well_begun n is)

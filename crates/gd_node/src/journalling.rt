@@ -32,7 +32,7 @@ pub(crate) fn start_log<J: Journal>(
     name: &str,
     header: &LogHeader,
 ) -> Result<LogWriter, End>
-    requires newest { header.now.version ≡ version.Two }
+    requires newest { header.now.version ≡ version.Three }
     ensures does { Writes (J.seen journal.old) (Head (header_bytes drawings header.now) ∷ []) result
         (J.seen journal.new) }
     ensures end { OnErr result (result ≡ Err End.JournalFault) }

@@ -9,7 +9,7 @@ use Rattle.gd_base.specs.declared.fault.LogWhy.{LogWhy}
 use Rattle.gd_base.specs.declared.fault.LogWhy.TheVariants.{Short}
 use Rattle.gd_base.specs.contracts.version.Version.{the_type}
 use Rattle.gd_base.specs.declared.version.Version.{Version}
-use Rattle.gd_base.specs.declared.version.Version.TheVariants.{One, Two}
+use Rattle.gd_base.specs.declared.version.Version.TheVariants.{One, Two, Three}
 use Rattle.gd_events.specs.Events.{Event}
 use Rattle.gd_grammar.specs.Closing.{Closes, gate_place}
 use Rattle.gd_grammar.specs.Drawings.{drawings, log}
@@ -41,12 +41,13 @@ not-true true e = cc
 same_version-equal : (a b : Version) → same_version a b ≡ true → a ≡ b
 same_version-equal One One e = refl
 same_version-equal Two Two e = refl
-same_version-equal One Two e = cc
-same_version-equal Two One e = cc
+same_version-equal Three Three e = refl
+same_version-equal a b e = cc
 
 same_version-refl : (v : Version) → same_version v v ≡ true
 same_version-refl One = refl
 same_version-refl Two = refl
+same_version-refl Three = refl
 
 pub same_header-equal : (a b : Header) → same_header a b ≡ true → a ≡ b
 same_header-equal a b e =
@@ -66,8 +67,8 @@ same_header-refl h = rw (same_version-refl h.version, eq-eqb h.session h.session
 flag-version : (a b : Version) → sameb the_type a b ≡ same_version a b
 flag-version One One = refl
 flag-version Two Two = refl
-flag-version One Two = refl
-flag-version Two One = refl
+flag-version Three Three = refl
+flag-version a b = refl
 
 abbrev pub header_flag : Header → Header → Bool
 header_flag a b = sameb the_type a.version b.version && (eqb a.session b.session && (eqb a.site b.site && eqb a.n b.n))

@@ -40,7 +40,7 @@ pub fn resume<J: Journal, L: Ledger>(
     header: &LogHeader,
     steps: &mut Steps<L>,
 ) -> Result<(Site, LogWriter), ResumeFault>
-    requires newest { header.now.version ≡ version.Two }
+    requires newest { header.now.version ≡ version.Three }
     ensures exact { IsSome (J.seen journal.new).contents → ResumeIs result header.now
         (told (J.seen journal.new).contents) steps.old steps.new }
     ensures goes_on { IfOk result (λ x. (events : List Event)
@@ -95,7 +95,7 @@ fn site_of<L: Ledger>(
     header: &LogHeader,
     steps: &mut Steps<L>,
 ) -> Result<(Site, LogWriter), ResumeFault>
-    requires newest { header.now.version ≡ version.Two }
+    requires newest { header.now.version ≡ version.Three }
     requires ruled { IsRuled IsOp drawings header.now log.now.events }
     requires gate { log.now.place ≡ gate_place drawings log.now.events }
     requires near { log.now.place ≤ 2 ^ 30 }

@@ -8,7 +8,9 @@ use Rattle.rand_core.specs.Steps.{u32_at, word_bytes}
 use Rattle.gd_base.specs.Stamps.{stamp_cmp}
 use Rattle.gd_base.specs.Insertions.{inserted_by}
 use Rattle.gd_grammar.specs.EventBytes as bytes
+use Rattle.gd_grammar.specs.ObjectBytes as objects
 use Rattle.gd_grammar.specs.OpBytes as operations
+use Rattle.gd_grammar.specs.Spelling.{object_bytes}
 use Rattle.gd_grammar.specs.Readers.{steps}
 use Rattle.gd_grammar.specs.Fields as fields
 use Rattle.gd_grammar.specs.Reading.{many_at}
@@ -17,7 +19,7 @@ use Rattle.gd_grammar.specs.FrameBytes.{event_count_at, focus_at, frame, frame_a
 use Rattle.gd_grammar.specs.Kinds as kinds
 use Rattle.gd_grammar.specs.LogBytes.{events_at, gated_bytes, log, record_at, step_at, turn_fault}
 use Rattle.gd_grammar.specs.HeaderBytes.{header_at, magic_at, sites_at, version_at}
-use Rattle.gd_json.specs.EventsJson.{event_json, member_json}
+use Rattle.gd_json.specs.EventsJson.{event_json, link_json, member_json, rank_json, tie_json}
 use Rattle.gd_json.specs.PictureJson.{item_json}
 use Rattle.gd_json.specs.Values.{put_field}
 use Rattle.gd_lines.specs.Edits as edits
@@ -29,7 +31,9 @@ use Rattle.gd_lines.specs.Rows.{by_name}
 use Rattle.gd_lines.specs.ScriptLines.{at_words, deliver_words, mail_at, read_script, script_rows, send_words, site_at}
 use Rattle.gd_lines.specs.Text.{bad_log_line, bad_view_line, colour_text, colours_text, end_line, head_text, hex_digit, high_digits, id_text, item_line, look_text, nibble, size_text, width_text}
 use Rattle.gd_lines.specs.WordKinds.{colour, digit, fill, focus, id, kind, label, name, natural_in, number, number_in, numeral}
-use Rattle.gd_model.specs.Ranks.{level_cmp, rank_cmp}
+use Rattle.gd_base.specs.Ranks.{level_cmp, rank_cmp}
+use Rattle.gd_model.specs.Backs.{back}
+use Rattle.gd_model.specs.Board.{apply}
 use Rattle.gd_model.specs.Relations.{covers, independent}
 use Rattle.gd_model.specs.Splices.{splice}
 use Rattle.gd_reference.specs.Dialogues.{answered, end_of_lines, state_after}
@@ -41,10 +45,9 @@ use Rattle.gd_reference.specs.PerSite.{least_of_others, put}
 use Rattle.gd_reference.specs.Rejoin.{found}
 use Rattle.gd_reference.specs.SiteEffects.{events_replies, of_events, tries_behind}
 use Rattle.gd_reference.specs.SlowSite.{greatest_clock, made_by, resumed}
-use Rattle.gd_reference.specs.TakeBack.{after_edit, after_undo, undo}
+use Rattle.gd_reference.specs.TakeBack.{after_edit, after_turn, turn}
 use Rattle.gd_arrivals.specs.Tally.{tally_from}
 use Rattle.gd_reference.specs.World.{after_from, after_line, happens, with_site}
-use Rattle.gd_snapshots.specs.ObjectBytes.{flag_at, kind_at, link_at, object_at, object_bytes, rank_at, some_link_at, thin_at}
 use Rattle.gd_snapshots.specs.SnapshotBytes as snapshots
 use Rattle.gd_snapshots.specs.SnapshotBytes.{kept_at, known_at, number_within, placed_at, snapshot_at, snapshot_bytes}
 use Rattle.gd_snapshots.specs.Snapshots.{least_sure}
@@ -57,17 +60,17 @@ use Rattle.gd_worlds.specs.Rehearsal.{rehearsal_lines}
 
 -- events, logs and frames
 unfoldable pub bytes_compute : ⊤
-unfolding chars is_utf8 fields.byte_at fields.clock_at bytes.colour_at operations.create_at kinds.event_at bytes.fill_at operations.group_at bytes.label_at fields.id_at fields.label_within operations.member_at bytes.member_count_at bytes.member_id_at fields.number_at operations.look_at operations.op_at operations.place_at operations.set_at operations.size_at bytes.shape_at fields.signed_at fields.site_at fields.stamp_at bytes.width_at fields.word_at event_count_at each_bytes focus_at frame frame_at many_at steps frame_magic_at frame_version_at half_at head_at name_at name_text_at next_event_at note_at six_at events_at gated_bytes header_at log magic_at record_at sites_at step_at turn_fault version_at
+unfolding chars is_utf8 fields.byte_at fields.byte_within fields.clock_at bytes.colour_at operations.all_ties_at operations.create_at operations.disband_at operations.restore_at operations.tie_at kinds.event_at bytes.fill_at operations.group_at bytes.label_at fields.id_at fields.label_within operations.member_at bytes.count_at bytes.member_id_at bytes.parent_id_at fields.number_at operations.look_at operations.op_at operations.place_at operations.set_at operations.size_at bytes.shape_at fields.signed_at fields.site_at fields.stamp_at bytes.width_at fields.word_at event_count_at each_bytes focus_at frame frame_at many_at steps frame_magic_at frame_version_at half_at head_at name_at name_text_at next_event_at note_at six_at events_at gated_bytes header_at log magic_at record_at sites_at step_at turn_fault version_at
 bytes_compute = tt
 
 -- lines that are typed, and lines that are printed
 unfoldable pub lines_compute : ⊤
-unfolding chars is_utf8 encode_utf8 digits behind count_from without_cr word then_at by_name edits.colour_at edits.create_words edits.delete_words edits.edit_rows edits.fill_at edits.fill_words edits.group_words edits.id_at edits.ids_at edits.kind_at edits.label_at edits.natural_at edits.place_at edits.place_words edits.set_words edits.size_at edits.size_words edits.stroke_words edits.text_words edits.width_at edits.width_words lines.asked_rows lines.command_rows lines.focus_at lines.focus_words lines.name_at lines.name_words lines.read event_json item_json member_json put_field at_words deliver_words mail_at read_script script_rows send_words site_at applied_line arrivals_line backdated_line bad_frame_line done_line dropped_line link_fault_line noted_line polled_line ready_line refused_line reworked_line status_line status_text who_line bad_log_line bad_view_line colour_text colours_text end_line head_text hex_digit high_digits id_text item_line look_text nibble size_text width_text colour digit fill focus id kind label name natural_in number number_in numeral
+unfolding chars is_utf8 encode_utf8 digits behind count_from without_cr word then_at by_name edits.colour_at edits.create_words edits.delete_words edits.edit_rows edits.fill_at edits.fill_words edits.group_words edits.id_at edits.ids_at edits.kind_at edits.label_at edits.natural_at edits.place_at edits.place_words edits.set_words edits.size_at edits.size_words edits.stroke_words edits.text_words edits.width_at edits.width_words lines.asked_rows lines.command_rows lines.focus_at lines.focus_words lines.name_at lines.name_words lines.read event_json link_json rank_json tie_json item_json member_json put_field at_words deliver_words mail_at read_script script_rows send_words site_at applied_line arrivals_line backdated_line bad_frame_line done_line dropped_line link_fault_line noted_line polled_line ready_line refused_line reworked_line status_line status_text who_line bad_log_line bad_view_line colour_text colours_text end_line head_text hex_digit high_digits id_text item_line look_text nibble size_text width_text colour digit fill focus id kind label name natural_in number number_in numeral
 lines_compute = tt
 
 -- drawings, sites, worlds and runs
 unfoldable pub sites_compute : ⊤
-unfolding stamp_cmp level_cmp rank_cmp inserted_by covers independent splice are_apart by_id edit judged targets heard lines_of whole_lines answered end_of_lines state_after node_lines of_received received who_behind all_arrived frame_for offered offers refusal take_frame least_of_others put events_replies of_events tries_behind greatest_clock made_by resumed found tally_from after_edit after_undo undo after_from after_line happens with_site
+unfolding stamp_cmp level_cmp rank_cmp inserted_by covers independent splice are_apart by_id edit judged targets heard lines_of whole_lines answered end_of_lines state_after node_lines of_received received who_behind all_arrived frame_for offered offers refusal take_frame least_of_others put events_replies of_events tries_behind greatest_clock made_by resumed found tally_from after_edit after_turn turn apply back after_from after_line happens with_site
 sites_compute = tt
 
 -- rehearsals and churn
@@ -77,7 +80,7 @@ worlds_compute = tt
 
 -- snapshots and viewers
 unfoldable pub snapshots_compute : ⊤
-unfolding flag_at kind_at link_at object_at object_bytes rank_at some_link_at steps thin_at snapshots.head_at kept_at known_at number_within placed_at snapshot_at snapshot_bytes least_sure known_behind snapshot_of opened viewer_all_arrived viewer_taken of_viewer_events end_behind item_at items_of shown_behind whole_behind
+unfolding objects.given_at objects.flag_at objects.kind_at objects.link_at objects.object_at objects.parent_at objects.rank_at objects.some_link_at objects.thin_at object_bytes steps snapshots.head_at kept_at known_at number_within placed_at snapshot_at snapshot_bytes least_sure known_behind snapshot_of opened viewer_all_arrived viewer_taken of_viewer_events end_behind item_at items_of shown_behind whole_behind
 snapshots_compute = tt
 
 unfoldable pub computing : ⊤

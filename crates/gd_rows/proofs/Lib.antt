@@ -1,3 +1,5 @@
 pub mod Computing
+mod ByDrawing
+mod Turned
 mod BlankLines
 mod BlankScripts

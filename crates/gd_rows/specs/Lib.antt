@@ -9,4 +9,6 @@ pub mod WorkedRehearsals
 pub mod WorkedChurns
 pub mod WorkedRejoins
 pub mod WorkedSnapshots
+pub mod WorkedOps
+pub mod WorkedPairs
 pub mod WorkedViews

@@ -1,12 +1,14 @@
 -- Worked rows: logs of a few events, byte by byte, and what is printed of them.
+use Prim.Native.String.{String}
 use Rattle.std.specs.Prelude.{ℕ, ℤ, pos, negsuc, Bool, true, false, Option, List, [], ◌∷◌, ◌++◌, map, take, set, codes, Some, None}
 use Rattle.gd_base.specs.Stamps.{Stamp}
 use Rattle.gd_base.specs.declared.content.Content.TheVariants.{ToPlace, ToSize, ToStroke, ToFill, ToWidth, ToText, ToFlag, ToRank}
+use Rattle.gd_base.specs.declared.content.Height.TheVariants.{To}
 use Rattle.gd_base.specs.declared.content.Side.TheVariants.{Bottom, Top}
 use Rattle.gd_base.specs.declared.member.Member.{Member}
 use Rattle.gd_base.specs.declared.op.Op.TheVariants.{Create, Delete, Set, Group}
 use Rattle.gd_base.specs.declared.shape.Shape.TheVariants.{Rect, Ellipse}
-use Rattle.gd_base.specs.declared.version.Version.TheVariants.{One, Two}
+use Rattle.gd_base.specs.declared.version.Version.TheVariants.{One, Two, Three}
 use Rattle.gd_events.specs.Ops.{Op}
 use Rattle.gd_events.specs.Events.{Event}
 use Rattle.gd_base.specs.declared.fault.LogWhy.{LogWhy}
@@ -40,11 +42,15 @@ abbrev pub header : Header
 header = record { version = One; session = 7; site = 1; n = 2 }
 
 -- the same in version 2
-abbrev pub header_two_bytes : List ℕ
-header_two_bytes = set header_bytes 4 2
-
 abbrev pub header_two : Header
 header_two = record { version = Two; session = 7; site = 1; n = 2 }
+
+-- and in version 3
+abbrev pub header_three_bytes : List ℕ
+header_three_bytes = set header_bytes 4 3
+
+abbrev pub header_three : Header
+header_three = record { version = Three; session = 7; site = 1; n = 2 }
 
 -- a header and a closed gate
 abbrev pub empty_log : List ℕ
@@ -121,21 +127,33 @@ styled_text =
     ∷ codes "end 1\n"
     ∷ []
 
+-- ---- drawings
+
+-- the lines of a rect of size 10 10 as it was made, and of a group: of that id, in that group, at that place
+abbrev pub square_line : String → String → String → List ℕ
+square_line id group place =
+    codes "rect " ++ codes id ++ codes " in " ++ codes group ++ codes " at " ++ codes place
+    ++ codes " size 10 10 stroke 000000 fill none width 1\n"
+
+abbrev pub group_line : String → String → String → List ℕ
+group_line id group place =
+    codes "group " ++ codes id ++ codes " in " ++ codes group ++ codes " at " ++ codes place ++ codes "\n"
+
 -- a rect, an ellipse, that event at clock 5, and behind it a raise of the ellipse at clock 4
 abbrev pub ranked_by : Op → List Event
 ranked_by op =
     event 1 1 1 (Create Rect (pos 0) (pos 0) (pos 10) (pos 10) [])
     ∷ event 2 1 2 (Create Ellipse (pos 0) (pos 0) (pos 20) (pos 20) [])
     ∷ event 5 1 3 op
-    ∷ event 4 2 1 (Set (at_stamp 2 1) (ToRank Top))
+    ∷ event 4 2 1 (Set (at_stamp 2 1) (ToRank (To Top)))
     ∷ []
 
 -- the rect is raised, or the ellipse is lowered: in both the ellipse lies below the rect
 abbrev pub rank_events : List Event
-rank_events = ranked_by (Set (at_stamp 1 1) (ToRank Top))
+rank_events = ranked_by (Set (at_stamp 1 1) (ToRank (To Top)))
 
 abbrev pub ellipse_lowered : List Event
-ellipse_lowered = ranked_by (Set (at_stamp 2 1) (ToRank Bottom))
+ellipse_lowered = ranked_by (Set (at_stamp 2 1) (ToRank (To Bottom)))
 
 abbrev pub rank_text : List (List ℕ)
 rank_text =
@@ -185,7 +203,7 @@ nested_events =
     ∷ event 9 1 9 (Set (at_stamp 7 1) (ToPlace (pos 10000) (negsuc 99)))
     ∷ event 10 1 10 (Delete (at_stamp 5 1))
     ∷ event 11 1 11 (Set (at_stamp 6 1) (ToFlag true))
-    ∷ event 12 1 12 (Set (at_stamp 3 1) (ToRank Top))
+    ∷ event 12 1 12 (Set (at_stamp 3 1) (ToRank (To Top)))
     ∷ []
 
 abbrev pub nested_text : List (List ℕ)
@@ -224,7 +242,7 @@ abbrev pub tied_held : List Event
 tied_held =
     event 1 1 1 (square (pos 0))
     ∷ event 2 1 2 (square (pos 20))
-    ∷ event 3 1 3 (Set (at_stamp 1 1) (ToRank Top))
+    ∷ event 3 1 3 (Set (at_stamp 1 1) (ToRank (To Top)))
     ∷ event 4 1 4 (Group (member 1 1 (pos 0) (pos 0) ∷ member 2 1 (pos 0) (pos 0) ∷ []))
     ∷ event 5 1 5 (Set (at_stamp 4 1) (ToPlace (pos 5) (pos 5)))
     ∷ event 1 2 1 (square (pos 40))
@@ -314,7 +332,7 @@ abbrev pub lowered_log : List ℕ
 lowered_log = set (begun_log (10 ∷ 0 ∷ 0 ∷ 0 ∷ 0 ∷ 0 ∷ 1 ∷ 1 ∷ [])) 4 2
 
 abbrev pub lowered_events : List Event
-lowered_events = event 3 1 1 (Set (at_stamp 1 1) (ToRank Bottom)) ∷ []
+lowered_events = event 3 1 1 (Set (at_stamp 1 1) (ToRank (To Bottom))) ∷ []
 
 -- why bytes are no log, and how many of them stand from the fault's place on
 abbrev pub fault_at : LogWhy → ℕ → LogMisread
@@ -323,9 +341,10 @@ fault_at why left = record { why = why; left = left }
 -- The log of the tie has 70 bytes, and its records begin at the bytes 11 and 40.
 abbrev pub log_faults : List (List ℕ × LogMisread)
 log_faults =
-    -- another format, another version, and a site 0
+    -- another format, two versions that are none, and a site 0
     (set header_bytes 3 108, fault_at Magic 11)
-    ∷ (set header_bytes 4 3, fault_at Version 7)
+    ∷ (set header_bytes 4 4, fault_at Version 7)
+    ∷ (set header_bytes 4 0, fault_at Version 7)
     ∷ (set header_bytes 9 0, fault_at Field 2)
     ∷ (future_log, fault_at FutureId 7)
     ∷ (future_resize_log, fault_at FutureId 15)
@@ -358,7 +377,7 @@ record_event = event 1 2 1 (square (pos 0))
 -- the frame of that site for another, of which it holds nothing
 abbrev pub frame_row_to : ℕ → List ℕ
 frame_row_to to =
-    71 ∷ 68 ∷ 79 ∷ 70 ∷ 2 ∷ 0 ∷ 0 ∷ 0 ∷ 7 ∷ 2 ∷ to ∷ 0 ∷ 0 ∷ 0 ∷ 1 ∷ 0 ∷ 0 ∷ 0 ∷ 0 ∷ 0 ∷ 1
+    71 ∷ 68 ∷ 79 ∷ 70 ∷ 3 ∷ 0 ∷ 0 ∷ 0 ∷ 7 ∷ 2 ∷ to ∷ 0 ∷ 0 ∷ 0 ∷ 1 ∷ 0 ∷ 0 ∷ 0 ∷ 0 ∷ 0 ∷ 1
     ∷ 0 ∷ 0 ∷ 0 ∷ 0 ∷ 0 ∷ 0 ∷ 0 ∷ 0 ∷ 0 ∷ 0 ∷ 1 ∷ record_row
 
 abbrev pub frame_row : List ℕ
@@ -380,8 +399,10 @@ misread why left = record { why = why; left = left }
 abbrev pub frame_faults : List (List ℕ × Misread)
 frame_faults =
     (take 33 frame_row, misread wire.Short 0)
-    -- version 1, and site 17
+    -- versions 1, 2 and 4, and site 17
     ∷ (set frame_row 4 1, misread wire.Version 56)
+    ∷ (set frame_row 4 2, misread wire.Version 56)
+    ∷ (set frame_row 4 4, misread wire.Version 56)
     ∷ (set frame_row 9 17, misread wire.Field 51)
     -- an event of another site, above the count, and above the clock
     ∷ (set frame_row 38 1, misread wire.Disorder 28)

@@ -13,6 +13,8 @@ use Rattle.gd_base.specs.declared.refusal.Refusal.TheVariants.{NoObject}
 use Rattle.gd_base.specs.declared.shape.Shape.TheVariants.{Rect}
 use Rattle.gd_lines.specs.Edits.{Edit}
 use Rattle.gd_lines.specs.declared.command.Command.TheVariants as command
+use Rattle.gd_lines.specs.declared.command.Turn.{Turn}
+use Rattle.gd_lines.specs.declared.command.Turn.TheVariants.{Undo, Redo}
 use Rattle.gd_lines.specs.declared.command.ScriptLine.{ScriptLine}
 use Rattle.gd_lines.specs.declared.command.ScriptLine.TheVariants as script
 use Rattle.gd_lines.specs.declared.reply.Reply.{Reply}
@@ -44,12 +46,20 @@ create_at site x y = edit_at site (op.Create Rect (pos x) (pos y) (pos 10) (pos 
 abbrev pub three_made : List Stamp
 three_made = at_stamp 1 1 ∷ at_stamp 2 3 ∷ at_stamp 5 2 ∷ []
 
--- the line of site 3 by a number, where these were made and so many mails sent, and the word behind what was drawn for it
+-- the line of site 3 by a number, where these were made and so many mails sent, and the word behind what was drawn
+-- for it
 abbrev pub drawn_by : List Stamp → ℕ → ℕ → Option ScriptLine × ℕ
 drawn_by made mails number = let (line, behind) = line_for made mails 3 number (seeded 26) in (line, (pcg32 behind).0)
 
 abbrev pub numbers : List ℕ
-numbers = 0 ∷ 1 ∷ 2 ∷ 3 ∷ 4 ∷ 5 ∷ 6 ∷ 7 ∷ 8 ∷ 9 ∷ 10 ∷ 11 ∷ 12 ∷ 13 ∷ 14 ∷ 15 ∷ []
+numbers = 0 ∷ 1 ∷ 2 ∷ 3 ∷ 4 ∷ 5 ∷ 6 ∷ 7 ∷ 8 ∷ 9 ∷ 10 ∷ 11 ∷ 12 ∷ 13 ∷ 14 ∷ 15 ∷ 16 ∷ 17 ∷ []
+
+abbrev pub turn_at : ℕ → Turn → Option ScriptLine
+turn_at site which = Some (script.At site (command.Turn which))
+
+-- an undo and a redo draw nothing
+abbrev pub turned_table : List (Option ScriptLine × ℕ)
+turned_table = (turn_at 3 Undo, 148789253) ∷ (turn_at 3 Redo, 148789253) ∷ []
 
 -- the words of this seed are 148789253, 77906497, 1297502356 and 3230469346
 abbrev pub drawn_table : List (Option ScriptLine × ℕ)
@@ -63,6 +73,7 @@ drawn_table =
     ∷ (edit_at 3 (op.Set (at_stamp 5 2) (ToStroke 10797633)), 1297502356)
     ∷ replicate 2 (Some (script.Send 3 2), 77906497)
     ++ replicate 2 (Some (script.Deliver 4), 77906497)
+    ++ turned_table
 
 -- the same where nothing was made and no mail sent
 abbrev pub idle_table : List (Option ScriptLine × ℕ)
@@ -71,6 +82,7 @@ idle_table =
     ++ replicate 8 (None, 148789253)
     ++ replicate 2 (Some (script.Send 3 2), 77906497)
     ++ replicate 2 (None, 148789253)
+    ++ turned_table
 
 -- the site to which each of the four sends by the first word of a seed
 abbrev pub sent_to : ℕ → List (Option ScriptLine)
@@ -91,34 +103,34 @@ abbrev pub lines_drawn : ℕ → Churning → List (Option ScriptLine)
 lines_drawn zero c = []
 lines_drawn (suc n) c = (step c.made (length c.world.mail) c.generator).0 ∷ lines_drawn n (stepped c)
 
--- a group is picked among, as what it holds
+-- a group is picked among, as what it holds; the undo of it and the redo make nothing, and take nothing away
 abbrev pub group_lines : List (Option ScriptLine)
 group_lines =
     None
-    ∷ None
-    ∷ create_at 1 957 752
-    ∷ create_at 1 766 933
-    ∷ edit_at 1 (op.Group (at_stamp 1 1 ∷ at_stamp 2 1 ∷ []))
-    ∷ Some (script.Send 1 4)
-    ∷ Some (script.Deliver 1)
-    ∷ edit_at 4 (move_to 2 1 794 211)
+    ∷ create_at 2 319 195
+    ∷ create_at 2 561 683
+    ∷ Some (script.Send 3 2)
+    ∷ edit_at 2 (op.Group (at_stamp 2 2 ∷ at_stamp 1 2 ∷ []))
+    ∷ turn_at 2 Undo
+    ∷ turn_at 2 Redo
+    ∷ edit_at 2 (move_to 3 2 736 978)
     ∷ []
 
 abbrev pub group_made : List Stamp
-group_made = at_stamp 1 1 ∷ at_stamp 2 1 ∷ at_stamp 3 1 ∷ []
+group_made = at_stamp 1 2 ∷ at_stamp 2 2 ∷ at_stamp 3 2 ∷ []
 
--- Site 4 makes a rect, and site 3 gets it. Site 2, which hasn't got it, can't delete it. Site 3 moves it, site 4 raises it,
--- and site 3 deletes it.
+-- Site 4 makes a rect. Site 2, which hasn't got it, can't colour it, and then gets it. Site 4 raises it, and site 2
+-- deletes it, takes that back, and deletes it again.
 abbrev pub eight_lines : List (Option ScriptLine)
 eight_lines =
-    None
-    ∷ create_at 4 563 593
-    ∷ Some (script.Send 4 3)
+    create_at 4 663 593
+    ∷ edit_at 2 (op.Set (at_stamp 1 4) (ToStroke 0x09B666))
+    ∷ Some (script.Send 4 2)
     ∷ Some (script.Deliver 1)
-    ∷ edit_at 2 (op.Delete (at_stamp 1 4))
-    ∷ edit_at 3 (move_to 1 4 617 21)
     ∷ edit_at 4 (op.Set (at_stamp 1 4) (ToRank Top))
-    ∷ edit_at 3 (op.Delete (at_stamp 1 4))
+    ∷ edit_at 2 (op.Delete (at_stamp 1 4))
+    ∷ turn_at 2 Undo
+    ∷ turn_at 2 Redo
     ∷ []
 
 -- ---- what is printed
@@ -143,29 +155,32 @@ nothing_printed =
     "edits 0 refused 0 sent 48 delivered 48 idle 0"
     "arrivals applied 0 dropped 0 reworked 0 undone 0"
 
--- All but the delete, and four rounds. In the first one site 3 sends its move to the others, and then site 4 its rect and its
--- raise: at the sites 1 and 2 the move is redone behind the rect.
+-- All but the redo, and four rounds: five steps, and then those of the first round, in which the sites 2 and 4 have
+-- events for the others. First site 2 sends its delete and its restore: to the sites 1 and 3, which hold nothing, and
+-- to site 4, where the delete comes before the raise, which is redone. Then site 4 sends its rect and its raise to
+-- the sites 1 and 3, and the raise alone to site 2, which has acknowledged the rect. The delete covers the rect, and
+-- the restore behind the raise is redone.
 abbrev pub seven_works : List ℕ
-seven_works = 1 ∷ 1 ∷ 1 ∷ 1 ∷ 1 ∷ 1 ∷ 1 ∷ 3 ∷ 1 ∷ 3 ∷ 1 ∷ 1 ∷ []
+seven_works = replicate 5 1 ++ 1 ∷ 1 ∷ 1 ∷ 1 ∷ 3 ∷ 1 ∷ 0 ∷ 3 ∷ 3 ∷ 0 ∷ 3 ∷ []
 
 abbrev pub seven_printed : List (List ℕ)
 seven_printed =
     seven_lines
-    "held 3 kept 0 line 2 clock 2"
-    "edits 3 refused 1 sent 49 delivered 49 idle 1"
-    "arrivals applied 7 dropped 0 reworked 2 undone 2"
+    "held 4 kept 0 line 3 clock 3"
+    "edits 4 refused 1 sent 49 delivered 49 idle 0"
+    "arrivals applied 6 dropped 2 reworked 4 undone 4"
 
--- With the delete, and one round more. At the sites 1 and 2 the move and the delete are redone behind the rect, and the raise is
--- dropped at all others, since the delete covers it.
+-- With the redo, and one round more. Site 2 sends a second delete too. Behind the raise the restore and that delete
+-- are redone: the first of these doesn't cover the raise.
 abbrev pub eight_works : List ℕ
-eight_works = 1 ∷ 1 ∷ 1 ∷ 1 ∷ 1 ∷ 1 ∷ 1 ∷ 1 ∷ 1 ∷ 1 ∷ 1 ∷ 5 ∷ 0 ∷ 5 ∷ 0 ∷ 0 ∷ []
+eight_works = replicate 6 1 ++ 1 ∷ 1 ∷ 1 ∷ 1 ∷ 1 ∷ 1 ∷ 3 ∷ 1 ∷ 1 ∷ 0 ∷ 5 ∷ 5 ∷ 0 ∷ 5 ∷ []
 
 abbrev pub eight_printed : List (List ℕ)
 eight_printed =
     seven_lines
-    "held 4 kept 0 line 3 clock 3"
-    "edits 4 refused 1 sent 61 delivered 61 idle 1"
-    "arrivals applied 7 dropped 3 reworked 2 undone 4"
+    "held 5 kept 0 line 4 clock 4"
+    "edits 5 refused 1 sent 61 delivered 61 idle 0"
+    "arrivals applied 9 dropped 2 reworked 4 undone 7"
 
 -- ---- counts
 
@@ -201,6 +216,7 @@ making =
     ∷ (script.At 1 (command.Edit (op.Group (at_stamp 1 1 ∷ at_stamp 2 1 ∷ []))), reply.Done (at_stamp 3 1) ∷ [], at_stamp 3 1 ∷ [])
     ∷ (script.At 1 (command.Edit (new_rect (pos 0))), reply.Refused NoObject ∷ [], [])
     ∷ (script.At 1 (command.Edit (move_to 1 1 5 5)), reply.Done (at_stamp 2 1) ∷ [], [])
+    ∷ (script.At 1 (command.Turn Redo), reply.Done (at_stamp 4 1) ∷ [], [])
     ∷ []
 
 -- one site alone has made a rect

@@ -1,6 +1,7 @@
 -- Worked rows of edits: what each becomes over what a site holds, and why it is refused.
 use Rattle.std.specs.Prelude.{ℕ, pos, negsuc, true, List, [], ◌∷◌, ◌++◌, Result, Ok, Err}
 use Rattle.gd_base.specs.declared.content.Content.TheVariants.{ToPlace, ToSize, ToFlag, ToRank}
+use Rattle.gd_base.specs.declared.content.Height.TheVariants.{To}
 use Rattle.gd_base.specs.declared.content.Side.TheVariants.{Bottom, Top}
 use Rattle.gd_base.specs.declared.op.Op.TheVariants as op
 use Rattle.gd_base.specs.declared.refusal.EditRefusal.{EditRefusal}
@@ -30,7 +31,7 @@ grouped_edits =
     -- a place is the one to be shown at, and the members of a group stand by their ids
     (move_to 1 1 50 50, Ok (op.Set (at_stamp 1 1) (ToPlace (pos 45) (pos 43))))
     ∷ (group_of 4 1 3 1, Ok (op.Group (member 3 1 (pos 0) (pos 0) ∷ member 4 1 (pos 0) (pos 0) ∷ [])))
-    ∷ (op.Set (at_stamp 4 1) (ToRank Bottom), Ok (op.Set (at_stamp 4 1) (ToRank Bottom)))
+    ∷ (op.Set (at_stamp 4 1) (ToRank Bottom), Ok (op.Set (at_stamp 4 1) (ToRank (To Bottom))))
     ∷ (op.Set (at_stamp 9 1) (ToRank Bottom), Err why.NoObject)
     ∷ (group_of 9 1 9 1, Err why.NoObject)
     ∷ (op.Set (at_stamp 4 1) (ToSize (pos 1) (pos 1)), Err why.NotShape)
@@ -71,7 +72,7 @@ farther_site = (after 1 7 farther_steps).at 1
 
 -- a site that holds an event of another site with that clock
 abbrev pub listener_at : ℕ → SlowSite
-listener_at clock = record listener { held = event clock 2 1 (op.Set (at_stamp 1 2) (ToRank Top)) ∷ [] }
+listener_at clock = record listener { held = event clock 2 1 (op.Set (at_stamp 1 2) (ToRank (To Top))) ∷ [] }
 
 abbrev pub raised : Op
-raised = op.Set (at_stamp 1 1) (ToRank Top)
+raised = op.Set (at_stamp 1 1) (ToRank (To Top))

@@ -4,15 +4,18 @@ use Rattle.std.specs.List.{concat}
 use Rattle.gd_base.specs.declared.content.Content.TheVariants.{ToFlag}
 use Rattle.gd_base.specs.declared.op.Op.TheVariants as op
 use Rattle.gd_base.specs.declared.refusal.LineFault.TheVariants.{UnknownCommand}
+use Rattle.gd_base.specs.declared.shape.Shape.TheVariants.{Rect}
 use Rattle.gd_effects.specs.Effects.{Effect, Head, Print, Record, Try, Work}
 use Rattle.gd_events.specs.Events.{Event}
 use Rattle.gd_grammar.specs.FrameBytes.{frame_bytes}
 use Rattle.gd_lines.specs.declared.command.Command.{Command}
 use Rattle.gd_lines.specs.declared.command.Command.TheVariants as command
+use Rattle.gd_lines.specs.declared.command.Turn.TheVariants.{Undo, Redo}
+use Rattle.gd_model.specs.Objects.{new_shape}
 use Rattle.gd_outside.specs.Seen.{Entry, Packet, Pause, Failure}
 use Rattle.gd_reference.specs.InputLines.{Read}
 use Rattle.gd_reference.specs.NodeRun.{HeardLine, node_effects}
-use Rattle.gd_rows.specs.Worked.{at_stamp, event, frame_row, frame_row_to, header_two_bytes, record_event, record_row}
+use Rattle.gd_rows.specs.Worked.{at_stamp, event, frame_row, frame_row_to, header_three_bytes, record_event, record_row}
 use Rattle.gd_rows.specs.WorkedWorlds.{new_rect, ahead_move, ahead_first, ahead_gap, ahead_rest, frame_of, sure_frame, sure_late_frame}
 
 -- lines that ask for these
@@ -22,7 +25,7 @@ asked commands = map (λ c. Read (Ok c)) commands
 -- ---- site 2 of 3
 
 abbrev pub second_header : List ℕ
-second_header = 71 ∷ 68 ∷ 79 ∷ 76 ∷ 2 ∷ 0 ∷ 0 ∷ 0 ∷ 7 ∷ 2 ∷ 3 ∷ []
+second_header = 71 ∷ 68 ∷ 79 ∷ 76 ∷ 3 ∷ 0 ∷ 0 ∷ 0 ∷ 7 ∷ 2 ∷ 3 ∷ []
 
 -- its header, and an edit: a step, the record behind the header's 11 bytes, the line, and a frame for each other site
 abbrev pub created_effects : List Effect
@@ -43,22 +46,53 @@ delete_event = event 2 2 2 (op.Delete (at_stamp 1 2))
 -- the frame with both events
 abbrev pub undone_row_to : ℕ → List ℕ
 undone_row_to to =
-    71 ∷ 68 ∷ 79 ∷ 70 ∷ 2 ∷ 0 ∷ 0 ∷ 0 ∷ 7 ∷ 2 ∷ to ∷ 0 ∷ 0 ∷ 0 ∷ 2 ∷ 0 ∷ 0 ∷ 0 ∷ 0 ∷ 0 ∷ 2
+    71 ∷ 68 ∷ 79 ∷ 70 ∷ 3 ∷ 0 ∷ 0 ∷ 0 ∷ 7 ∷ 2 ∷ to ∷ 0 ∷ 0 ∷ 0 ∷ 2 ∷ 0 ∷ 0 ∷ 0 ∷ 0 ∷ 0 ∷ 2
     ∷ 0 ∷ 0 ∷ 0 ∷ 0 ∷ 0 ∷ 0 ∷ 0 ∷ 0 ∷ 0 ∷ 0 ∷ 2 ∷ record_row ++ delete_row
 
--- the edit and two undos: the first is an event like any other, behind the 29 bytes of the edit's gate and record, and the
--- second is refused
-abbrev pub undone_effects : List Effect
-undone_effects =
+-- a record that puts the rect back as it was: black, not filled, of width 1, without a label, in no group, not
+-- dissolved, at the rank high 1.2; and no ties
+abbrev pub restore_row : List ℕ
+restore_row =
+    0 ∷ 0 ∷ 0 ∷ 0 ∷ 0 ∷ 3 ∷ 2 ∷ 0 ∷ 3 ∷ 11 ∷ 0 ∷ 0 ∷ 0 ∷ 0 ∷ 0 ∷ 1 ∷ 2 ∷ 1
+    ∷ 0 ∷ 0 ∷ 0 ∷ 0 ∷ 0 ∷ 0 ∷ 0 ∷ 0 ∷ 0 ∷ 0 ∷ 0 ∷ 10 ∷ 0 ∷ 0 ∷ 0 ∷ 10 ∷ 0 ∷ 0 ∷ 0 ∷ 0 ∷ 255 ∷ 255 ∷ 255 ∷ 255 ∷ 1 ∷ 0
+    ∷ 0 ∷ 0 ∷ 1 ∷ 0 ∷ 0 ∷ 0 ∷ 0 ∷ 0 ∷ 1 ∷ 2 ∷ 0 ∷ []
+
+abbrev pub restore_event : Event
+restore_event =
+    event 3 2 3 (op.Restore (at_stamp 1 2) (new_shape (at_stamp 1 2) Rect (pos 0) (pos 0) (pos 10) (pos 10) []) [])
+
+-- the frame with all three
+abbrev pub redone_row_to : ℕ → List ℕ
+redone_row_to to =
+    71 ∷ 68 ∷ 79 ∷ 70 ∷ 3 ∷ 0 ∷ 0 ∷ 0 ∷ 7 ∷ 2 ∷ to ∷ 0 ∷ 0 ∷ 0 ∷ 3 ∷ 0 ∷ 0 ∷ 0 ∷ 0 ∷ 0 ∷ 3
+    ∷ 0 ∷ 0 ∷ 0 ∷ 0 ∷ 0 ∷ 0 ∷ 0 ∷ 0 ∷ 0 ∷ 0 ∷ 3 ∷ record_row ++ delete_row ++ restore_row
+
+-- The edit, two undos and two redos. The first undo is an event like any other, behind the 29 bytes of the edit's
+-- gate and record, and so is the first redo, behind the 18 bytes of the undo's. The second ones are refused.
+abbrev pub turned_lines : List HeardLine
+turned_lines =
+    asked
+    (command.Edit (new_rect (pos 0))
+    ∷ command.Turn Undo
+    ∷ command.Turn Undo
+    ∷ command.Turn Redo
+    ∷ command.Turn Redo
+    ∷ [])
+
+abbrev pub turned_effects : List Effect
+turned_effects =
     created_effects
     ++ Work 1 ∷ Record 40 delete_event ∷ Print (codes "ok 2.2\n")
     ∷ Try 1 (undone_row_to 1) ∷ Try 3 (undone_row_to 3)
     ∷ Print (codes "refused: NothingBack\n")
+    ∷ Work 1 ∷ Record 58 restore_event ∷ Print (codes "ok 3.2\n")
+    ∷ Try 1 (redone_row_to 1) ∷ Try 3 (redone_row_to 3)
+    ∷ Print (codes "refused: NothingBack\n")
     ∷ []
 
--- the header, both events and a closed gate
-abbrev pub undone_journal : List ℕ
-undone_journal = second_header ++ 195 ∷ record_row ++ 195 ∷ delete_row ++ 0 ∷ []
+-- the header, the three events and a closed gate
+abbrev pub turned_journal : List ℕ
+turned_journal = second_header ++ 195 ∷ record_row ++ 195 ∷ delete_row ++ 195 ∷ restore_row ++ 0 ∷ []
 
 -- ---- a site alone
 
@@ -98,12 +132,12 @@ repeat_entries = Packet frame_row ∷ Packet frame_row ∷ Packet frame_row ∷ 
 -- the frame that answers it: one event of site 2 is held
 abbrev pub answer_row : List ℕ
 answer_row =
-    71 ∷ 68 ∷ 79 ∷ 70 ∷ 2 ∷ 0 ∷ 0 ∷ 0 ∷ 7 ∷ 1 ∷ 2 ∷ 0 ∷ 1 ∷ 0 ∷ 0 ∷ 0 ∷ 0 ∷ 0 ∷ 0 ∷ 0 ∷ 1
+    71 ∷ 68 ∷ 79 ∷ 70 ∷ 3 ∷ 0 ∷ 0 ∷ 0 ∷ 7 ∷ 1 ∷ 2 ∷ 0 ∷ 1 ∷ 0 ∷ 0 ∷ 0 ∷ 0 ∷ 0 ∷ 0 ∷ 0 ∷ 1
     ∷ 0 ∷ 0 ∷ 0 ∷ 0 ∷ 0 ∷ 0 ∷ 0 ∷ 0 ∷ 0 ∷ 0 ∷ 0 ∷ []
 
 abbrev pub repeat_effects : List Effect
 repeat_effects =
-    Head header_two_bytes
+    Head header_three_bytes
     ∷ Print (codes "ready 1 of 2\n")
     ∷ Work 1
     ∷ Record 11 record_event
@@ -114,7 +148,7 @@ repeat_effects =
 
 -- the header, the event and a closed gate
 abbrev pub repeat_journal : List ℕ
-repeat_journal = header_two_bytes ++ 195 ∷ record_row ++ 0 ∷ []
+repeat_journal = header_three_bytes ++ 195 ∷ record_row ++ 0 ∷ []
 
 abbrev pub ahead_entries : List Entry
 ahead_entries = Packet (frame_bytes ahead_first) ∷ Packet (frame_bytes ahead_gap) ∷ Packet (frame_bytes ahead_rest) ∷ []

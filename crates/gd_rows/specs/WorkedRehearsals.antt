@@ -198,7 +198,7 @@ refused_in_order =
     ∷ row "at 1 raise 3.1" "ok 5.1"
     ∷ []
 
--- a member that is shown behind the range can be moved back into it, but an undo can't take that back
+-- a member that is shown behind the range can be moved back into it, and an undo shows it there again
 abbrev pub too_far : List Row
 too_far =
     row "at 1 create rect 0 0 10 10" "ok 1.1"
@@ -214,9 +214,20 @@ too_far =
     ∷ "end 3"
     ∷ [])
     ∷ row "at 1 move 2.1 5 5" "ok 6.1"
-    ∷ row "at 1 undo" "refused: TooFar"
-    ∷ row "at 1 raise 2.1" "ok 7.1"
-    ∷ row "at 1 undo" "refused: NotTakeable"
+    ∷ row "at 1 undo" "ok 7.1"
+    ∷ row_of "at 1 show"
+    ("group 3.1 in - at 1000000000 0"
+    ∷ "rect 1.1 in 3.1 at 5 5 size 10 10 stroke 000000 fill none width 1"
+    ∷ "rect 2.1 in 3.1 at 1000000020 0 size 10 10 stroke 000000 fill none width 1"
+    ∷ "end 3"
+    ∷ [])
+    ∷ row "at 1 redo" "ok 8.1"
+    ∷ row_of "at 1 show"
+    ("group 3.1 in - at 1000000000 0"
+    ∷ "rect 1.1 in 3.1 at 5 5 size 10 10 stroke 000000 fill none width 1"
+    ∷ "rect 2.1 in 3.1 at 5 5 size 10 10 stroke 000000 fill none width 1"
+    ∷ "end 3"
+    ∷ [])
     ∷ []
 
 abbrev pub taken_back : List Row
@@ -227,6 +238,38 @@ taken_back =
     ∷ row "at 1 undo" "ok 4.1"
     ∷ row "at 1 undo" "refused: NothingBack"
     ∷ row "at 1 show" "end 0"
+    ∷ row "at 1 redo" "ok 5.1"
+    ∷ row "at 1 redo" "ok 6.1"
+    ∷ row "at 1 redo" "refused: NothingBack"
+    ∷ row_of "at 1 show"
+    ("rect 1.1 in - at 50 60 size 10 10 stroke 000000 fill none width 1"
+    ∷ "end 1"
+    ∷ [])
+    ∷ []
+
+-- Site 1 deletes a rect and takes that back, and a move of site 2 comes late: by its stamp it stands between the two,
+-- and finds nothing. Site 2 takes its move back where the rect stands at 0 0 already, and a redo leaves it there.
+abbrev pub put_back : List String
+put_back = "rect 1.1 in - at 0 0 size 10 10 stroke 000000 fill none width 1" ∷ "end 1" ∷ []
+
+abbrev pub taken_between : List Row
+taken_between =
+    row "at 1 create rect 0 0 10 10" "ok 1.1"
+    ∷ row "send 1 2" "mail 1"
+    ∷ row "deliver 1" "echo 1.1 applied\ndelivered 1"
+    ∷ row "at 1 delete 1.1" "ok 2.1"
+    ∷ row "at 2 move 1.1 50 60" "ok 2.2"
+    ∷ row "at 1 undo" "ok 3.1"
+    ∷ row "send 2 1" "mail 2"
+    ∷ row "deliver 2" "echo 2.2 reworked 1\ndelivered 2"
+    ∷ row "send 1 2" "mail 3"
+    ∷ row "deliver 3" "echo 2.1 reworked 1\necho 3.1 applied\ndelivered 3"
+    ∷ row_of "at 1 show" put_back
+    ∷ row_of "at 2 show" put_back
+    ∷ row "at 2 undo" "ok 4.2"
+    ∷ row "at 2 redo" "ok 5.2"
+    ∷ row_of "at 2 show" put_back
+    ∷ row "at 2 redo" "refused: NothingBack"
     ∷ []
 
 -- ---- three sites

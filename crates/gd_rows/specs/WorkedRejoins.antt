@@ -6,14 +6,15 @@ use Rattle.gd_events.specs.Events.{Event}
 use Rattle.gd_asked.specs.declared.command.Command.{Command}
 use Rattle.gd_asked.specs.declared.command.Command.TheVariants.{Node, Rejoin}
 use Rattle.gd_reference.specs.Rejoin.{Found, Events, Faulty, Other}
-use Rattle.gd_rows.specs.Worked.{event, header, header_two, header_two_bytes, prints_of, square, tie_events, tie_log, works_of}
+use Rattle.gd_rows.specs.Worked.{event, header, header_three, header_three_bytes, header_two, prints_of, square, tie_events, tie_log, works_of}
 use Rattle.gd_rows.specs.WorkedNodes.{answer_row}
 
 -- ---- what there is to go on from
 
--- the log of the tie in version two: its records begin at the bytes 11 and 40, and its closing gate is byte 69, the last
+-- the log of the tie in version three: its records begin at the bytes 11 and 40, and its closing gate is byte 69, the
+-- last
 abbrev pub tie_journal : List ℕ
-tie_journal = set tie_log 4 2
+tie_journal = set tie_log 4 3
 
 -- what a longer log may have left behind that
 abbrev pub remains : List ℕ
@@ -30,7 +31,7 @@ whole_journals =
     ∷ (set tie_journal 69 255, Events tie_events)
     ∷ (worn_journal, Events tie_events)
     -- without events
-    ∷ (header_two_bytes ++ 0 ∷ [], Events [])
+    ∷ (header_three_bytes ++ 0 ∷ [], Events [])
     ∷ []
 
 abbrev pub cut_journals : List (List ℕ × Found)
@@ -52,10 +53,11 @@ session_eight = set tie_journal 8 8
 
 abbrev pub other_journals : List (List ℕ × Found)
 other_journals =
-    (session_eight, Other (record header_two { session = 8 }))
-    ∷ (set tie_journal 9 2, Other (record header_two { site = 2 }))
-    ∷ (set tie_journal 10 3, Other (record header_two { n = 3 }))
+    (session_eight, Other (record header_three { session = 8 }))
+    ∷ (set tie_journal 9 2, Other (record header_three { site = 2 }))
+    ∷ (set tie_journal 10 3, Other (record header_three { n = 3 }))
     ∷ (tie_log, Other header)
+    ∷ (set tie_log 4 2, Other header_two)
     ∷ []
 
 abbrev pub faulty_journals : List (List ℕ × Found)
@@ -83,7 +85,7 @@ held_effects =
 
 abbrev pub new_effects : List Effect
 new_effects =
-    Head header_two_bytes
+    Head header_three_bytes
     ∷ prints_of (codes "ready 1 of 2\n" ∷ codes "held 0 kept 0 line 0 clock 0\n" ∷ [])
 
 -- that event comes in a poll again
@@ -91,8 +93,8 @@ abbrev pub again_effects : List Effect
 again_effects =
     Work 1 ∷ Print (codes "ready 1 of 2\n") ∷ Try 2 answer_row ∷ Print (codes "polled 3\n") ∷ []
 
--- Behind seven events, of which the last redid two others. Site 2 made that one, at clock 3, and two events of site 1 have
--- greater clocks.
+-- Behind seven events, of which the last redid two others. Site 2 made that one, at clock 3, and two events of site 1
+-- have greater clocks.
 abbrev pub closure_rejoined : List Effect
 closure_rejoined =
     works_of (1 ∷ 1 ∷ 1 ∷ 1 ∷ 1 ∷ 1 ∷ 5 ∷ [])
@@ -121,7 +123,7 @@ ellipse_row =
 -- the frame for site 2: one event of it is held, and of the two own ones it has acknowledged none
 abbrev pub edit_frame : List ℕ
 edit_frame =
-    71 ∷ 68 ∷ 79 ∷ 70 ∷ 2 ∷ 0 ∷ 0 ∷ 0 ∷ 7 ∷ 1 ∷ 2 ∷ 0 ∷ 1 ∷ 0 ∷ 2 ∷ 0 ∷ 0 ∷ 0 ∷ 0 ∷ 0 ∷ 2
+    71 ∷ 68 ∷ 79 ∷ 70 ∷ 3 ∷ 0 ∷ 0 ∷ 0 ∷ 7 ∷ 1 ∷ 2 ∷ 0 ∷ 1 ∷ 0 ∷ 2 ∷ 0 ∷ 0 ∷ 0 ∷ 0 ∷ 0 ∷ 2
     ∷ 0 ∷ 0 ∷ 0 ∷ 0 ∷ 0 ∷ 0 ∷ 0 ∷ 0 ∷ 0 ∷ 0 ∷ 2 ∷ ellipse_row ++ edit_row
 
 abbrev pub edit_effects : List Effect
@@ -149,7 +151,7 @@ noting_printed = codes "ready 1 of 2\nnoted 1\nok 1.1\n"
 
 abbrev pub noting_journal : List ℕ
 noting_journal =
-    header_two_bytes
+    header_three_bytes
     ++ 195 ∷ 0 ∷ 0 ∷ 0 ∷ 0 ∷ 0 ∷ 1 ∷ 1 ∷ 0 ∷ 1 ∷ 1 ∷ 1
     ∷ 0 ∷ 0 ∷ 0 ∷ 0 ∷ 0 ∷ 0 ∷ 0 ∷ 0 ∷ 0 ∷ 0 ∷ 0 ∷ 10 ∷ 0 ∷ 0 ∷ 0 ∷ 10 ∷ 0 ∷ 0 ∷ []
 
@@ -160,9 +162,13 @@ notes_input = codes "name Bob\nfocus 1.1\nwho\n"
 abbrev pub notes_printed : List ℕ
 notes_printed = codes "ready 1 of 2\nnoted 1\nnoted 2\nwho 1 Bob focus 1.1\nend 1\n"
 
--- an undo in front of an edit, and two behind it
+-- an undo and a redo in front of an edit; behind it two undos and two redos
 abbrev pub undos_input : List ℕ
-undos_input = codes "undo\ncreate rect 0 0 10 10\nundo\nundo\n"
+undos_input = codes "undo\nredo\ncreate rect 0 0 10 10\nundo\nundo\nredo\nredo\nshow\n"
 
 abbrev pub undos_printed : List ℕ
-undos_printed = codes "ready 1 of 2\nrefused: NothingBack\nok 2.1\nok 3.1\nrefused: NothingBack\n"
+undos_printed =
+    codes "ready 1 of 2\nrefused: NothingBack\nrefused: NothingBack\nok 2.1\nok 3.1\nrefused: NothingBack\n"
+    ++ codes "ok 4.1\nrefused: NothingBack\n"
+    ++ codes "rect 1.1 in - at 0 0 size 10 10 stroke 000000 fill none width 1\n"
+    ++ codes "rect 2.1 in - at 0 0 size 10 10 stroke 000000 fill none width 1\nend 2\n"

@@ -2,14 +2,15 @@
 use Rattle.std.specs.Prelude.{◌≡◌, ℕ, zero, suc, ◌+◌, ◌-◌, pos, negsuc, true, false, List, [], ◌∷◌, ◌++◌, length, set, take, Some, Err, IsOk}
 use Rattle.std.specs.List.{AllByRecursion}
 use Rattle.gd_base.specs.declared.content.Content.TheVariants.{ToPlace, ToRank}
+use Rattle.gd_base.specs.declared.content.Height.TheVariants.{To}
 use Rattle.gd_base.specs.declared.content.Side.TheVariants.{Top}
 use Rattle.gd_base.specs.declared.fault.ViewWhy.{ViewWhy}
 use Rattle.gd_base.specs.declared.fault.ViewWhy.TheVariants.{Short, Magic, Version, Field, FutureId, Order, Bound}
 use Rattle.gd_base.specs.declared.op.Op.TheVariants.{Set}
 use Rattle.gd_base.specs.declared.shape.Shape.TheVariants.{Rect, Ellipse, Text}
-use Rattle.gd_model.specs.declared.object.Kind.TheVariants.{Shape}
-use Rattle.gd_model.specs.declared.object.Object.{Object}
-use Rattle.gd_model.specs.declared.rank.Rank.TheVariants.{Low}
+use Rattle.gd_base.specs.declared.object.Kind.TheVariants.{Shape}
+use Rattle.gd_base.specs.declared.object.Object.{Object}
+use Rattle.gd_base.specs.declared.rank.Rank.TheVariants.{Low}
 use Rattle.gd_model.specs.Objects.{new_group, new_shape}
 use Rattle.gd_snapshots.specs.SnapshotBytes.{snapshot_at}
 use Rattle.gd_snapshots.specs.Snapshots.{Snapshot}
@@ -20,7 +21,7 @@ use Rattle.gd_rows.specs.Worked.{at_stamp, event}
 -- session 7, site 1 of 2; each site made one event, and has the sure clock 1
 abbrev pub tie_front : List ℕ
 tie_front =
-    71 ∷ 68 ∷ 79 ∷ 83 ∷ 2 ∷ 0 ∷ 0 ∷ 0 ∷ 7 ∷ 1 ∷ 2 ∷ 0 ∷ 1 ∷ 0 ∷ 0 ∷ 0 ∷ 0 ∷ 0 ∷ 1 ∷ 0 ∷ 1 ∷ 0 ∷ 0 ∷ 0 ∷ 0 ∷ 0 ∷ 1 ∷ []
+    71 ∷ 68 ∷ 79 ∷ 83 ∷ 3 ∷ 0 ∷ 0 ∷ 0 ∷ 7 ∷ 1 ∷ 2 ∷ 0 ∷ 1 ∷ 0 ∷ 0 ∷ 0 ∷ 0 ∷ 0 ∷ 1 ∷ 0 ∷ 1 ∷ 0 ∷ 0 ∷ 0 ∷ 0 ∷ 0 ∷ 1 ∷ []
 
 -- the ellipse of site 1 and the rect of site 2, of which the first begins at byte 31 and the second at byte 75
 abbrev pub ellipse_bytes : List ℕ
@@ -54,7 +55,7 @@ tie_snapshot =
 -- site 2 of 2, which made two events and has the sure clock 4, where site 1 made three and has the sure clock 9
 abbrev pub full_front : List ℕ
 full_front =
-    71 ∷ 68 ∷ 79 ∷ 83 ∷ 2 ∷ 0 ∷ 0 ∷ 0 ∷ 7 ∷ 2 ∷ 2 ∷ 0 ∷ 3 ∷ 0 ∷ 0 ∷ 0 ∷ 0 ∷ 0 ∷ 9 ∷ 0 ∷ 2 ∷ 0 ∷ 0 ∷ 0 ∷ 0 ∷ 0 ∷ 4 ∷ []
+    71 ∷ 68 ∷ 79 ∷ 83 ∷ 3 ∷ 0 ∷ 0 ∷ 0 ∷ 7 ∷ 2 ∷ 2 ∷ 0 ∷ 3 ∷ 0 ∷ 0 ∷ 0 ∷ 0 ∷ 0 ∷ 9 ∷ 0 ∷ 2 ∷ 0 ∷ 0 ∷ 0 ∷ 0 ∷ 0 ∷ 4 ∷ []
 
 -- a text in a group, filled, and lowered
 abbrev pub text_bytes : List ℕ
@@ -110,7 +111,9 @@ full_snapshot =
       known = record { count = 3; sure = 9 } ∷ record { count = 2; sure = 4 } ∷ [];
       objects = (at_stamp 1 1, full_text) ∷ (at_stamp 3 2, full_group) ∷ [];
       kept =
-          event 5 1 2 (Set (at_stamp 1 1) (ToRank Top)) ∷ event 6 1 3 (Set (at_stamp 1 1) (ToPlace (pos 7) (negsuc 7))) ∷ [];
+          event 5 1 2 (Set (at_stamp 1 1) (ToRank (To Top)))
+          ∷ event 6 1 3 (Set (at_stamp 1 1) (ToPlace (pos 7) (negsuc 7)))
+          ∷ [];
     }
 
 -- ---- changed bytes
@@ -147,6 +150,8 @@ abbrev pub tie_changes : List Change
 tie_changes =
     change 0 4 255 (Faulty Magic 0)
     ∷ change 4 1 1 (Faulty Version 4)
+    ∷ change 4 1 2 (Faulty Version 4)
+    ∷ change 4 1 4 (Faulty Version 4)
     ∷ change 5 4 255 Whole
     ∷ change 9 1 0 (Faulty Field 9)
     ∷ change 9 1 3 (Faulty Field 10)
@@ -231,7 +236,7 @@ full_changes =
     ∷ change 163 1 5 (Faulty Order 158)
     ∷ change 163 1 3 (Faulty Order 158)
     -- no tag, an id of no site, and an id behind the event
-    ∷ change 167 1 11 (Faulty Field 167)
+    ∷ change 167 1 15 (Faulty Field 167)
     ∷ change 157 1 0 (Faulty Field 157)
     ∷ change 156 1 9 (Faulty FutureId 151)
     ∷ []

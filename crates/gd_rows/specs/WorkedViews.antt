@@ -10,7 +10,7 @@ use Rattle.gd_rows.specs.WorkedSnapshots.{tie_snapshot_bytes}
 -- from site 2 to site 1: its second event, at clock 2, moves the ellipse to 7 8
 abbrev pub moving_frame : List ℕ
 moving_frame =
-    71 ∷ 68 ∷ 79 ∷ 70 ∷ 2 ∷ 0 ∷ 0 ∷ 0 ∷ 7 ∷ 2 ∷ 1 ∷ 0 ∷ 1 ∷ 0 ∷ 2 ∷ 0 ∷ 0 ∷ 0 ∷ 0 ∷ 0 ∷ 2
+    71 ∷ 68 ∷ 79 ∷ 70 ∷ 3 ∷ 0 ∷ 0 ∷ 0 ∷ 7 ∷ 2 ∷ 1 ∷ 0 ∷ 1 ∷ 0 ∷ 2 ∷ 0 ∷ 0 ∷ 0 ∷ 0 ∷ 0 ∷ 2
     ∷ 0 ∷ 0 ∷ 0 ∷ 0 ∷ 0 ∷ 0 ∷ 0 ∷ 0 ∷ 0 ∷ 0 ∷ 1
     ∷ 0 ∷ 0 ∷ 0 ∷ 0 ∷ 0 ∷ 2 ∷ 2 ∷ 0 ∷ 2 ∷ 3 ∷ 0 ∷ 0 ∷ 0 ∷ 0 ∷ 0 ∷ 1 ∷ 1 ∷ 0 ∷ 0 ∷ 0 ∷ 7 ∷ 0 ∷ 0 ∷ 0 ∷ 8 ∷ []
 
@@ -69,8 +69,8 @@ bad_views =
     bad (0 ∷ []) [] (codes "bad view at 124: Short\n")
     ∷ bad (take 58 (item moving_frame)) [] (codes "bad view at 181: Short\n")
     -- one that is longer than any frame, and one that might be
-    ∷ bad (15 ∷ 137 ∷ []) [] (codes "bad view at 123: Long\n")
-    ∷ bad (15 ∷ 136 ∷ []) [] (codes "bad view at 125: Short\n")
+    ∷ bad (31 ∷ 161 ∷ []) [] (codes "bad view at 123: Long\n")
+    ∷ bad (31 ∷ 160 ∷ []) [] (codes "bad view at 125: Short\n")
     -- behind a frame that is taken
     ∷ bad (item moving_frame ++ 255 ∷ 255 ∷ []) moved_effects (codes "bad view at 182: Long\n")
     ∷ []
@@ -87,7 +87,7 @@ cut_line = codes "bad view at 122: Short\n" ∷ []
 -- from site 2: its third event, at clock 5, moves the text to 9 9, which the kept move behind it covers
 abbrev pub late_frame : List ℕ
 late_frame =
-    71 ∷ 68 ∷ 79 ∷ 70 ∷ 2 ∷ 0 ∷ 0 ∷ 0 ∷ 7 ∷ 2 ∷ 1 ∷ 0 ∷ 0 ∷ 0 ∷ 3 ∷ 0 ∷ 0 ∷ 0 ∷ 0 ∷ 0 ∷ 5
+    71 ∷ 68 ∷ 79 ∷ 70 ∷ 3 ∷ 0 ∷ 0 ∷ 0 ∷ 7 ∷ 2 ∷ 1 ∷ 0 ∷ 0 ∷ 0 ∷ 3 ∷ 0 ∷ 0 ∷ 0 ∷ 0 ∷ 0 ∷ 5
     ∷ 0 ∷ 0 ∷ 0 ∷ 0 ∷ 0 ∷ 0 ∷ 0 ∷ 0 ∷ 0 ∷ 0 ∷ 1
     ∷ 0 ∷ 0 ∷ 0 ∷ 0 ∷ 0 ∷ 5 ∷ 2 ∷ 0 ∷ 3 ∷ 3 ∷ 0 ∷ 0 ∷ 0 ∷ 0 ∷ 0 ∷ 1 ∷ 1 ∷ 0 ∷ 0 ∷ 0 ∷ 9 ∷ 0 ∷ 0 ∷ 0 ∷ 9 ∷ []
 

@@ -1,6 +1,7 @@
 -- Worked rows of sites and worlds: lists of steps, the frames of a site that runs ahead, and what becomes of them.
 use Rattle.std.specs.Prelude.{ℕ, ◌-◌, ℤ, pos, List, [], ◌∷◌, ◌++◌, codes, Option, Some, None}
 use Rattle.gd_base.specs.declared.content.Content.TheVariants.{ToPlace, ToRank}
+use Rattle.gd_base.specs.declared.content.Height.TheVariants.{To}
 use Rattle.gd_base.specs.declared.content.Side.TheVariants.{Bottom, Top}
 use Rattle.gd_base.specs.declared.note.Note.{Note}
 use Rattle.gd_base.specs.declared.op.Op.TheVariants as op
@@ -91,10 +92,10 @@ abbrev pub new_ellipse : Event
 new_ellipse = event 2 1 2 (op.Create Ellipse (pos 0) (pos 0) (pos 20) (pos 20) [])
 
 abbrev pub covered_raise : Event
-covered_raise = event 3 1 3 (op.Set (at_stamp 1 1) (ToRank Top))
+covered_raise = event 3 1 3 (op.Set (at_stamp 1 1) (ToRank (To Top)))
 
 abbrev pub covering_lower : Event
-covering_lower = event 3 2 1 (op.Set (at_stamp 1 1) (ToRank Bottom))
+covering_lower = event 3 2 1 (op.Set (at_stamp 1 1) (ToRank (To Bottom)))
 
 -- all but the delivery of the late raise, and what comes after it
 abbrev pub lower_begins : List Step
@@ -186,7 +187,7 @@ abbrev pub closure_held : List Event
 closure_held =
     first_rect
     ∷ event 2 1 2 (op.Create Rect (pos 20) (pos 0) (pos 10) (pos 10) [])
-    ∷ event 3 1 3 (op.Set (at_stamp 1 1) (ToRank Top))
+    ∷ event 3 1 3 (op.Set (at_stamp 1 1) (ToRank (To Top)))
     ∷ event 4 1 4 (op.Group (member 1 1 (pos 0) (pos 0) ∷ member 2 1 (pos 0) (pos 0) ∷ []))
     ∷ event 5 1 5 (op.Set (at_stamp 4 1) (ToPlace (pos 5) (pos 5)))
     ∷ other_create
@@ -273,7 +274,7 @@ abbrev pub sure_site : SlowSite
 sure_site = take_frame listener sure_frame
 
 abbrev pub sure_raise : Event
-sure_raise = event 9 2 3 (op.Set (at_stamp 1 2) (ToRank Top))
+sure_raise = event 9 2 3 (op.Set (at_stamp 1 2) (ToRank (To Top)))
 
 abbrev pub sure_late_frame : Frame
 sure_late_frame = frame_of 3 9 (sure_raise ∷ [])

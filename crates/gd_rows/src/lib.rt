@@ -8,6 +8,8 @@ pub mod exit_rows;
 pub mod input_rows;
 pub mod line_rows;
 pub mod node_rows;
+pub mod op_rows;
+pub mod pair_rows;
 pub mod rehearsal_rows;
 pub mod rejoin_rows;
 pub mod rows;

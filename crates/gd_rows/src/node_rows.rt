@@ -6,7 +6,7 @@ ghost use Rattle.gd_lines.specs.declared.command.Command.TheVariants as command;
 ghost use Rattle.gd_effects.specs.Effects.{journal_after, printed, tried};
 ghost use Rattle.gd_reference.specs.NodeRun.{node_effects};
 ghost use Rattle.gd_rows.specs.WorkedWorlds.{new_rect};
-ghost use Rattle.gd_rows.specs.WorkedNodes.{alone, asked, created_effects, full_entries, full_printed, long_entries, long_printed, ahead_entries, ahead_printed, failing_entries, failing_printed, listening, noting_lines, noting_printed, refused_entries, refused_printed, repeat_effects, repeat_entries, repeat_journal, sure_entries, sure_printed, undone_effects, undone_journal};
+ghost use Rattle.gd_rows.specs.WorkedNodes.{alone, asked, created_effects, full_entries, full_printed, long_entries, long_printed, ahead_entries, ahead_printed, failing_entries, failing_printed, listening, noting_lines, noting_printed, refused_entries, refused_printed, repeat_effects, repeat_entries, repeat_journal, sure_entries, sure_printed, turned_effects, turned_journal, turned_lines};
 
 /// A frame that comes three times is taken once, and answered once.
 pub fn a_repeated_frame()
@@ -52,11 +52,10 @@ pub fn an_own_event()
         ≡ created_effects }
 {}
 
-/// So it is with an undo, where one is accepted. A refused one is printed.
-pub fn an_undo()
-    ensures effects { node_effects 2 3 7 [] (asked (command.Edit (new_rect (pos 0))
-        ∷ command.Undo ∷ command.Undo ∷ [])) ≡ undone_effects }
-    ensures journal { journal_after [] undone_effects ≡ undone_journal }
+/// So it is with an undo and a redo, where they are accepted. Refused ones are printed.
+pub fn an_undo_and_a_redo()
+    ensures effects { node_effects 2 3 7 [] turned_lines ≡ turned_effects }
+    ensures journal { journal_after [] turned_effects ≡ turned_journal }
 {}
 
 /// A poll takes 64 datagrams at most, and ends behind a pause, which is no datagram.

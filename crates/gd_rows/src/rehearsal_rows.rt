@@ -5,7 +5,7 @@ ghost use Rattle.std.specs.Prelude.{◌≡◌, ◌∷◌, [], Some, codes, slice
 ghost use Rattle.gd_effects.specs.Effects.{Print, Work, printed};
 ghost use Rattle.gd_outside.specs.declared.status.Status.TheVariants.{Done, LineLimit};
 ghost use Rattle.gd_worlds.specs.Rehearsal.{rehearsal_after, rehearsal_effects, rehearsal_end, rehearsal_lines};
-ghost use Rattle.gd_rows.specs.WorkedRehearsals.{answers, behind_blanks, costs, covered, delivered_late, empty_frame, heard_of, hidden, lowered, noted, prints, quitting, quitting_printed, refused_in_order, refused_in_world, regrouped, rehearsed, reworked, reworked_effects, reworked_shown, taken_back, too_far, typed, used};
+ghost use Rattle.gd_rows.specs.WorkedRehearsals.{answers, behind_blanks, costs, covered, delivered_late, empty_frame, heard_of, hidden, lowered, noted, prints, quitting, quitting_printed, refused_in_order, refused_in_world, regrouped, rehearsed, reworked, reworked_effects, reworked_shown, taken_back, taken_between, too_far, typed, used};
 
 /// A late move that a later one covers is dropped, for no step.
 pub fn a_covered_move()
@@ -47,10 +47,17 @@ pub fn places_out_of_the_range()
     ensures { prints 1 too_far ≡ answers too_far }
 {}
 
-/// Two edits are taken back, and then nothing is left. An undo costs what an edit costs, and a refused one nothing.
+/// Two edits are taken back, and then nothing is left, and done again. An undo and a redo cost what an edit costs, and
+/// a refused one nothing.
 pub fn two_edits_are_taken_back()
     ensures printed { prints 1 taken_back ≡ answers taken_back }
-    ensures cost { costs 1 taken_back ≡ 4 }
+    ensures cost { costs 1 taken_back ≡ 6 }
+{}
+
+/// What comes late between a delete and the undo of it finds nothing.
+pub fn a_move_between_a_delete_and_its_undo()
+    ensures printed { prints 2 taken_between ≡ answers taken_between }
+    ensures cost { costs 2 taken_between ≡ 14 }
 {}
 
 /// Three sites draw together, each for a while alone.

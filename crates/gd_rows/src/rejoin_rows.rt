@@ -9,29 +9,29 @@ ghost use Rattle.gd_outside.specs.declared.status.Status.TheVariants.{BadLog, Do
 ghost use Rattle.gd_reference.specs.NodeRun.{node_lines};
 ghost use Rattle.gd_reference.specs.Rejoin.{Events, found, rejoined, rejoined_held};
 ghost use Rattle.gd_run.specs.Runs.{cut_of, effects_of, end_of};
-ghost use Rattle.gd_rows.specs.Worked.{header_two, prints_of, tie_events};
+ghost use Rattle.gd_rows.specs.Worked.{header_three, prints_of, tie_events};
 ghost use Rattle.gd_rows.specs.WorkedNodes.{asked, repeat_entries, repeat_journal};
 ghost use Rattle.gd_rows.specs.WorkedRejoins.{again_effects, begins, closure_rejoined, cut_journals, edit_effects, edit_input, edited_events, edited_journal, faulty_journals, held_effects, new_effects, noting_input, noting_journal, noting_printed, notes_input, notes_printed, other_journals, rejoins, undos_input, undos_printed, whole_journals, worn_journal};
 ghost use Rattle.gd_rows.specs.WorkedWorlds.{closure_held};
 
 /// A log's events are found where its closing gate is there, whatever byte that is and whatever stands behind it.
 pub fn a_whole_journal_is_found()
-    ensures { AllByRecursion (λ r. found header_two r.0 ≡ r.1) whole_journals }
+    ensures { AllByRecursion (λ r. found header_three r.0 ≡ r.1) whole_journals }
 {}
 
 /// A journal that ends too soon has a fault at its end, also where only the closing gate is missing.
 pub fn a_cut_journal_is_faulty()
-    ensures { AllByRecursion (λ r. found header_two r.0 ≡ r.1) cut_journals }
+    ensures { AllByRecursion (λ r. found header_three r.0 ≡ r.1) cut_journals }
 {}
 
 /// A log of another session, of another site, of other sites, or in another version is another journal.
 pub fn another_journal_is_found()
-    ensures { AllByRecursion (λ r. found header_two r.0 ≡ r.1) other_journals }
+    ensures { AllByRecursion (λ r. found header_three r.0 ≡ r.1) other_journals }
 {}
 
 /// A fault of the log counts before its header.
 pub fn a_fault_is_found_first()
-    ensures { AllByRecursion (λ r. found header_two r.0 ≡ r.1) faulty_journals }
+    ensures { AllByRecursion (λ r. found header_three r.0 ≡ r.1) faulty_journals }
 {}
 
 /// A node that goes on takes the steps of its journal's events, and holds them.
@@ -72,7 +72,7 @@ pub fn what_was_found_is_a_repeat()
 pub fn an_edit_goes_behind_what_was_found()
     ensures effects { effects_of (rejoins 7) worn_journal edit_input [] ≡ edit_effects }
     ensures journal { journal_after worn_journal edit_effects ≡ edited_journal }
-    ensures found { found header_two edited_journal ≡ Events edited_events }
+    ensures found { found header_three edited_journal ≡ Events edited_events }
     ensures held { rejoined_held 1 2 7 (Events tie_events) [] (node_lines edit_input)
         ≡ edited_events }
 {}

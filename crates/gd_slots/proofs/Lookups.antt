@@ -2,7 +2,8 @@
 use Rattle.std.proofs.Common.{◌≡◌, Bool, true, false, cond, Option, None, Some, refl, sym, ap, ◌∙◌}
 use Rattle.std.specs.FinMap as map_of
 use Rattle.gd_base.specs.Stamps.{Stamp, is_same}
-use Rattle.gd_base.proofs.StampLemmas.{stamp_cmp-total, stamp_cmp-IsAntisymmetric, is_same-true, is_same-refl}
+use Rattle.gd_base.proofs.StampLemmas.{is_same-true, is_same-refl}
+use Rattle.gd_base.specs.StampTotal.{stamp_cmp-total, stamp_cmp-IsAntisymmetric}
 use Rattle.gd_slots.specs.Slots.{Board, put_at}
 
 -- where the keys are the same, a term may speak of either

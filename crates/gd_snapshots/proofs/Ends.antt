@@ -1,29 +1,29 @@
 -- Where the bytes of a field aren't all there, the fault is at their end: of each field of events, objects and snapshots.
-use Rattle.std.proofs.Common.{◌≡◌, ◌≢◌, ℕ, zero, suc, Bool, true, false, cond, ltb, List, [], ◌∷◌, length, take, drop, Option, None, Result, Ok, Err, refl, ap, ◌∙◌}
+use Rattle.std.proofs.Common.{◌≡◌, ◌≢◌, ℕ, zero, suc, Bool, true, false, cond, ltb, List, [], ◌∷◌, length, take, drop, Option, Some, None, Result, Ok, Err, refl, ap, ◌∙◌}
+use Rattle.std.specs.List.{AllByRecursion}
 use Rattle.std.specs.Prelude.{◌==◌}
 use Rattle.gd_base.specs.declared.fault.FieldFault.{FieldFault}
 use Rattle.gd_base.specs.declared.fault.FieldWhy.{FieldWhy}
 use Rattle.gd_base.specs.declared.fault.FieldWhy.TheVariants.{Short, Magic, Version, Field, FutureId, MemberOrder}
-use Rattle.gd_base.specs.Contents.{Said}
 use Rattle.gd_base.specs.Labels.{most_label}
 use Rattle.gd_base.specs.Ranges.{place_limit, size_limit}
 use Rattle.gd_base.specs.Results.{◌>>=◌}
 use Rattle.gd_base.specs.Stamps.{Stamp}
 use Rattle.gd_base.specs.declared.version.Version as version
-use Rattle.gd_base.specs.declared.version.Version.TheVariants as versions
 use Rattle.gd_base.specs.declared.shape.Shape.TheVariants.{Rect, Ellipse, Line, Text}
+use Rattle.gd_events.specs.Ops.{Done}
 use Rattle.gd_grammar.specs.Drawings as drawing
-use Rattle.gd_grammar.specs.EventBytes.{most_label_in, shape_at, label_at, colour_at, fill_at, width_at, member_count_at, member_id_at}
-use Rattle.gd_grammar.specs.Fields.{byte_at, clock_at, site_at, stamp_at, id_at, number_at, signed_at, word_at, label_within}
+use Rattle.gd_grammar.specs.EventBytes.{most_label_in, shape_at, label_at, colour_at, fill_at, width_at, count_at, member_id_at, parent_id_at}
+use Rattle.gd_grammar.specs.Fields.{byte_at, byte_within, clock_at, site_at, stamp_at, id_at, number_at, signed_at, word_at, label_within}
 use Rattle.gd_grammar.specs.FrameBytes.{frame_version_at, half_at, six_at}
 use Rattle.gd_grammar.specs.HeaderBytes.{magic_at, sites_at}
 use Rattle.gd_grammar.specs.Kinds.{event_at}
-use Rattle.gd_grammar.specs.OpBytes.{place_at, size_at, look_rows, look_at, create_at, set_at, member_at, group_at, op_rows, op_at}
-use Rattle.gd_grammar.specs.Readers.{picked, by_tag}
+use Rattle.gd_grammar.specs.ObjectBytes.{kind_rows, kind_at, thin_at, flag_rows, flag_at, parent_at, some_link_at, link_rows, link_at, given_at, rank_rows, rank_at, object_at}
+use Rattle.gd_grammar.specs.OpBytes.{place_at, size_at, look_rows, look_at, create_at, set_at, member_at, group_at, tie_at, all_ties_at, restore_at, disband_at, op_rows, op_at}
+use Rattle.gd_grammar.specs.Readers.{picked, by_tag, by_tag_within}
 use Rattle.gd_grammar.specs.Reading.{Reads, Reader, bytes_at, fault_at, many_at, pure, ranged, short, then_at}
-use Rattle.gd_grammar.specs.Versions.{has_version, since}
+use Rattle.gd_grammar.specs.declared.naming.Naming.{Naming}
 use Rattle.gd_grammar.proofs.Readers.{◌&◌}
-use Rattle.gd_snapshots.specs.ObjectBytes.{kind_rows, kind_at, thin_at, flag_rows, flag_at, some_link_at, link_rows, link_at, rank_rows, rank_at, object_at}
 use Rattle.gd_snapshots.specs.SnapshotBytes.{head_at, known_at}
 
 -- a fault of bytes that aren't all there is at their end
@@ -72,22 +72,16 @@ unfolding then_at
 end-next first second bytes = end-then _ _ (first bytes) (λ x. second x.0 x.1)
 
 -- the fields of each row
-unfoldable AllEnd : {A : Type 0} → List (ℕ × Reader A) → Type 0
-AllEnd [] = Unit {0}
-AllEnd (row ∷ rows) = Ends row.1 × AllEnd rows
+abbrev EndRow : {A : Type 0} → ℕ × Reader A → Type 0
+EndRow row = Ends row.1
+
+abbrev AllEnd : {A : Type 0} → List (ℕ × Reader A) → Type 0
+AllEnd rows = AllByRecursion EndRow rows
 
 end-picked : {A : Type 0} (rows : List (ℕ × Reader A)) → AllEnd rows → (tag : ℕ) (whole rest : List ℕ) → AtEnd (picked rows tag (fault_at Field whole) rest)
-unfolding AllEnd picked
+unfolding picked
 end-picked [] all tag whole rest = end-fault Field whole (λ e. cc)
 end-picked (row ∷ rows) all tag whole rest = end-either (tag == row.0) _ _ (all.0 rest) (end-picked rows all.1 tag whole rest)
-
-end-since : {A : Type 0} (first v : version.Version) (rows : List (ℕ × Reader A)) → AllEnd rows → AllEnd (since first v rows)
-unfolding AllEnd
-end-since first v rows all = by_test (has_version v first)
-  where
-    by_test : (b : Bool) → AllEnd (cond b rows [])
-    by_test true = all
-    by_test false = tt
 
 -- ---- fields
 
@@ -102,6 +96,14 @@ end-byte (b ∷ rest) = end-ok (b, rest)
 end-tags : {A : Type 0} (rows : List (ℕ × Reader A)) → AllEnd rows → Ends (by_tag rows)
 unfolding by_tag then_at
 end-tags rows all bytes = end-then _ _ (end-byte bytes) (λ tag. end-picked rows all tag.0 bytes tag.1)
+
+end-byte-within : (most : ℕ) → Ends (byte_within most)
+unfolding byte_within
+end-byte-within most bytes = end-then _ _ (end-byte bytes) (λ byte. end-ranged _ _ bytes byte.1)
+
+end-tags-within : {A : Type 0} (last : ℕ) (rows : List (ℕ × Reader A)) → AllEnd rows → Ends (by_tag_within last rows)
+unfolding by_tag_within then_at
+end-tags-within last rows all bytes = end-then _ _ (end-byte-within last bytes) (λ tag. end-picked rows all tag.0 bytes tag.1)
 
 end-clock : (bytes : List ℕ) → AtEnd (clock_at bytes)
 unfolding clock_at
@@ -174,12 +176,57 @@ unfolding size_at
 end-size = end-next (end-signed size_limit) (λ w. end-next (end-signed size_limit) (λ h. end-pure _))
 
 end-look : Ends look_at
-unfolding look_at AllEnd
+unfolding look_at
 end-look = end-tags look_rows (end-next end-colour (λ colour. end-pure _) & end-next end-fill (λ fill. end-pure _) & end-next end-width (λ width. end-pure _) & tt)
 
 end-text : (v : version.Version) → Ends (label_at v)
 unfolding label_at
 end-text v = end-label (most_label_in v)
+
+-- ---- objects
+
+end-kind : Ends kind_at
+unfolding kind_at
+end-kind = end-tags kind_rows (end-pure _ & end-pure _ & end-pure _ & end-pure _ & end-pure _ & tt)
+
+end-thin : Ends thin_at
+unfolding thin_at then_at
+end-thin bytes = end-then _ _ (end-byte bytes) (λ width. end-ranged _ _ bytes width.1)
+
+end-flag : Ends flag_at
+unfolding flag_at
+end-flag = end-tags flag_rows (end-pure _ & end-pure _ & tt)
+
+end-parent : (naming : Option Naming) → Ends (parent_at naming)
+unfolding parent_at parent_id_at
+end-parent None bytes = end-stamp bytes
+end-parent (Some naming) bytes = end-then _ _ (end-id naming.stamp bytes) (λ parent. end-either _ _ _ (end-ok parent) (end-fault FutureId bytes (λ e. cc)))
+
+end-some-link : (naming : Option Naming) → Ends (some_link_at naming)
+unfolding some_link_at
+end-some-link naming = end-next (end-parent naming) (λ parent. end-next (end-signed place_limit) (λ dx. end-next (end-signed place_limit) (λ dy. end-pure _)))
+
+end-link : (naming : Option Naming) → Ends (link_at naming)
+unfolding link_at
+end-link naming = end-tags (link_rows naming) (end-pure _ & end-some-link naming & tt)
+
+end-given : (stamp : Option Stamp) → Ends (given_at stamp)
+unfolding given_at
+end-given None = end-stamp
+end-given (Some stamp) = end-id stamp
+
+end-rank : (stamp : Option Stamp) → Ends (rank_at stamp)
+unfolding rank_at
+end-rank stamp = end-tags (rank_rows stamp) (end-next (end-given stamp) (λ given. end-pure _) & end-next (end-given stamp) (λ given. end-pure _) & tt)
+
+pub end-object : (naming : Option Naming) → Ends (object_at naming)
+unfolding object_at
+end-object naming =
+    end-next end-kind (λ kind. end-next (end-signed place_limit) (λ x. end-next (end-signed place_limit) (λ y. end-next (end-signed size_limit) (λ w. end-next (end-signed size_limit) (λ h.
+    end-next end-colour (λ stroke. end-next end-fill (λ fill. end-next end-thin (λ width. end-next (end-label most_label) (λ label. end-next (end-link naming) (λ link. end-next end-flag (λ dissolved.
+    end-next (end-rank _) (λ rank. end-pure _))))))))))))
+
+-- ---- operations
 
 end-create : (v : version.Version) → Ends (create_at v)
 unfolding create_at
@@ -187,13 +234,13 @@ end-create v =
     end-next end-shape (λ kind. end-next (end-signed place_limit) (λ x. end-next (end-signed place_limit) (λ y. end-next (end-signed size_limit) (λ w. end-next (end-signed size_limit) (λ h.
     end-next (end-text v) (λ label. end-pure _))))))
 
-end-set : (stamp : Stamp) (content : Reader Said) → Ends content → Ends (set_at stamp content)
+end-set : (stamp : Stamp) (content : Reader Done) → Ends content → Ends (set_at stamp content)
 unfolding set_at
 end-set stamp content then = end-next (end-id stamp) (λ id. end-next then (λ c. end-pure _))
 
-end-count : Ends member_count_at
-unfolding member_count_at
-end-count bytes = end-then _ _ (end-byte bytes) (λ count. end-ranged _ _ bytes count.1)
+end-count : (least : ℕ) → Ends (count_at least)
+unfolding count_at
+end-count least bytes = end-then _ _ (end-byte bytes) (λ count. end-ranged _ _ bytes count.1)
 
 end-member-id : (stamp : Stamp) (last : Option Stamp) → Ends (member_id_at stamp last)
 unfolding member_id_at
@@ -205,58 +252,46 @@ end-member stamp last = end-next (end-member-id stamp last) (λ id. end-next (en
 
 end-group : (stamp : Stamp) → Ends (group_at stamp)
 unfolding group_at
-end-group stamp = end-next end-count (λ count. end-next (end-many _ _ (end-member stamp) count None) (λ members. end-pure _))
+end-group stamp = end-next (end-count 2) (λ count. end-next (end-many _ _ (end-member stamp) count None) (λ members. end-pure _))
+
+end-tie : (stamp : Stamp) (last : Option Stamp) → Ends (tie_at stamp last)
+unfolding tie_at
+end-tie stamp last = end-next (end-member-id stamp last) (λ id. end-next (end-link _) (λ link. end-pure _))
+
+end-all-ties : (least : ℕ) (stamp : Stamp) → Ends (all_ties_at least stamp)
+unfolding all_ties_at
+end-all-ties least stamp = end-next (end-count least) (λ count. end-many _ _ (end-tie stamp) count None)
+
+end-restore : (stamp : Stamp) → Ends (restore_at stamp)
+unfolding restore_at
+end-restore stamp = end-next (end-id stamp) (λ id. end-next (end-object _) (λ object. end-next (end-all-ties 0 stamp) (λ ties. end-pure _)))
+
+end-disband : (stamp : Stamp) → Ends (disband_at stamp)
+unfolding disband_at
+end-disband stamp = end-next (end-id stamp) (λ id. end-next (end-all-ties 1 stamp) (λ ties. end-pure _))
 
 end-op : (v : version.Version) (stamp : Stamp) → Ends (op_at v stamp)
-unfolding op_at AllEnd
-end-op v stamp = end-tags (op_rows v stamp) (
+unfolding op_at
+end-op v stamp = end-tags-within _ (op_rows v stamp) (
     end-create v
     & end-next (end-id stamp) (λ id. end-pure _)
     & end-set stamp _ (end-next (end-text v) (λ label. end-pure _))
     & end-group stamp
+    & end-restore stamp
+    & end-disband stamp
     & end-set stamp _ end-place
     & end-set stamp _ end-size
     & end-set stamp _ end-look
     & end-set stamp _ (end-pure _)
     & end-set stamp _ (end-pure _)
-    & end-since versions.Two v _ (end-set stamp _ (end-pure _) & tt))
+    & end-set stamp _ (end-pure _)
+    & end-set stamp _ (end-next (end-rank _) (λ rank. end-pure _))
+    & end-set stamp _ (end-pure _)
+    & tt)
 
 pub end-event : (bytes : List ℕ) → AtEnd (drawing.event_at bytes)
 unfolding event_at
 end-event bytes = end-then _ _ (end-stamp bytes) (λ stamp. end-then _ _ (end-number stamp.1) (λ number. end-then _ _ (end-op _ stamp.0 number.1) (λ op. end-ok _)))
-
--- ---- objects
-
-end-kind : Ends kind_at
-unfolding kind_at AllEnd
-end-kind = end-tags kind_rows (end-pure _ & end-pure _ & end-pure _ & end-pure _ & end-pure _ & tt)
-
-end-thin : Ends thin_at
-unfolding thin_at then_at
-end-thin bytes = end-then _ _ (end-byte bytes) (λ width. end-ranged _ _ bytes width.1)
-
-end-flag : Ends flag_at
-unfolding flag_at AllEnd
-end-flag = end-tags flag_rows (end-pure _ & end-pure _ & tt)
-
-end-some-link : Ends some_link_at
-unfolding some_link_at
-end-some-link = end-next end-stamp (λ parent. end-next (end-signed place_limit) (λ dx. end-next (end-signed place_limit) (λ dy. end-pure _)))
-
-end-link : Ends link_at
-unfolding link_at AllEnd
-end-link = end-tags link_rows (end-pure _ & end-some-link & tt)
-
-end-rank : Ends rank_at
-unfolding rank_at AllEnd
-end-rank = end-tags rank_rows (end-next end-stamp (λ stamp. end-pure _) & end-next end-stamp (λ stamp. end-pure _) & tt)
-
-pub end-object : Ends object_at
-unfolding object_at
-end-object =
-    end-next end-kind (λ kind. end-next (end-signed place_limit) (λ x. end-next (end-signed place_limit) (λ y. end-next (end-signed size_limit) (λ w. end-next (end-signed size_limit) (λ h.
-    end-next end-colour (λ stroke. end-next end-fill (λ fill. end-next end-thin (λ width. end-next (end-label most_label) (λ label. end-next end-link (λ link. end-next end-flag (λ dissolved.
-    end-next end-rank (λ rank. end-pure _))))))))))))
 
 -- ---- the head, and what is known of a site
 

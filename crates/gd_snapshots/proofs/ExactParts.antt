@@ -18,7 +18,7 @@ use Rattle.gd_grammar.proofs.Exact.{joined, spelt, taking, done, exact_field}
 use Rattle.gd_grammar.proofs.ExactFields.{exact_word, exact_site, exact_stamp}
 use Rattle.gd_grammar.proofs.ExactFrame.{exact-version, exact-half, exact-six}
 use Rattle.gd_grammar.proofs.ExactHeader.{exact-magic, exact-sites}
-use Rattle.gd_snapshots.specs.ObjectBytes.{object_bytes}
+use Rattle.gd_grammar.specs.Spelling.{object_bytes}
 use Rattle.gd_snapshots.specs.Snapshots.{IsKept, IsKnown, IsPlaced, is_bounded}
 use Rattle.gd_snapshots.specs.SnapshotBytes.{SnapshotHead, SnapshotMisread, in_view, snapshot_magic, head_at, known_at, number_within, placed_at, kept_at, known_bytes, placed_bytes}
 use Rattle.gd_snapshots.specs.declared.known.Known.{Known}
@@ -34,7 +34,7 @@ pub record IsSnapshotHead (h : SnapshotHead) : Type 0 where
   pub few : h.sites ≤ SITES
 
 abbrev pub head_spelling : SnapshotHead → List ℕ
-head_spelling h = word_bytes snapshot_magic ++ 2 ∷ [] ++ word_bytes h.session ++ h.site ∷ [] ++ h.sites ∷ []
+head_spelling h = word_bytes snapshot_magic ++ 3 ∷ [] ++ word_bytes h.session ++ h.site ∷ [] ++ h.sites ∷ []
 
 pub exact_head : Exact head_at IsSnapshotHead head_spelling
 unfolding head_at
@@ -42,8 +42,8 @@ exact_head = record {
   written = λ h rest s.
       let lower : h.site ≤ SITES = omega (arith, s.site_below, s.few) in
       rw (
-        (exact-magic snapshot_magic (omega arith)).written snapshot_magic (2 ∷ (word_bytes h.session ++ h.site ∷ h.sites ∷ rest)) refl,
-        exact-version.written 2 (word_bytes h.session ++ h.site ∷ h.sites ∷ rest) refl,
+        (exact-magic snapshot_magic (omega arith)).written snapshot_magic (3 ∷ (word_bytes h.session ++ h.site ∷ h.sites ∷ rest)) refl,
+        exact-version.written 3 (word_bytes h.session ++ h.site ∷ h.sites ∷ rest) refl,
         exact_word.written h.session (h.site ∷ h.sites ∷ rest) s.session,
         exact_site.written h.site (h.sites ∷ rest) (s.site_above, lower),
         (exact-sites h.site).written h.sites rest (record { below = s.site_below; few = s.few }),

@@ -6,22 +6,21 @@ use Rattle.std.proofs.lemmas.Bool.{leb-true, and_parts}
 use Rattle.std.proofs.lemmas.List.{length-append}
 use Rattle.gd_base.specs.Stamps.{Stamp}
 use Rattle.gd_base.specs.declared.member.Member.{Member}
-use Rattle.gd_base.specs.declared.op.Op.TheVariants.{Create, Delete, Set, Group}
+use Rattle.gd_base.specs.declared.op.Op.TheVariants.{Create, Delete, Set, Group, Restore, Disband}
 use Rattle.gd_base.specs.declared.ranges.TheConstants.{MOST_MEMBERS}
-use Rattle.gd_base.specs.declared.version.Version.TheVariants.{Two}
+use Rattle.gd_base.specs.declared.version.Version.TheVariants.{Three}
 use Rattle.gd_events.specs.Events.{Event}
 use Rattle.gd_events.specs.Sound.{IsSound}
 use Rattle.gd_events.specs.Ops.{Op}
 use Rattle.gd_grammar.specs.Drawings.{spelling}
 use Rattle.gd_grammar.specs.FieldBytes.{stamp_bytes, word_bytes, signed_bytes, label_bytes, each_bytes}
-use Rattle.gd_grammar.specs.Spelling.{fill_bytes, member_bytes, members_bytes, op_bytes}
-use Rattle.gd_grammar.proofs.DrawingKind.{two-spelled}
+use Rattle.gd_grammar.specs.Spelling.{fill_bytes, kind_byte, flag_byte, link_bytes, rank_bytes, object_bytes, member_bytes, members_bytes, ties_bytes, op_bytes}
+use Rattle.gd_grammar.proofs.DrawingKind.{newest-spelled}
 use Rattle.gd_grammar.proofs.SoundFields.{HasFields, sound-fields}
-use Rattle.gd_model.specs.declared.object.Link.{Link}
-use Rattle.gd_model.specs.declared.object.Object.{Object}
-use Rattle.gd_model.specs.declared.rank.Rank.{Rank}
-use Rattle.gd_model.specs.declared.rank.Rank.TheVariants.{Low, High}
-use Rattle.gd_snapshots.specs.ObjectBytes.{kind_byte, flag_byte, link_bytes, rank_bytes, object_bytes}
+use Rattle.gd_base.specs.declared.object.Link.{Link}
+use Rattle.gd_base.specs.declared.object.Object.{Object}
+use Rattle.gd_base.specs.declared.rank.Rank.{Rank}
+use Rattle.gd_base.specs.declared.rank.Rank.TheVariants.{Low, High}
 use Rattle.gd_snapshots.specs.SnapshotBytes.{head_bytes, known_bytes, placed_bytes}
 use Rattle.gd_snapshots.specs.Snapshots.{Placed, Snapshot}
 use Rattle.gd_snapshots.specs.declared.known.Known.{Known}
@@ -85,16 +84,19 @@ unfolding each_bytes
 members-length [] = refl
 members-length (m ∷ ms) = omega (arith, length-append (member_bytes m) (members_bytes ms), members-length ms)
 
-op-least : (stamp : Stamp) (o : Op) → HasFields Two stamp o → 8 ≤ length (op_bytes o)
+op-least : (stamp : Stamp) (o : Op) → HasFields Three stamp o → 8 ≤ length (op_bytes o)
 op-least stamp (Create kind x y w h label) s = omega arith
 op-least stamp (Delete id) s = omega arith
 op-least stamp (Set id content) s = omega arith
 op-least stamp (Group members) s =
     let two = leb-true 2 (length members) (and_parts (nat_le 2 (length members)) (nat_le (length members) MOST_MEMBERS) s.count).0 in
     omega (arith, two, members-length members)
+op-least stamp (Restore id object ties) s =
+    omega (arith, length-append (stamp_bytes id ++ object_bytes object) (ties_bytes ties), length-append (stamp_bytes id) (object_bytes object))
+op-least stamp (Disband id ties) s = omega (arith, length-append (stamp_bytes id) (ties_bytes ties))
 
 -- 7 of the stamp, 2 of the number, and at least 8 of the operation
 pub spelling-least : (e : Event) → IsSound e → 17 ≤ length (spelling e)
 spelling-least e sound =
-    let fields = sound-fields Two e.stamp e.op (record { is_op = sound.op; spelled = two-spelled e.op }) in
+    let fields = (sound-fields Three e.stamp e.op (record { is_op = sound.op; spelled = newest-spelled e.op })).0 in
     omega (arith, length-append (stamp_bytes e.stamp) (bytes_high_first 2 e.number ++ op_bytes e.op), op-least e.stamp e.op fields)

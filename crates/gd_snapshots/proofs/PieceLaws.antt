@@ -1,23 +1,24 @@
 -- The pieces of which a snapshot is read: its head, what is known of a site, a number, an id, an object and an event.
-use Rattle.std.proofs.Common.{ℕ, ◌≤◌, List, length, arith}
+use Rattle.std.proofs.Common.{ℕ, ◌≤◌, List, None, length, arith}
 use Rattle.gd_grammar.specs.Drawings.{event_at}
 use Rattle.gd_grammar.specs.Exact.{Exact}
 use Rattle.gd_grammar.specs.Fields.{stamp_at, word_at}
+use Rattle.gd_grammar.specs.ObjectBytes.{object_at}
 use Rattle.gd_grammar.specs.Reading.{Reads}
 use Rattle.gd_grammar.specs.Steady.{Steady}
-use Rattle.gd_grammar.specs.declared.sizes.TheConstants.{EVENT_BYTES}
+use Rattle.gd_grammar.specs.declared.sizes.TheConstants.{EVENT_BYTES, OBJECT_BYTES}
 use Rattle.gd_grammar.proofs.DrawingEvents.{Steady-event, exact_event}
 use Rattle.gd_grammar.proofs.ExactFields.{exact_stamp, exact_word}
 use Rattle.gd_grammar.proofs.Steady.{Steady-weaken}
 use Rattle.gd_grammar.proofs.SteadyFields.{Steady-stamp, Steady-word}
-use Rattle.gd_snapshots.specs.ObjectBytes.{object_at}
+use Rattle.gd_grammar.proofs.SteadyObject.{Steady-object}
 use Rattle.gd_snapshots.specs.Pieces.{PieceLaws}
 use Rattle.gd_snapshots.specs.SnapshotBytes.{head_at, known_at}
 use Rattle.gd_snapshots.proofs.Ends.{AtEnd, end-stamp, end-word, end-event, end-object, end-head, end-known}
 use Rattle.gd_snapshots.proofs.ExactObject.{exact_object}
 use Rattle.gd_snapshots.proofs.ExactParts.{exact_head, exact_known}
 use Rattle.gd_snapshots.proofs.Lengths.{object-least, spelling-least}
-use Rattle.gd_snapshots.proofs.SteadyParts.{Steady-object, Steady-head, Steady-known}
+use Rattle.gd_snapshots.proofs.SteadyParts.{Steady-head, Steady-known}
 
 piece : {A : Type 0} {read : List ℕ → Reads A} {Sound : A → Type 0} {spell : A → List ℕ} (most least : ℕ)
     → Exact read Sound spell → Steady most read → most ≤ EVENT_BYTES → ((x : A) → Sound x → least ≤ length (spell x)) → ((bytes : List ℕ) → AtEnd (read bytes)) → PieceLaws read least
@@ -41,8 +42,8 @@ number_piece = piece 4 4 exact_word Steady-word (omega arith) (λ n s. omega ari
 pub id_piece : PieceLaws stamp_at 7
 id_piece = piece 7 7 exact_stamp Steady-stamp (omega arith) (λ id s. omega arith) end-stamp
 
-pub object_piece : PieceLaws object_at 37
-object_piece = piece 252 37 exact_object Steady-object (omega arith) (λ o s. object-least o) end-object
+pub object_piece : PieceLaws (object_at None) 37
+object_piece = piece OBJECT_BYTES 37 exact_object (Steady-object None) (omega arith) (λ o s. object-least o) (end-object None)
 
 pub event_piece : PieceLaws event_at 17
 event_piece = piece EVENT_BYTES 17 exact_event Steady-event (omega arith) spelling-least end-event

@@ -1,4 +1,3 @@
-pub mod ObjectBytes
 pub mod Snapshots
 pub mod SnapshotBytes
 pub mod Pieces

@@ -1,4 +1,4 @@
--- The bytes of a snapshot, which has version 2: a head, what is known of each site, the number of its objects, the objects
+-- The bytes of a snapshot, which has version 3: a head, what is known of each site, the number of its objects, the objects
 -- each behind its id, the number of its kept events, and the events. What follows them is no part of it.
 --
 -- An id that isn't above the one before it is Order at its first byte, which is judged once the id was read. Once a kept event
@@ -21,8 +21,9 @@ use Rattle.gd_grammar.specs.FieldBytes.{stamp_bytes, word_bytes, each_bytes}
 use Rattle.gd_grammar.specs.Fields.{site_at, stamp_at, word_at}
 use Rattle.gd_grammar.specs.FrameBytes.{frame_version_at, half_at, six_at}
 use Rattle.gd_grammar.specs.HeaderBytes.{magic_at, sites_at}
+use Rattle.gd_grammar.specs.ObjectBytes.{object_at}
 use Rattle.gd_grammar.specs.Reading.{Reads, many_at, ranged}
-use Rattle.gd_snapshots.specs.ObjectBytes.{object_at, object_bytes}
+use Rattle.gd_grammar.specs.Spelling.{object_bytes}
 use Rattle.gd_snapshots.specs.Snapshots.{Placed, Snapshot, id_of, is_bounded, stamp_of, total}
 use Rattle.gd_snapshots.specs.declared.known.Known.{Known}
 
@@ -101,7 +102,7 @@ unfoldable pub placed_at : Option Stamp → List ℕ → Views Placed
 placed_at last bytes =
     in_view (stamp_at bytes)
     >>= λ id. if is_above last id.0
-    then (in_view (object_at id.1) >>= λ object. Ok ((id.0, object.0), object.1))
+    then (in_view (object_at None id.1) >>= λ object. Ok ((id.0, object.0), object.1))
     else Err (misread_at Order bytes)
 
 abbrev pub objects_at : ℕ → Option Stamp → List ℕ → Views (List Placed)
@@ -137,7 +138,7 @@ snapshot_at bytes =
 -- ---- the bytes as a function of the snapshot
 
 abbrev pub head_bytes : Snapshot → List ℕ
-head_bytes s = word_bytes snapshot_magic ++ 2 ∷ [] ++ word_bytes s.session ++ s.site ∷ [] ++ length s.known ∷ []
+head_bytes s = word_bytes snapshot_magic ++ 3 ∷ [] ++ word_bytes s.session ++ s.site ∷ [] ++ length s.known ∷ []
 
 abbrev pub known_bytes : Known → List ℕ
 known_bytes k = bytes_high_first 2 k.count ++ bytes_high_first 6 k.sure

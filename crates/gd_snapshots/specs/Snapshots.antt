@@ -12,10 +12,10 @@ use Rattle.gd_base.specs.declared.ranges.TheConstants.{CLOCK_LIMIT, SITES}
 use Rattle.gd_events.specs.Events.{Event}
 use Rattle.gd_events.specs.Sound.{IsSound, is_above}
 use Rattle.gd_grammar.specs.Reading.{AllFollow}
-use Rattle.gd_model.specs.declared.object.Link.{Link}
-use Rattle.gd_model.specs.declared.object.Object.{Object}
-use Rattle.gd_model.specs.declared.rank.Rank.{Rank}
-use Rattle.gd_model.specs.declared.rank.Rank.TheVariants.{Low, High}
+use Rattle.gd_base.specs.declared.object.Link.{Link}
+use Rattle.gd_base.specs.declared.object.Object.{Object}
+use Rattle.gd_base.specs.declared.rank.Rank.{Rank}
+use Rattle.gd_base.specs.declared.rank.Rank.TheVariants.{Low, High}
 use Rattle.gd_snapshots.specs.declared.known.Known.{Known}
 
 -- an object under its id

@@ -1,4 +1,4 @@
-//! What holds of the bytes of snapshots: contracts of functions that do nothing, or only call another such function.
+//! What holds of the bytes of snapshots: contracts of functions that do nothing.
 ghost use Rattle.std.specs.Prelude.{◌≡◌, ◌++◌, ℕ, List, Ok};
 ghost use Rattle.gd_grammar.specs.FieldBytes.{AreBytes};
 ghost use Rattle.gd_snapshots.specs.SnapshotBytes.{snapshot_at, snapshot_bytes};
@@ -27,6 +27,4 @@ pub fn no_snapshot_begins_another()
 /// The bytes of a good snapshot are bytes.
 pub fn a_snapshot_is_bytes()
     ensures { (s : Snapshot) → IsSnapshot s → AreBytes (snapshot_bytes s) }
-{
-    gd_grammar::laws::a_spelling_is_bytes();
-}
+{}

@@ -1,3 +1,3 @@
-pub mod Rings
-pub mod Ranges
-pub mod Taking
+pub mod Newest
+pub mod Answering
+pub mod Standing

@@ -1,4 +1,3 @@
-pub mod Backs
-pub mod Rings
+pub mod Lists
 pub mod Answers
 pub mod Standing

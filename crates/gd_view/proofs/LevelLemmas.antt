@@ -10,9 +10,10 @@ use Rattle.std.specs.BTreeSet.{insert_key}
 use Rattle.std.specs.Cmp.{IsTotalOrder}
 use Rattle.std.proofs.Math.Seq.{drop-length}
 use Rattle.gd_base.specs.Stamps.{stamp_cmp, is_same}
-use Rattle.gd_base.proofs.StampLemmas.{stamp_cmp-total, is_same-true, is_same-refl}
+use Rattle.gd_base.proofs.StampLemmas.{is_same-true, is_same-refl}
+use Rattle.gd_base.specs.StampTotal.{stamp_cmp-total}
 use Rattle.gd_base.specs.Stamps.{Stamp}
-use Rattle.gd_model.specs.declared.object.Object.{Object}
+use Rattle.gd_base.specs.declared.object.Object.{Object}
 use Rattle.gd_model.specs.Board.{Board, levels, stack}
 use Rattle.gd_drawing.proofs.Stacking.{level_cmp-total, level_cmp-IsAntisymmetric, level_test, at_rank, level_step, not_found, get-stack, t_first, t_second}
 use Rattle.gd_canvas.specs.Slots.{Slots}
@@ -26,8 +27,8 @@ use Rattle.gd_base.specs.declared.item.Item.{Item}
 use Rattle.gd_drawing.proofs.Entries.{level_from_eq}
 use Rattle.gd_drawing.proofs.Listed.{some_ranked}
 use Rattle.std.proofs.lemmas.List.{nil_from_length}
-use Rattle.gd_model.specs.declared.rank.Level.{Level}
-use Rattle.gd_model.specs.Ranks.{level, level_cmp, is_same_rank}
+use Rattle.gd_base.specs.declared.rank.Level.{Level}
+use Rattle.gd_base.specs.Ranks.{level, level_cmp, is_same_rank}
 use Rattle.gd_drawing.proofs.RankLemmas.{is_same_rank-refl}
 use Rattle.gd_view.specs.Sums.{with_id}
 use Rattle.gd_view.specs.Levels.{level_of, with_level, item_of}

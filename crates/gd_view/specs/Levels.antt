@@ -2,12 +2,12 @@
 use Rattle.std.specs.Prelude.{List, Option, None, Some}
 use Rattle.std.specs.BTreeSet.{insert_key}
 use Rattle.gd_base.specs.Stamps.{Stamp}
-use Rattle.gd_model.specs.declared.object.Object.{Object}
+use Rattle.gd_base.specs.declared.object.Object.{Object}
 use Rattle.gd_model.specs.Drawing.{Drawing}
 use Rattle.gd_model.specs.Shown.{shown}
 use Rattle.gd_base.specs.declared.item.Item.{Item}
-use Rattle.gd_model.specs.declared.rank.Level.{Level}
-use Rattle.gd_model.specs.Ranks.{level, level_cmp}
+use Rattle.gd_base.specs.declared.rank.Level.{Level}
+use Rattle.gd_base.specs.Ranks.{level, level_cmp}
 
 -- the level of an object
 abbrev pub level_of : Option (Stamp × Object) → Option Level

@@ -8,9 +8,9 @@ ghost use Rattle.gd_slots.specs.Slots.{board_of};
 ghost use Rattle.gd_view.specs.Chains.{first_parent, group_in, link_limit, parent_by, sum_limit, with_link, Within};
 
 use crate::OBJECTS;
-use gd_base::Stamp;
+use gd_base::{Link, Object, Stamp};
 use gd_canvas::Canvas;
-use gd_model::{Above, Link, Object};
+use gd_model::Above;
 
 /// What stands above an object of that id and link. Ids rise along a chain, so it has at most as many links as there are
 /// objects.

@@ -10,9 +10,9 @@ ghost use Rattle.gd_view.specs.Chains.{Within};
 
 use crate::chains::above;
 use crate::seen::{is_gone, place_at};
-use gd_base::{Item, ShapeItem, Stamp};
+use gd_base::{Item, Kind, Object, ShapeItem, Stamp};
 use gd_canvas::Canvas;
-use gd_model::{Above, Kind, Object};
+use gd_model::Above;
 
 /// The item of that id. None where it isn't shown: it isn't there, is hidden, or is a dissolved group. It takes no memory.
 #[tactic(auto, using(crate::proofs::Rulesets::drawn))]

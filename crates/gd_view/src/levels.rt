@@ -6,8 +6,8 @@ ghost use Rattle.gd_model.specs.Board.{stack};
 ghost use Rattle.gd_slots.specs.Slots.{board_of, value_at};
 ghost use Rattle.gd_view.specs.Levels.{level_of, with_level};
 
+use gd_base::Level;
 use gd_canvas::Canvas;
-use gd_model::Level;
 use std::alloc::{AllocError, Global};
 use std::collections::BTreeSet;
 
@@ -34,7 +34,7 @@ fn level_at(canvas: &Canvas, place: usize) -> Option<Level>
     }
 }
 
-#[tactic(auto, unfolding(gd_base::specs::Stamps::stamp_cmp, gd_model::specs::Ranks::rank_cmp, gd_model::specs::Ranks::level_cmp))]
+#[tactic(auto, unfolding(gd_base::specs::Stamps::stamp_cmp, gd_base::specs::Ranks::rank_cmp, gd_base::specs::Ranks::level_cmp))]
 fn add(levels: &mut BTreeSet<Level>, level: Option<Level>) -> Result<(), AllocError>
     ensures { OnOk result (levels.new.keys ≡ with_level level levels.old.keys) }
 {

@@ -15,9 +15,8 @@ use crate::known::Known;
 use crate::levels::levels;
 use crate::seen::is_gone;
 use crate::sums::sums;
-use gd_base::{Item, Stamp};
+use gd_base::{Item, Object, Stamp};
 use gd_canvas::Canvas;
-use gd_model::Object;
 use std::alloc::{AllocError, Global};
 
 /// The items of all objects that are shown, in list order.

@@ -1,7 +1,6 @@
 //! Where an object is shown.
 
-use gd_base::{Place, Stamp};
-use gd_model::Kind;
+use gd_base::{Kind, Place, Stamp};
 
 /// An object as it is shown.
 #[derive(Clone, Copy, Debug, PartialEq, Eq)]

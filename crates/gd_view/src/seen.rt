@@ -11,9 +11,9 @@ ghost use Rattle.gd_view.specs.Chains.{sum_limit, Within};
 
 use crate::chains::above;
 use crate::places::Shown;
-use gd_base::{Place, Stamp};
+use gd_base::{Kind, Object, Place, Stamp};
 use gd_canvas::Canvas;
-use gd_model::{Above, Kind, Object};
+use gd_model::Above;
 
 /// The object of that id as it is shown. None where it isn't shown: it isn't there, is hidden, or is a dissolved group.
 #[tactic(auto, using(crate::proofs::Rulesets::drawn))]

@@ -15,9 +15,9 @@ ghost use Rattle.gd_view.specs.Sums.{known, above_at, AreKnown};
 use crate::chains::{first_parent, group_at, parent_by, with_link};
 use crate::ids::ids;
 use crate::known::Known;
-use gd_base::Stamp;
+use gd_base::{Link, Object, Stamp};
 use gd_canvas::Canvas;
-use gd_model::{Above, Link, Object};
+use gd_model::Above;
 use std::alloc::{AllocError, Global};
 
 /// What stands above each object.

@@ -10,13 +10,13 @@ use Rattle.gd_base.specs.Stamps.{Stamp, stamp_cmp}
 use Rattle.gd_base.specs.declared.ranges.TheConstants.{SESSION_EVENTS}
 use Rattle.gd_base.proofs.Lists.{Every-get_or, Every-weaker}
 use Rattle.gd_base.proofs.SiteLemmas.{is_site-within}
-use Rattle.gd_base.proofs.StampLemmas.{stamp_cmp-total}
+use Rattle.gd_base.specs.StampTotal.{stamp_cmp-total}
 use Rattle.gd_canvas.specs.Slots.{Slots}
 use Rattle.gd_slots.specs.Slots.{board_of}
 use Rattle.gd_events.specs.Events.{Event}
 use Rattle.gd_events.specs.Ordered.{are_distinct}
 use Rattle.gd_grammar.specs.Reading.{AllFollow}
-use Rattle.gd_model.specs.declared.object.Object.{Object}
+use Rattle.gd_base.specs.declared.object.Object.{Object}
 use Rattle.gd_model.specs.Board.{Board}
 use Rattle.gd_snapshots.specs.Snapshots.{IsKept, IsKnown, IsPlaced, IsSnapshot, Placed, Snapshot, known_of, least_sure, stamp_of, total, unknown}
 use Rattle.gd_snapshots.specs.declared.known.Known.{Known}

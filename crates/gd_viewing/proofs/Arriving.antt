@@ -3,6 +3,7 @@ use Rattle.std.proofs.Common.{◌≡◌, ℕ, suc, ◌+◌, ◌<◌, ◌≤◌, 
 use Rattle.std.proofs.lemmas.Bool.{and_parts, cond_both, eqb-false, false_from_ne_true, leb-false, not_from_false}
 use Rattle.std.proofs.lemmas.List.Folds.{list_all-append}
 use Rattle.std.specs.List.{AllByRecursion as Every}
+use Rattle.gd_backs.proofs.NextEvents.{every_below}
 use Rattle.gd_base.specs.Sites.{is_site}
 use Rattle.gd_base.specs.Stamps.{Stamp, is_before, is_same}
 use Rattle.gd_base.specs.declared.offer.Offer.{Offer}
@@ -26,7 +27,6 @@ use Rattle.gd_protocol.proofs.Least.{least_of_others-greatest}
 use Rattle.gd_protocol.proofs.Lists.{put_same}
 use Rattle.gd_protocol.proofs.Members.{every_contained, every_from_contained, made_contains}
 use Rattle.gd_protocol.proofs.Rising.{raised}
-use Rattle.gd_protocol.proofs.Steps.{every_below}
 use Rattle.gd_protocol.proofs.WellSites.{well_distinct}
 use Rattle.gd_protocol.specs.Sites.{IsWell}
 use Rattle.gd_reference.specs.Offers.{offered}

@@ -1,5 +1,5 @@
 -- The snapshot of a well site is good.
-use Rattle.std.proofs.Common.{◌≡◌, ℕ, zero, suc, ◌+◌, ◌-◌, ◌<◌, ◌≤◌, get_or, true, List, [], ◌∷◌, length, filter, Option, Some, None, Contains, refl, ap, ◌∙◌, arith, ◌==◌, le-leb, length-append}
+use Rattle.std.proofs.Common.{◌≡◌, ℕ, zero, suc, ◌+◌, ◌-◌, ◌<◌, ◌≤◌, get_or, true, List, [], ◌∷◌, length, filter, Option, Some, None, Contains, refl, sym, ap, ◌∙◌, subst, arith, ◌==◌, le-leb, length-append}
 use Rattle.std.proofs.lemmas.Bool.{and_from, cond_both, leb-true}
 use Rattle.std.specs.FinMap as map_of
 use Rattle.std.specs.List.{AllByRecursion as Every}
@@ -14,21 +14,22 @@ use Rattle.gd_events.specs.Ordered.{ordered}
 use Rattle.gd_events.specs.Sound.{IsSound, is_above}
 use Rattle.gd_events.proofs.OrderLemmas.{InOrder-ordered}
 use Rattle.gd_grammar.specs.Reading.{AllFollow}
-use Rattle.gd_model.specs.declared.object.Object.{Object}
+use Rattle.gd_base.specs.declared.object.Object.{Object}
+use Rattle.gd_model.specs.Board.{apply_all}
 use Rattle.gd_protocol.proofs.Chains.{greatest_clock-bound}
 use Rattle.gd_protocol.proofs.Drawn.{every-ordered}
 use Rattle.gd_protocol.proofs.Members.{contains_made, every_contained, every_from_contained, made_contains}
 use Rattle.gd_protocol.proofs.WellSites.{well_distinct}
 use Rattle.gd_protocol.specs.Sites.{IsWell}
 use Rattle.gd_reference.specs.SlowSite.{SlowSite, clock, count, kept, line, made_by}
-use Rattle.gd_snapshots.specs.Snapshots.{IsKept, IsKnown, IsSnapshot, is_bounded, known_of, least_sure, stamp_of, total, unknown}
+use Rattle.gd_snapshots.specs.Snapshots.{IsKept, IsKnown, IsPlaced, IsSnapshot, id_of, is_bounded, known_of, least_sure, stamp_of, total, unknown}
 use Rattle.gd_snapshots.specs.declared.known.Known.{Known}
 use Rattle.gd_viewing.proofs.Arriving.{held_below}
-use Rattle.gd_viewing.proofs.InRange.{placed_in_range}
 use Rattle.gd_viewing.proofs.Known.{known_is, length-known, line_above}
 use Rattle.gd_viewing.proofs.Lists.{Every-filter, every-passing}
+use Rattle.gd_viewing.proofs.Objects.{placed_in_range}
 use Rattle.gd_viewing.proofs.Rising.{AreRising, filtered_rise, ordered_rise}
-use Rattle.gd_viewing.proofs.Sides.{is_high, is_low, split}
+use Rattle.gd_viewing.proofs.Sides.{filter-ordered, is_high, is_low, split}
 use Rattle.gd_viewing.proofs.Tallies.{all_counted, few_made, numbered_within, total-known}
 use Rattle.gd_viewing.specs.Handing.{base_of, known_behind, known_by, snapshot_of}
 
@@ -129,8 +130,12 @@ module _ (slow : SlowSite) (well : IsWell slow) where
   abbrev low_events : List Event
   low_events = filter (is_low (line slow)) (ordered slow.held)
 
-  low_sound : Every IsSound low_events
-  low_sound = Every-filter IsSound (is_low (line slow)) (ordered slow.held) (every-ordered IsSound slow.held well.sound)
+  objects_good : AllFollow IsPlaced id_of None (map_of.entries (base_of slow))
+  objects_good =
+      let low = filter (is_low (line slow)) slow.held in
+      subst (λ (es : List Event). AllFollow IsPlaced id_of None (map_of.entries (apply_all es map_of.empty)))
+      (sym (filter-ordered (is_low (line slow)) slow.held))
+      (placed_in_range low (Every-filter IsSound (is_low (line slow)) slow.held well.sound))
 
   few_objects : length (map_of.entries (base_of slow)) + length (kept slow) ≤ total all_known
   few_objects =
@@ -151,7 +156,7 @@ snapshot_good slow well =
       site_below = omega (arith, member.1, count);
       few = let few = well.met.1 in omega (arith, few, count);
       known = all_known_good slow well 0 slow.sites;
-      objects = placed_in_range (low_events slow well) (low_sound slow well);
+      objects = objects_good slow well;
       kept = kept_good slow well;
       made = few_objects slow well;
     }

@@ -5,5 +5,5 @@ pub mod Showing
 pub mod Arriving
 pub mod Rising
 pub mod Tallies
-pub mod InRange
+pub mod Objects
 pub mod Good

@@ -3,7 +3,7 @@ use Rattle.std.proofs.Common.{◌≡◌, ◌<◌, List, ◌++◌, filter, refl, 
 use Rattle.std.proofs.lemmas.List.Sums.{fold-append}
 use Rattle.std.specs.FinMap as map_of
 use Rattle.std.specs.List.{AllByRecursion as Every}
-use Rattle.gd_base.proofs.StampLemmas.{stamp_cmp-IsAntisymmetric, stamp_cmp-total}
+use Rattle.gd_base.specs.StampTotal.{stamp_cmp-IsAntisymmetric, stamp_cmp-total}
 use Rattle.gd_drawing.proofs.InOrder.{stacking}
 use Rattle.gd_events.specs.Events.{Event}
 use Rattle.gd_events.specs.Ordered.{ordered}

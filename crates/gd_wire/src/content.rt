@@ -3,31 +3,31 @@ ghost use Rattle.std.specs.Prelude.{◌≡◌};
 ghost use Rattle.gd_base.specs.Contents.{content_map};
 ghost use Rattle.gd_base.specs.Results.{Gives};
 ghost use Rattle.gd_grammar.specs.EventBytes.{colour_at, fill_at, width_at};
-ghost use Rattle.gd_grammar.specs.OpBytes.{look_at, place_at, size_at};
+ghost use Rattle.gd_grammar.specs.OpBytes.{level_at, look_at, place_at, size_at};
 ghost use Rattle.gd_wire.specs.Packed.{said};
 
 use crate::bytes::Bytes;
 use gd_base::{
-    COLOUR_LIMIT, Content, FieldFault, FieldWhy, Label, PLACE_LIMIT, SIZE_LIMIT, Side, WIDTH_LIMIT,
-    map_content,
+    COLOUR_LIMIT, Content, FieldFault, FieldWhy, Height, Label, PLACE_LIMIT, SIZE_LIMIT, Stamp,
+    WIDTH_LIMIT, map_content,
 };
 use std::convert::Infallible;
 
 /// A content that is no label.
-pub(crate) type SmallContent = Content<Infallible, Side>;
+pub(crate) type SmallContent = Content<Infallible, Height>;
 
 /// The same as an operation has it.
-pub(crate) fn labelled(content: &SmallContent) -> Content<Label, Side>
+pub(crate) fn labelled(content: &SmallContent) -> Content<Label, Height>
     ensures { result ≡ said content.now }
 {
-    map_content!(content, none => match *none {}, side => *side)
+    map_content!(content, none => match *none {}, height => *height)
 }
 
 /// The same as a packed operation has it.
-pub(crate) fn box_labelled(content: &SmallContent) -> Content<Box<Label>, Side>
-    ensures { content_map (λ label. label.value) (λ side. side) result ≡ said content.now }
+pub(crate) fn box_labelled(content: &SmallContent) -> Content<Box<Label>, Height>
+    ensures { content_map (λ label. label.value) (λ height. height) result ≡ said content.now }
 {
-    map_content!(content, none => match *none {}, side => *side)
+    map_content!(content, none => match *none {}, height => *height)
 }
 
 /// The word that stands for no fill.
@@ -50,6 +50,15 @@ impl<'a> Bytes<'a> {
         let w = self.signed(SIZE_LIMIT)?;
         let h = self.signed(SIZE_LIMIT)?;
         Ok(Content::ToSize { w, h })
+    }
+
+    /// A rank that an object had.
+    #[tactic(auto, unfolding(gd_grammar::specs::Readers::steps))]
+    pub(crate) fn level(&mut self, stamp: Stamp) -> Result<SmallContent, FieldFault>
+        ensures { Gives (λ c. (said c, self.new)) result (level_at stamp self.old) }
+    {
+        let rank = self.rank(Some(stamp))?;
+        Ok(Content::ToRank(Height::At(rank)))
     }
 
     /// One part of a shape's look: which one, and its value.

@@ -309,12 +309,15 @@ asked_read = (
     (
       λ n fit. pure_reads _ (tt, tt),
       (
-        λ n fit. focus_read,
+        λ n fit. pure_reads _ (tt, tt),
         (
-          λ n fit. name_read,
+          λ n fit. focus_read,
           (
-            λ n fit. pure_reads _ (tt, tt),
-            edits_read,
+            λ n fit. name_read,
+            (
+              λ n fit. pure_reads _ (tt, tt),
+              edits_read,
+            ),
           ),
         ),
       ),

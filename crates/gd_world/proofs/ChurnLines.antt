@@ -63,6 +63,7 @@ one_said false a b = omega arith
 -- of a line that a churn plays
 pub replies_few : (w : World) (v : WorldValue) → StandsFor w v → (line : ScriptLine) → IsPlayed line → length (script_replies w (Ok line)) ≤ 9
 replies_few w v h (script.At site (command.Edit edit)) played = one_said (is_site w.sites site) _ _
+replies_few w v h (script.At site (command.Turn which)) played = one_said (is_site w.sites site) _ _
 replies_few w v h (script.Send from to) played = omega arith
 replies_few w v h (script.Deliver number) played = delivery_few w number (mail_of w number) (mail_is_frame w (frames_in w v h) number)
 replies_few w v h other played = absurd played

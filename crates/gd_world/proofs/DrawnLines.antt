@@ -1,5 +1,5 @@
 -- The line of a churn's step by the number that was drawn for it.
-use Rattle.std.proofs.Common.{◌≡◌, ℕ, ◌<◌, ◌≤◌, List, [], ◌∷◌, length, sym, ◌∙◌, ap, arith}
+use Rattle.std.proofs.Common.{◌≡◌, ◌≢◌, ℕ, ◌<◌, ◌≤◌, List, [], ◌∷◌, length, sym, ◌∙◌, ap, arith}
 use Rattle.std.proofs.lemmas.Bool.Decides.{nat_tests}
 use Rattle.std.specs.Prelude.{None, true}
 use Rattle.rand_pcg.specs.Lcg.{Lcg}
@@ -8,7 +8,8 @@ use Rattle.gd_base.specs.declared.content.Content.TheVariants.{ToFlag, ToRank}
 use Rattle.gd_base.specs.declared.content.Side.TheVariants.{Top}
 use Rattle.gd_base.specs.declared.op.Op.TheVariants as wish
 use Rattle.gd_lines.specs.Edits.{Edit}
-use Rattle.gd_worlds.specs.Churn.{Draws, asks, asks_of, change, create, deliver, group, known, line_for, move, send, stroke}
+use Rattle.gd_lines.specs.declared.command.Turn.TheVariants.{Undo, Redo}
+use Rattle.gd_worlds.specs.Churn.{Draws, asks, asks_of, change, create, deliver, group, known, line_for, move, send, stroke, turns}
 use Rattle.gd_world.specs.Drawn.{IsOfOne, edit_at}
 
 -- ---- what number stands for what
@@ -46,9 +47,17 @@ module _ (made : List Stamp) (mails site number : ℕ) where
   unfolding line_for
   line_sends h k = grind (arith, nat_tests)
 
-  pub line_delivers : 14 ≤ number → line_for made mails site number ≡ deliver mails
+  pub line_delivers : 14 ≤ number → number < 16 → line_for made mails site number ≡ deliver mails
   unfolding line_for
-  line_delivers h = grind (arith, nat_tests)
+  line_delivers h k = grind (arith, nat_tests)
+
+  pub line_undoes : number ≡ 16 → line_for made mails site number ≡ turns site Undo
+  unfolding line_for
+  line_undoes e = rw e
+
+  pub line_redoes : 16 ≤ number → number ≢ 16 → line_for made mails site number ≡ turns site Redo
+  unfolding line_for
+  line_redoes h other = grind (arith, nat_tests)
 
 pub line_idles : (mails site number : ℕ) → 4 ≤ number → number < 12 → line_for [] mails site number ≡ known None
 unfolding line_for

@@ -3,10 +3,10 @@ use Rattle.std.proofs.Common.{◌≡◌, ℕ, ◌+◌, ◌⊎◌, inl, inr, List
 use Rattle.std.proofs.lemmas.Bool.{cond_both}
 use Rattle.std.specs.List.{filter}
 use Rattle.std.specs.Prelude.{Option, None, Some, Result, Ok, Err, IfOk, OnErr, nat_le, option_map}
-use Rattle.gd_answers.proofs.Refused.{IsErrAs, edit_as, undo_as}
+use Rattle.gd_answers.proofs.Refused.{IsErrAs, edit_as, turn_as}
 use Rattle.gd_answers.proofs.Said.{next_said}
 use Rattle.gd_answers.specs.Noting.{noted_reply}
-use Rattle.gd_answers.specs.Refusals.{refused_edit, refused_undo}
+use Rattle.gd_answers.specs.Refusals.{refused_edit, refused_turn}
 use Rattle.gd_base.specs.Stamps.{Stamp}
 use Rattle.gd_base.specs.declared.note.Note.{Note}
 use Rattle.gd_base.specs.declared.refusal.EditRefusal.{EditRefusal}
@@ -18,19 +18,21 @@ use Rattle.gd_lines.specs.Edits.{Edit}
 use Rattle.gd_lines.specs.Refusals.{edit_refusal}
 use Rattle.gd_lines.specs.declared.command.Command.{Command}
 use Rattle.gd_lines.specs.declared.command.Command.TheVariants as command
+use Rattle.gd_lines.specs.declared.command.Turn.{Turn}
 use Rattle.gd_lines.specs.declared.reply.Reply.{Reply}
 use Rattle.gd_lines.specs.declared.reply.Reply.TheVariants as reply
-use Rattle.gd_reference.specs.Judging.{edit, with_own}
+use Rattle.gd_reference.specs.Backs.{with_edit, with_turn}
+use Rattle.gd_reference.specs.Judging.{edit}
 use Rattle.gd_reference.specs.NodeRun.{command_replies}
-use Rattle.gd_reference.specs.SiteEffects.{edit_reply, note_reply, of_own, of_taken_back, undo_reply}
+use Rattle.gd_reference.specs.SiteEffects.{edit_reply, note_reply, of_own, of_turned, turn_reply}
 use Rattle.gd_reference.specs.SlowSite.{SlowSite, status}
-use Rattle.gd_reference.specs.TakeBack.{BackRefusal, after_edit, after_undo, back, back_refusal, backs_with, backs_without, undo}
+use Rattle.gd_reference.specs.TakeBack.{BackRefusal, after_edit, after_turn, back_refusal, turn, with_back}
 use Rattle.gd_reference.specs.World.{Focuses, Names, Prints, after_line, most_notes, noted, refocused, renamed}
 use Rattle.gd_site.specs.Answers.{EditIs, next_note}
 use Rattle.gd_site.specs.Sites.{StandsFor}
 use Rattle.gd_site.specs.declared.answers.EditFault.{EditFault}
 use Rattle.gd_site.specs.declared.answers.NoteEnd as site
-use Rattle.gd_takeback.specs.Answers.{UndoIs}
+use Rattle.gd_takeback.specs.Answers.{TurnIs}
 use Rattle.gd_takeback.specs.Standing.{StandsWith}
 use Rattle.gd_takeback.specs.declared.take_back.BackFault.{BackFault}
 use Rattle.gd_world.proofs.Paying.{pays_all, pays_none}
@@ -132,8 +134,8 @@ Makes slow asked e = (command_replies slow asked ≡ reply.Done e.stamp ∷ []) 
 pub edit_makes : (slow : SlowSite) (wanted : Edit) (e : Event) → edit slow wanted ≡ Ok e → Makes slow (command.Edit wanted) e
 edit_makes slow wanted e is = (ap (λ r. edit_reply r ∷ []) is, ap (λ r. filter is_work (of_own slow r)) is ∙ one_made slow e)
 
-pub undo_makes : (slow : SlowSite) (e : Event) → undo slow ≡ Ok e → Makes slow command.Undo e
-undo_makes slow e is = (ap (λ r. undo_reply r ∷ []) is, ap (λ r. filter is_work (of_taken_back slow r)) is ∙ one_made slow e)
+pub turn_makes : (slow : SlowSite) (which : Turn) (e : Event) → turn slow which ≡ Ok e → Makes slow (command.Turn which) e
+turn_makes slow which e is = (ap (λ r. turn_reply r ∷ []) is, ap (λ r. filter is_work (of_turned slow r)) is ∙ one_made slow e)
 
 module _ (slow : SlowSite) (asked : Command) (before : ℕ) {after : ℕ} {member : Member} (r : Result (List Reply) WorldFault) where
   pub tells_made : (e : Event) → Makes slow asked e → (id : Stamp) → id ≡ e.stamp → IfOk r (λ rs. rs ≡ reply.Done id ∷ []) → OnErr r (r ≡ Err NoMemory)
@@ -156,20 +158,21 @@ edit_refuses slow wanted why is = go (refused_edit why) (edit_as (edit slow want
     go None k = tt
     go (Some refusal) k = (
       ap (λ r. edit_reply r ∷ []) k,
-      ap (λ r. record (with_own slow r) { backs = backs_with (back slow wanted) slow.backs r }) k,
+      ap (λ r. with_back slow r with_edit) k,
       ap (λ r. filter is_work (of_own slow r)) k,
     )
 
-pub undo_refuses : (slow : SlowSite) (why : BackFault) → UndoIs (undo slow) (Err why) → Refuses (option_map back_refusal (refused_undo why)) slow command.Undo
-unfolding after_undo after_line
-undo_refuses slow why is = go (refused_undo why) (undo_as (undo slow) why is)
+pub turn_refuses : (slow : SlowSite) (which : Turn) (why : BackFault) → TurnIs (turn slow which) (Err why)
+    → Refuses (option_map back_refusal (refused_turn why)) slow (command.Turn which)
+unfolding after_turn after_line
+turn_refuses slow which why is = go (refused_turn why) (turn_as (turn slow which) why is)
   where
-    go : (w : Option BackRefusal) → IsErrAs w (undo slow) → Refuses (option_map back_refusal w) slow command.Undo
+    go : (w : Option BackRefusal) → IsErrAs w (turn slow which) → Refuses (option_map back_refusal w) slow (command.Turn which)
     go None k = tt
     go (Some refusal) k = (
-      ap (λ r. undo_reply r ∷ []) k,
-      ap (λ r. record (with_own slow r) { backs = backs_without slow.backs r }) k,
-      ap (λ r. filter is_work (of_taken_back slow r)) k,
+      ap (λ r. turn_reply r ∷ []) k,
+      ap (λ r. with_back slow r (with_turn which)) k,
+      ap (λ r. filter is_work (of_turned slow r)) k,
     )
 
 module _ (slow : SlowSite) (asked : Command) {before after : ℕ} {member : Member} (why : Option Refusal) (owes : Refuses why slow asked) where

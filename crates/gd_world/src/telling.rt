@@ -39,7 +39,7 @@ pub(crate) fn tell<L: Ledger>(
             Ok(event) => only(alloc, Reply::Done { id: event.stamp() }),
             Err(fault) => refused(alloc, edit_refusal(fault)),
         },
-        Command::Undo => match member.backs.undo(&mut member.site, steps) {
+        Command::Turn(which) => match member.backs.turn(&mut member.site, *which, steps) {
             Ok(event) => only(alloc, Reply::Done { id: event.stamp() }),
             Err(fault) => refused(alloc, back_refusal(fault)),
         },

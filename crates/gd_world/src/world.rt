@@ -170,7 +170,7 @@ fn new_members(alloc: Global, n: u8, session: u32) -> Result<Vec<Member>, AllocE
     let mut members = Vec::new(alloc);
     'each: for before in 0..n {
         let site = Site::new(alloc, before + 1, n, session)?;
-        let backs = TakeBack::new();
+        let backs = TakeBack::new(alloc);
         members.push(Member { site, backs })?;
     }
     Ok(members)

@@ -2,14 +2,15 @@
 --
 -- Churn is a rehearsal whose lines are drawn, and of which only numbers are printed, at its end. Each draw is the next word of
 -- 32 bits that the generator PCG32 (XSH RR) gives from the seed, modulo how many values there are. A step draws a site, and
--- then a number below 16 that says what is done: the site makes an object or changes one, it sends a frame, or some mail is
--- delivered (`line_for`). What is changed is one of the objects that were made in the session so far, shown or not, in the
--- order in which they were made. Where none was made yet the step is idle, and draws no more; so it is where there is no mail
--- to deliver.
+-- then a number below 18 that says what is done: the site makes an object or changes one, it takes an edit back or does one
+-- again, it sends a frame, or some mail is delivered (`line_for`). What is changed is one of the objects that were made in the
+-- session so far, shown or not, in the order in which they were made. Where none was made yet the step is idle, and draws no
+-- more; so it is where there is no mail to deliver.
 --
 -- Behind the steps come rounds, four and one more for every eight steps. In a round each site sends a frame to each other one,
--- and that mail is delivered at once. Then seven lines say where each site stands, how often an edit was accepted or refused,
--- a mail sent or delivered, and a step idle, how the events went that were delivered, and whether all sites show the same.
+-- and that mail is delivered at once. Then seven lines say where each site stands, how often an edit, an undo or a
+-- redo was accepted or refused, a mail sent or delivered, and a step idle, how the events went that were delivered, and whether
+-- all sites show the same.
 use Rattle.std.specs.Prelude.{ℕ, zero, suc, pos, ◌+◌, ◌/◌, ◌%◌, Bool, true, false, List, [], ◌∷◌, ◌++◌, length, map, fold, flat_map, Option, Some, None, Ok, slice_index_or, ◌==◌, nat_lt, bytes_eq, if◌then◌else◌}
 use Rattle.std.specs.List.{concat, list_all}
 use Rattle.rand_core.specs.Pcg32Seed.{pcg32_seed}
@@ -23,6 +24,8 @@ use Rattle.gd_base.specs.declared.shape.Shape.TheVariants.{Rect}
 use Rattle.gd_effects.specs.Effects.{Effect}
 use Rattle.gd_lines.specs.Edits.{Edit}
 use Rattle.gd_lines.specs.declared.command.Command.TheVariants as command
+use Rattle.gd_lines.specs.declared.command.Turn.{Turn}
+use Rattle.gd_lines.specs.declared.command.Turn.TheVariants.{Undo, Redo}
 use Rattle.gd_lines.specs.declared.command.ScriptLine.{ScriptLine}
 use Rattle.gd_lines.specs.declared.command.ScriptLine.TheVariants as script
 use Rattle.gd_lines.specs.declared.reply.Reply.{Reply}
@@ -104,6 +107,10 @@ abbrev pub asks_of : List Stamp → ℕ → (Draws Stamp → Draws Edit) → Dra
 asks_of [] site edit = known None
 asks_of (id ∷ ids) site edit = asks site (edit (pick id ids))
 
+-- a site takes its last edit back, or does one again
+abbrev pub turns : ℕ → Turn → Draws (Option ScriptLine)
+turns site which = known (Some (script.At site (command.Turn which)))
+
 -- one of the three others is sent a frame
 abbrev pub send : ℕ → Draws (Option ScriptLine)
 send site = do
@@ -117,7 +124,7 @@ deliver (suc mails) = do
   k ← below (suc mails)
   known (Some (script.Deliver (1 + k)))
 
--- the line of a site by a number below 16, where these ids were made and so many mails sent; none where the step is idle
+-- the line of a site by a number below 18, where these ids were made and so many mails sent; none where the step is idle
 unfoldable pub line_for : List Stamp → ℕ → ℕ → ℕ → Draws (Option ScriptLine)
 line_for made mails site number =
     if nat_lt number 4 then asks site create
@@ -128,12 +135,14 @@ line_for made mails site number =
     else if number == 10 then asks_of made site (change (λ id. Set id (ToFlag true)))
     else if number == 11 then asks_of made site stroke
     else if nat_lt number 14 then send site
-    else deliver mails
+    else if nat_lt number 16 then deliver mails
+    else if number == 16 then turns site Undo
+    else turns site Redo
 
 abbrev pub step : List Stamp → ℕ → Draws (Option ScriptLine)
 step made mails = do
   site ← below 4
-  number ← below 16
+  number ← below 18
   line_for made mails (1 + site) number
 
 -- ---- how far a run has come
@@ -175,7 +184,7 @@ with_arrival t (reply.Dropped id by) = record t { dropped = t.dropped + 1 }
 with_arrival t (reply.Reworked id count) = record t { reworked = t.reworked + 1; undone = t.undone + count }
 with_arrival t other = t
 
--- the same of all counts: no send and no delivery is refused here, so what is refused is an edit
+-- the same of all counts: no send and no delivery is refused here, so what is refused is an edit, an undo or a redo
 abbrev pub with_reply : Counts → Reply → Counts
 with_reply c (reply.Done id) = record c { edits = c.edits + 1 }
 with_reply c (reply.Refused why) = record c { refused = c.refused + 1 }

@@ -30,7 +30,7 @@ use Rattle.gd_reference.specs.InputLines.{Heard, heard, lines_of}
 use Rattle.gd_reference.specs.NodeRun.{command_replies, of_command}
 use Rattle.gd_reference.specs.Said.{all_said}
 use Rattle.gd_reference.specs.SiteEffects.{frame_replies, of_frame}
-use Rattle.gd_reference.specs.World.{World, Line, Edits, Undoes, Names, Focuses, Prints, At, Send, Deliver, happens, start}
+use Rattle.gd_reference.specs.World.{World, Line, Edits, Turns, Names, Focuses, Prints, At, Send, Deliver, happens, start}
 
 -- a line as it was read: what it asks for, or why it is no line
 abbrev pub ReadScript : Type 0
@@ -93,7 +93,7 @@ of_script w line = script_work w line ++ all_said (script_replies w line)
 -- what a site is told by what it is asked for
 abbrev pub told_by : Command → Line
 told_by (command.Edit edit) = Edits edit
-told_by command.Undo = Undoes
+told_by (command.Turn which) = Turns which
 told_by (command.Name name) = Names name
 told_by (command.Focus focus) = Focuses focus
 told_by other = Prints

@@ -8,7 +8,7 @@ use gd_outside::{Word, WordList};
 use std::alloc::Global;
 
 /// The version of the program, as the file VERSION has it.
-pub const VERSION: &str = "0.9.0";
+pub const VERSION: &str = "0.10.0";
 
 /// What is asked for in place of a run.
 #[derive(Clone, Copy, Debug, PartialEq, Eq)]

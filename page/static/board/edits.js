@@ -2,40 +2,20 @@
 // that the batch's third line makes. Until the node has answered, an object that was made has a name, `~` and two numbers.
 
 import { MOST_LINES } from "../core/lines.js";
-import { Lost } from "../core/node.js";
-import { Claims, keysOf } from "./claims.js";
+import { refusalOf, whyOf } from "../core/node.js";
 import { Foresight, wordsOf } from "./effects.js";
-import { inverseOf } from "./inverse.js";
 import { Layer } from "./pending.js";
-import { remainsOf } from "./remains.js";
 import { turn } from "./turning.js";
 
 export { copyLines, createLines, fitLabel } from "./making.js";
 
 /** @typedef {import("../core/types.js").Refusal} Refusal */
+/** @typedef {import("../core/types.js").Which} Which */
 /** @typedef {import("./pending.js").Pending} Pending */
-/** @typedef {import("./remains.js").Remains} Remains */
-/**
- * A line of a gesture.
- * @typedef {object} Step
- * @property {string} line with names for what this page made
- * @property {string | null} back the line that takes it back
- * @property {string | null} why why there is none, in words
- * @property {Remains | null} remains what is made anew when it is taken back
- * @property {string | null} name what it makes
- * @property {boolean} isDone whether it is in the drawing, and not taken back
- * @property {string | null} stamp of the last event that was made by it, or by taking it back
- * @property {string[]} keys the parts that it touches
- * @property {Map<string, Set<string>>} before what counted as the last of these parts before that event
- * @property {Step | null} source the step that took away what this one makes anew
- * @property {string | null} was the name of what this one makes anew
- */
-/**
- * @typedef {{name: string, steps: Step[], turned?: () => void, passed?: () => void}} Gesture `turned` hears that it is taken back or
- *   done again, and `passed` that another one came behind it
- */
+/** @typedef {{line: string, name: string | null}} Step a line of a gesture, with names for what this page made, and what it makes */
 
-const MOST_GESTURES = 500;
+/** As many edits does the node take back. */
+const MOST_BACKS = 1024;
 
 export class Edits {
   /**
@@ -45,16 +25,17 @@ export class Edits {
   constructor(ed, pending) {
     this.ed = ed;
     this.pending = pending;
-    this.claims = new Claims();
-    /** @type {Gesture[]} */
-    this.done = [];
-    /** @type {Gesture[]} */
-    this.undone = [];
     /** @type {Map<string, string>} the ids of what this page made, by its names */
     this.ids = new Map();
-    /** @type {Map<string, string>} */
-    this.names = new Map();
     this.batches = 0;
+    /** What was typed last, and isn't answered yet. @type {{what: Which | "do", name: string} | null} */
+    this.typing = null;
+    /** Told once something else is done, or taken back. @type {(() => void) | null} */
+    this.passed = null;
+    /** Tried whenever the node has told more, until it has shown what was taken back. @type {(() => void) | null} */
+    this.turned = null;
+    /** The number of what was known last to be taken back. */
+    this.known = 0;
   }
 
   /**
@@ -72,82 +53,65 @@ export class Edits {
       ed.refuse([{ why: ed.readOnly ?? `a gesture has at most ${MOST_LINES.toLocaleString("en")} edits` }]);
       return false;
     }
-    const gesture = this.begin(name, lines);
-    this.done.at(-1)?.passed?.();
-    this.done.push(gesture);
-    if (this.done.length > MOST_GESTURES) this.done.shift();
-    this.undone = [];
+    this.pass();
+    const steps = this.begin(lines);
     ed.say(name);
-    const sent = this.send(gesture.steps, (step) => step.line, () => gesture.steps);
-    if (pick) ed.selection.set(pick(gesture.steps.map((step) => step.name)).filter(Boolean));
+    const sent = this.send(name, steps);
+    if (pick) ed.selection.set(pick(steps.map((step) => step.name)).filter(Boolean));
     ed.rested();
-    const isDone = !(await sent).length;
-    if (!gesture.steps.some((step) => step.isDone)) this.done = this.done.filter((each) => each !== gesture);
-    ed.stacks();
-    return isDone;
+    return sent;
   }
 
-  /**
-   * Takes a gesture back.
-   * @param {Gesture} [gesture] the last one, where it isn't said
-   */
-  undo(gesture) {
-    return turn(this, true, gesture);
+  /** Takes the last gesture back. */
+  undo() {
+    return turn(this, "undo");
   }
 
+  /** Does the gesture again that was taken back last. */
   redo() {
-    return turn(this, false);
+    return turn(this, "redo");
   }
 
   /**
-   * @param {string} name
+   * What an undo, or a redo, would be about, or null where there is nothing. What isn't answered yet is taken as done.
+   * @param {Which} which
+   */
+  due(which) {
+    const { typing, ed } = this;
+    if (typing?.what === "do") return which === "undo" ? typing.name : null;
+    if (typing && typing.what !== which) return typing.name;
+    return ed.node.turns[which]?.name ?? null;
+  }
+
+  /** Another page of the same person may have done something, or taken it back. */
+  heard() {
+    const { number } = this.ed.node.turns;
+    if (number === this.known) return;
+    this.known = number;
+    this.pass();
+    this.ed.stacks();
+  }
+
+  pass() {
+    const { passed } = this;
+    this.passed = null;
+    this.turned = null;
+    passed?.();
+  }
+
+  /**
+   * The lines of a batch as steps. What the second line of batch 4 makes is named `~4.2`.
    * @param {string[]} lines
-   * @returns {Gesture}
+   * @returns {Step[]}
    */
-  begin(name, lines) {
+  begin(lines) {
     this.batches += 1;
-    const foresight = new Foresight(this.ed.model);
-    const fresh = new Set();
-    const steps = lines.map((raw, index) => {
-      const step = this.stepOf(raw, index + 1);
-      const { op, words } = wordsOf(step.line);
-      const target = step.name ?? words[1];
-      if (!fresh.has(target)) Object.assign(step, this.wayBack(op, target, foresight));
-      if (step.name) fresh.add(step.name);
-      foresight.take(this.real(step.line), step.name);
-      return step;
+    const made = (/** @type {number} */ number) => `~${this.batches}.${number}`;
+    return lines.map((raw, index) => {
+      const line = this.named(raw, (word) => (/^@\d+$/.test(word) ? made(Number(word.slice(1))) : word));
+      const { op } = wordsOf(line);
+      return { line, name: op === "create" || op === "group" ? made(index + 1) : null };
     });
-    return { name, steps };
-  }
-
-  /**
-   * A line of the batch as a step that isn't done yet. What the second line of batch 4 makes is named `~4.2`.
-   * @param {string} raw
-   * @param {number} number its place in these lines, from 1
-   * @param {number} [before] how many lines of the batch lie in front of them
-   * @returns {Step}
-   */
-  stepOf(raw, number, before = 0) {
-    const made = (/** @type {number} */ place) => `~${this.batches}.${before + place}`;
-    const line = this.named(raw, (word) => (/^@\d+$/.test(word) ? made(Number(word.slice(1))) : this.names.get(word) ?? word));
-    const { op, words } = wordsOf(line);
-    const name = op === "create" || op === "group" ? made(number) : null;
-    const keys = keysOf(op, name ?? words[1], op === "group" ? words.slice(1) : []);
-    const none = /** @type {any} */ (null);
-    const way = { back: none, why: none, remains: none, source: none, was: none };
-    return { line, ...way, name, isDone: false, stamp: none, keys, before: new Map() };
-  }
-
-  /**
-   * @param {string} op
-   * @param {string} target
-   * @param {Foresight} foresight what is there before the line
-   * @returns {Partial<Step>}
-   */
-  wayBack(op, target, foresight) {
-    const id = this.idOf(target);
-    const remains = remainsOf(foresight, op, id);
-    return remains ? { remains } : inverseOf(op, target, foresight.plain(id));
   }
 
   /**
@@ -170,50 +134,69 @@ export class Edits {
   /**
    * A line with ids, as far as they are known.
    * @param {string} line
-   * @param {Set<string | null>} [fresh] names that are to stand, since what they name is made anew
    */
-  real(line, fresh) {
-    return this.named(line, (word) => (fresh?.has(word) ? word : this.idOf(word)));
+  real(line) {
+    return this.named(line, (word) => this.idOf(word));
   }
 
   /**
-   * Shows what lines do, has them typed, and takes the answers.
+   * Shows what a gesture does, has its lines typed, and takes the answers.
+   * @param {string} name
    * @param {Step[]} steps
-   * @param {(step: Step) => string} text the line that is typed for a step
-   * @param {() => Step[]} choose which of the steps go out, when their turn has come
-   * @returns {Promise<Refusal[]>} what was refused, as is said here too
+   * @returns {Promise<boolean>} whether all of it was done; what wasn't is said here
    */
-  async send(steps, text, choose) {
-    const layer = this.foresee(steps, text);
-    /** @type {Step[]} */
-    let sent = [];
+  async send(name, steps) {
+    const layer = this.foresee(steps);
+    const typing = this.typed("do", name);
     try {
-      const { answers, edits } = await this.ed.node.type(() => {
-        sent = choose();
-        return this.wireLines(sent, text);
-      });
-      const refusals = this.take(sent, text, answers, layer, steps, edits);
-      if (refusals.length) this.ed.refuse(refusals);
-      return refusals;
+      const { answers, edits } = await this.ed.node.type(() => this.wireLines(steps), name);
+      const refusals = this.take(steps, answers, layer, edits);
+      this.ed.refuse(refusals);
+      this.tellLong(steps.length - refusals.length);
+      return !refusals.length;
     } catch (fault) {
       this.pending.drop(layer);
-      const why = fault instanceof Lost ? "Lost" : /** @type {Error} */ (fault).message;
-      const refusals = [{ line: this.real(text(steps[0])), why }];
-      this.ed.refuse(refusals);
-      return refusals;
+      this.ed.refuse([{ line: this.real(steps[0].line), why: whyOf(fault) }]);
+      return false;
     } finally {
-      this.ed.rested();
+      this.answered(typing);
     }
   }
 
   /**
-   * @param {Step[]} steps
-   * @param {(step: Step) => string} text
+   * Lines are typed now, behind all that was typed before.
+   * @param {Which | "do"} what
+   * @param {string} name
    */
-  foresee(steps, text) {
+  typed(what, name) {
+    this.typing = { what, name };
+    return this.typing;
+  }
+
+  /**
+   * They are answered, or won't be.
+   * @param {{what: Which | "do", name: string}} typing
+   */
+  answered(typing) {
+    if (this.typing === typing) this.typing = null;
+    this.known = this.ed.node.turns.number;
+    this.ed.rested();
+  }
+
+  /**
+   * Says where a gesture was too much for an undo.
+   * @param {number} edits
+   */
+  tellLong(edits) {
+    if (edits <= MOST_BACKS) return;
+    const [had, most] = [edits, MOST_BACKS].map((number) => number.toLocaleString("en"));
+    this.ed.banner({ tone: "warn", text: `That was ${had} edits at once. Undo takes back ${most} at most, so it can’t be undone`, lasts: 8000 });
+  }
+
+  /** @param {Step[]} steps */
+  foresee(steps) {
     const foresight = new Foresight(this.ed.model);
-    const fresh = new Set(steps.filter((step) => text(step) === step.line).map((step) => step.name));
-    for (const step of steps) foresight.take(this.real(text(step), fresh), step.name);
+    for (const step of steps) foresight.take(this.real(step.line), step.name);
     const layer = new Layer(foresight.effects, foresight.turns);
     this.pending.add(layer);
     return layer;
@@ -221,68 +204,37 @@ export class Edits {
 
   /**
    * The lines as they go out: with ids, and with `@K` for what the batch itself makes.
-   * @param {Step[]} sent
-   * @param {(step: Step) => string} text
+   * @param {Step[]} steps
    */
-  wireLines(sent, text) {
-    const made = new Map(sent.map((step, index) => [text(step) === step.line ? step.name : null, `@${index + 1}`]));
-    return sent.map((step) => this.named(text(step), (word) => made.get(word) ?? this.idOf(word)));
+  wireLines(steps) {
+    const made = new Map(steps.map((step, index) => [step.name, `@${index + 1}`]));
+    return steps.map((step) => this.named(step.line, (word) => made.get(word) ?? this.idOf(word)));
   }
 
   /**
    * Takes the answers to a batch, and gives what was refused.
-   * @param {Step[]} sent
-   * @param {(step: Step) => string} text
+   * @param {Step[]} steps
    * @param {string[]} answers
    * @param {Layer} layer
-   * @param {Step[]} steps all for which the layer was made
    * @param {number} edits
    */
-  take(sent, text, answers, layer, steps, edits) {
+  take(steps, answers, layer, edits) {
     /** @type {Refusal[]} */
     const refusals = [];
-    /** @type {Map<string, string>} */
+    const refused = new Set();
     const names = new Map();
-    const places = new Map(steps.map((step, index) => [step, index]));
-    const left = new Set(places.values());
-    sent.forEach((step, index) => {
+    steps.forEach((step, index) => {
       const answer = answers[index];
-      if (!answer.startsWith("ok ")) {
-        refusals.push({ line: this.real(text(step)), why: answer.replace(/^refused: /, "") });
+      if (answer.startsWith("ok ")) {
+        if (step.name) names.set(step.name, answer.slice(3));
         return;
       }
-      left.delete(places.get(step));
-      this.accept(step, text(step) === step.line, answer.slice(3), names);
+      refused.add(index);
+      refusals.push({ line: this.real(step.line), why: refusalOf(answer) });
     });
-    this.pending.answered(layer, left, names, edits);
+    for (const [name, id] of names) this.ids.set(name, id);
+    this.pending.answered(layer, refused, names, edits);
     if (names.size) this.ed.selection.rename(names);
     return refusals;
-  }
-
-  /**
-   * @param {Step} step
-   * @param {boolean} isForward whether it was done, and not taken back
-   * @param {string} stamp
-   * @param {Map<string, string>} names
-   */
-  accept(step, isForward, stamp, names) {
-    if (isForward && step.name) {
-      names.set(step.name, stamp);
-      for (const name of [step.name, step.was].filter(Boolean)) {
-        this.ids.set(name, stamp);
-        this.names.set(stamp, name);
-      }
-      this.claims.watch(stamp);
-    }
-    if (isForward) for (const id of step.remains?.made.keys() ?? []) this.claims.watch(this.idOf(this.names.get(id) ?? id));
-    if (step.source) Object.assign(step.source, { isDone: false, stamp: step.was ? stamp : step.source.stamp });
-    step.before = this.claims.claim(stamp, this.realKeys(step), step.stamp ? step.before : null);
-    step.stamp = stamp;
-    step.isDone = isForward;
-  }
-
-  /** @param {Step} step */
-  realKeys(step) {
-    return step.keys.map((key) => this.named(`key ${key}`, (word) => this.idOf(word)).slice(4));
   }
 }

@@ -16,19 +16,20 @@ export function hearing(ed, pending) {
     picture(difference, edits, _others, whole) {
       pending.pictured(difference, edits, whole);
       ed.selection.prune();
+      ed.edits.turned?.();
       if (isFirst) {
         isFirst = false;
         showFirst(ed);
       }
       ed.rested();
     },
-    events(events, isEarlier) {
-      if (!isEarlier) for (const event of events) ed.edits.claims.note(event);
+    events() {
       ed.history.update();
-      ed.stacks();
+      ed.edits.turned?.();
     },
     stand(what) {
       if (what === "pointer") ed.pointing.update();
+      if (what === "turns" || what === "hello") ed.edits.heard();
       if (!STANDING.has(what)) return;
       if (what === "hello") {
         ed.watcher = ed.node.watcher;

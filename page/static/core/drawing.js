@@ -4,6 +4,7 @@
 /** @typedef {import("./types.js").Event} Event */
 /** @typedef {import("./types.js").Kind} Kind */
 /** @typedef {{parent: string, dx: number, dy: number}} Link */
+/** @typedef {{id: string, link: Link | null}} Tie an object, and the link that it is given */
 /**
  * @typedef {object} Body
  * @property {string} id
@@ -44,6 +45,30 @@ export function stampParts(stamp) {
  */
 const high = ({ clock, site }) => clock * 16 + site;
 
+/**
+ * A rank as the bridge tells it.
+ * @param {{high?: string, low?: string}} told
+ */
+export const rankOf = (told) => (told.high ? high(stampParts(told.high)) : -high(stampParts(told.low)));
+
+/**
+ * A link as the bridge tells it.
+ * @param {{id: string, dx: number, dy: number} | null} told
+ * @returns {Link | null}
+ */
+export const linkOf = (told) => told && { parent: told.id, dx: told.dx, dy: told.dy };
+
+/**
+ * The object that is put back, as the bridge tells it.
+ * @param {any} told
+ * @returns {Body}
+ */
+export function bodyOf({ target, kind, at: [x, y], size: [w, h], stroke, fill, width, label, link, dissolved, rank }) {
+  // Whatever stands there, a group has neither a size nor a look.
+  const look = kind === "group" ? { ...LOOK, w: 0, h: 0 } : { w, h, stroke, fill, width, label };
+  return { id: target, kind, x, y, ...look, link: linkOf(link), isDissolved: dissolved, rank: rankOf(rank) };
+}
+
 /** @type {Pick<Body, "stroke" | "fill" | "width" | "label">} */
 const LOOK = { stroke: "000000", fill: null, width: 1, label: "" };
 
@@ -62,8 +87,11 @@ function changed(body, event) {
       return { ...body, rank: high(event) };
     case "lower":
       return { ...body, rank: -high(event) };
+    case "rerank":
+      return { ...body, rank: event.rank };
     case "ungroup":
-      return isGroup ? { ...body, isDissolved: true } : body;
+    case "reopen":
+      return isGroup ? { ...body, isDissolved: event.op === "ungroup" } : body;
     case "resize":
       return isGroup ? body : { ...body, w: event.w, h: event.h };
     case "text":
@@ -74,54 +102,70 @@ function changed(body, event) {
 }
 
 /**
- * @param {Event} event a create or a group
+ * The object that an event puts onto the board.
+ * @param {Event} event a create, a group or a restore
  * @returns {Body}
  */
 function made(event) {
-  const { stamp: id, kind, x, y, w, h, label } = event;
+  const { op, stamp: id, body, kind, x, y, w, h, label } = event;
+  if (op === "restore") return body;
   const rest = { id, link: /** @type {Link | null} */ (null), isDissolved: false, rank: high(event) };
-  if (event.op === "group") return { ...LOOK, ...rest, kind: "group", x: 0, y: 0, w: 0, h: 0 };
+  if (op === "group") return { ...LOOK, ...rest, kind: "group", x: 0, y: 0, w: 0, h: 0 };
   return { ...LOOK, ...rest, kind, x, y, w, h, label };
 }
 
 /**
- * Puts a new group onto the board, with the links of its members.
- * @param {Board} board
+ * The links that an event gives to other objects than the one that it puts or takes.
  * @param {Event} event
+ * @returns {Tie[]}
+ */
+function tiesOf(event) {
+  if (event.op !== "group") return event.ties ?? [];
+  const members = event.members.filter(({ id }) => compareStamps(stampParts(id), event) < 0);
+  return members.map(({ id, dx, dy }) => ({ id, link: { parent: event.stamp, dx, dy } }));
+}
+
+/**
+ * Links those objects that are there.
+ * @param {Board} board
+ * @param {Tie[]} ties
  * @returns {Before}
  */
-function applyGroup(board, event) {
-  if (board.has(event.stamp)) return [];
+function tie(board, ties) {
   /** @type {Before} */
-  const before = [[event.stamp, undefined]];
-  board.set(event.stamp, made(event));
-  for (const { id, dx, dy } of event.members) {
+  const before = [];
+  for (const { id, link } of ties) {
     const body = board.get(id);
-    if (!body || compareStamps(stampParts(id), event) >= 0) continue;
+    if (!body) continue;
     before.push([id, body]);
-    board.set(id, { ...body, link: { parent: event.stamp, dx, dy } });
+    board.set(id, { ...body, link });
   }
   return before;
 }
 
+const PUTS = new Set(["create", "group", "restore"]);
+const TAKES = new Set(["delete", "disband"]);
+
 /**
- * Applies an event, and gives what it found.
+ * Applies an event, and gives what it found. It puts an object under an id that is absent, takes one away, or sets a part of one.
  * @param {Board} board
  * @param {Event} event
  * @returns {Before}
  */
 export function apply(board, event) {
-  if (event.op === "group") return applyGroup(board, event);
-  const body = board.get(event.id);
-  if (event.op === "create") {
-    if (body) return [];
-    board.set(event.id, made(event));
-    return [[event.id, undefined]];
-  }
-  if (!body) return [];
-  if (event.op === "delete") board.delete(event.id);
-  else board.set(event.id, changed(body, event));
-  return [[event.id, body]];
+  const { op, id } = event;
+  const found = board.get(id);
+  if (PUTS.has(op) === Boolean(found)) return [];
+  /** @type {Before} */
+  let before = [[id, found]];
+  if (PUTS.has(op)) {
+    before = [...before, ...tie(board, tiesOf(event))];
+    board.set(id, made(event));
+  } else if (TAKES.has(op)) {
+    board.delete(id);
+    before = [...before, ...tie(board, tiesOf(event))];
+  } else board.set(id, changed(found, event));
+  return before;
 }
 
 /**
@@ -211,6 +255,12 @@ function plainOf(body, above) {
 }
 
 /**
+ * @param {Body} a
+ * @param {Body} b
+ */
+const compareBodies = (a, b) => a.rank - b.rank || compareStamps(stampParts(a.id), stampParts(b.id));
+
+/**
  * The shown objects in printed order: each group before its members, all of them from bottom to top.
  * @param {Board} board
  * @returns {Plain[]}
@@ -219,8 +269,8 @@ export function shownOf(board) {
   const chains = new Chains(board);
   /** @type {Map<string | null, Plain[]>} */
   const children = new Map([[null, []]]);
-  for (const body of [...board.values()].sort((a, b) => a.rank - b.rank)) {
-    const above = body.isDissolved ? null : chains.above(body);
+  for (const body of [...board.values()].sort(compareBodies)) {
+    const above = body.kind === "group" && body.isDissolved ? null : chains.above(body);
     if (!above) continue;
     const list = children.get(above.parent);
     if (list) list.push(plainOf(body, above));
@@ -240,7 +290,7 @@ function inPrintedOrder(children) {
   while (stack.length) {
     const plain = stack.pop();
     order.push(plain);
-    const members = plain.kind === "group" ? children.get(plain.id) ?? [] : [];
+    const members = children.get(plain.id) ?? [];
     for (let at = members.length - 1; at >= 0; at -= 1) stack.push(members[at]);
   }
   return order;

@@ -1,7 +1,7 @@
 // All events of the session in stamp order, and the drawing behind any number of them. A step goes by applying or undoing
 // events; marks are copies of the board on the way, so that a far step is short too.
 
-import { apply, compareStamps, shownOf, undo } from "./drawing.js";
+import { apply, bodyOf, compareStamps, linkOf, rankOf, shownOf, undo } from "./drawing.js";
 import { closure, covers } from "./relations.js";
 
 /** @typedef {import("./types.js").Event} Event */
@@ -27,6 +27,10 @@ export function eventOf(told, came) {
     const op = /** @type {"stroke" | "fill" | "width"} */ (["stroke", "fill", "width"].find((part) => part in told));
     return { ...base, op, value: told[op] };
   }
+  const ties = told.ties?.map((/** @type {any} */ tie) => ({ id: tie.id, link: linkOf(tie.link) }));
+  if (told.op === "restore") return { ...base, op: "restore", body: bodyOf(told), ties };
+  if (told.op === "disband") return { ...base, op: "disband", ties };
+  if (told.op === "rerank") return { ...base, op: "rerank", rank: rankOf(told.rank) };
   const { op, kind, x, y, w, h, label, members } = told;
   return { ...base, op, kind, x, y, w, h, label, members };
 }

@@ -9,6 +9,7 @@ import { Wire } from "./wire.js";
 /** @typedef {import("./types.js").End} End */
 /** @typedef {import("./types.js").Standing} Standing */
 /** @typedef {import("./types.js").LinkSettings} LinkSettings */
+/** @typedef {import("./types.js").Turns} Turns */
 /** @typedef {import("./picture.js").Difference} Difference */
 /** @typedef {{site: number, name: string | null, heard: number | null, away: boolean, perhaps: boolean}} Peer */
 /** @typedef {{site: number, name: string | null, focus: string | null}} Note */
@@ -22,8 +23,23 @@ import { Wire } from "./wire.js";
  * @property {(what: string) => void} stand
  */
 
+/** As many characters has what the lines of a batch are called. */
+const MOST_NAME = 100;
+
 /** An answer that never came, since the connection was lost. */
 export class Lost extends Error {}
+
+/**
+ * Why there is no answer.
+ * @param {unknown} fault
+ */
+export const whyOf = (fault) => (fault instanceof Lost ? "Lost" : /** @type {Error} */ (fault).message);
+
+/**
+ * Why an answer says that a line wasn't taken.
+ * @param {string} answer
+ */
+export const refusalOf = (answer) => answer.replace(/^refused: /, "");
 
 export class Node {
   /** @param {number | null} desk the number of the desk that the address of the page names */
@@ -65,6 +81,8 @@ export class Node {
     this.standing = { held: 0, kept: 0, line: 0, clock: 0 };
     /** @type {LinkSettings | null} */
     this.link = null;
+    /** What can be taken back and done again. @type {Turns} */
+    this.turns = { number: 0, undo: null, redo: null };
     /** @type {[number, number][]} of own gestures of several edits the clocks of the first and the last one, by rising clocks */
     this.gestures = [];
     /** @type {import("./types.js").Carried | null} what is known of a session over a broker */
@@ -106,13 +124,14 @@ export class Node {
   /**
    * Has lines typed as one batch, behind all batches from before. `lines` makes them when their turn has come.
    * @param {() => string[]} lines
+   * @param {string} [name] what they are called together
    * @returns {Promise<Answers>} rejected with `Lost` where the connection was or got lost
    */
-  type(lines) {
+  type(lines, name = "") {
     const answered = this.last.then(() => {
       const made = lines();
       if (!made.length) return { answers: [], edits: this.edits };
-      return this.ask(/** @type {any} */ ({ do: "batch", lines: made }));
+      return this.ask(/** @type {any} */ ({ do: "batch", lines: made, name: [...name].slice(0, MOST_NAME).join("") }));
     });
     this.last = answered.catch(() => {});
     return answered;
@@ -224,7 +243,10 @@ export class Node {
   take(told) {
     if (told.desk !== undefined && told.desk !== null && told.is !== "hello" && told.desk !== this.desk) return;
     const takers = /** @type {Record<string, (told: any) => void>} */ ({
-      answers: () => this.reply(told.id, { answers: told.answers, edits: told.edits }),
+      answers: () => {
+        this.takeTurns(told.turns);
+        this.reply(told.id, { answers: told.answers, edits: told.edits });
+      },
       reply: () => this.reply(told.id, told.result, told.error),
       picture: () => this.takePicture(told),
       history: () => this.takeHistory(told),
@@ -246,6 +268,7 @@ export class Node {
     else if (is === "peers") Object.assign(this, { peers: rest.peers, waiting: rest.waiting, quiet: rest.quiet, silent: rest.silent });
     else if (is === "news") this.news.push(...rest.news);
     else if (is === "gestures") this.gestures.push(...rest.gestures);
+    else if (is === "turns") this.takeTurns(rest);
     else if (is === "end") this.ended = rest.end;
     else if (is === "begun") this.ended = null;
     else if (is === "carried") this.carried = rest;
@@ -261,8 +284,17 @@ export class Node {
   greet(hello) {
     const { desk, site, sites, session, demo, journal, desks, names, gestures } = hello;
     Object.assign(this, { desk, site, sites, session, demo, journal, desks, gestures, names: names ?? {}, ended: null });
+    this.turns = hello.turns ?? { number: 0, undo: null, redo: null };
     this.watcher = Boolean(hello.watcher);
     this.isOpenly = Boolean(hello.openly);
+  }
+
+  /**
+   * An answer may overtake what was told before it.
+   * @param {Turns} turns
+   */
+  takeTurns({ number, undo, redo }) {
+    if (number > this.turns.number) this.turns = { number, undo, redo };
   }
 
   /**

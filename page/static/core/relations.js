@@ -5,8 +5,16 @@
 
 const WHOLE = "*";
 const PARTS = /** @type {Record<string, string>} */ ({
-  move: "place", resize: "size", stroke: "stroke", fill: "fill", width: "width", text: "label", ungroup: "mark", raise: "rank", lower: "rank",
+  move: "place", resize: "size", stroke: "stroke", fill: "fill", width: "width", text: "label", ungroup: "mark", reopen: "mark",
+  raise: "rank", lower: "rank", rerank: "rank",
 });
+
+/**
+ * The objects whose links an event sets, beside the one that it puts or takes.
+ * @param {Event} event
+ * @returns {{id: string}[]}
+ */
+const tiedBy = (event) => event.members ?? event.ties ?? [];
 
 /**
  * The pairs of an object and a part that an event touches; `*` is the whole object.
@@ -14,13 +22,12 @@ const PARTS = /** @type {Record<string, string>} */ ({
  * @returns {[string, string][]}
  */
 export function touches(event) {
-  if (event.op === "create" || event.op === "delete") return [[event.id, WHOLE]];
-  if (event.op !== "group") return [[event.id, PARTS[event.op]]];
-  return [[event.id, WHOLE], ...event.members.map((member) => /** @type {[string, string]} */ ([member.id, "link"]))];
+  if (PARTS[event.op]) return [[event.id, PARTS[event.op]]];
+  return [[event.id, WHOLE], ...tiedBy(event).map(({ id }) => /** @type {[string, string]} */ ([id, "link"]))];
 }
 
 /** Parts of objects, by object. */
-class Touched {
+export class Touched {
   constructor() {
     /** @type {Map<string, Set<string>>} */
     this.parts = new Map();
@@ -67,7 +74,7 @@ export function closure(event, later) {
  * @param {Event} event
  */
 export function covers(later, event) {
-  if (event.op === "group" || later.op === "group" || later.id !== event.id) return false;
-  if (later.op === "delete") return true;
+  if (later.id !== event.id || tiedBy(later).length || tiedBy(event).length) return false;
+  if (later.op === "delete" || later.op === "disband") return true;
   return PARTS[later.op] !== undefined && PARTS[later.op] === PARTS[event.op];
 }

@@ -47,7 +47,9 @@
  */
 
 /**
- * @typedef {"create" | "delete" | "move" | "resize" | "stroke" | "fill" | "width" | "text" | "group" | "ungroup" | "raise" | "lower"} Op
+ * The last four are made by an undo or a redo alone.
+ * @typedef {"create" | "delete" | "move" | "resize" | "stroke" | "fill" | "width" | "text" | "group" | "ungroup" | "raise" | "lower" |
+ *   "restore" | "disband" | "rerank" | "reopen"} Op
  */
 /** @typedef {{id: string, dx: number, dy: number}} Member */
 
@@ -67,6 +69,9 @@
  * @property {string} [label]
  * @property {string | number | null} [value] of stroke, fill, width and text
  * @property {Member[]} [members]
+ * @property {import("./drawing.js").Body} [body] what a restore puts back
+ * @property {import("./drawing.js").Tie[]} [ties] the links that a restore or a disband gives to others
+ * @property {number} [rank] of a rerank, as a body has it
  * @property {number | null} time when this machine saw it, in milliseconds, where that is known
  * @property {number} came its place in the order of arrival, from 0
  * @property {Late | null} late where it came behind events with greater stamps
@@ -96,6 +101,13 @@
  * @property {boolean} watched
  */
 
+/** @typedef {"undo" | "redo"} Which */
+/**
+ * A gesture that can be taken back or done again: what it is called, how many edits it has, and the clocks of the first and the
+ * last one.
+ * @typedef {{name: string, edits: number, first: number, last: number}} Due
+ */
+/** @typedef {{number: number, undo: Due | null, redo: Due | null}} Turns what is next of each, and how often that has changed */
 /** @typedef {{site: number, name: string, me: boolean, here: boolean, away: string | null, selection: Set<string>}} Seat */
 /** @typedef {{held: number, kept: number, line: number, clock: number}} Standing */
 /** @typedef {{loss: number, twice: number, delay: number, cut: number[]}} LinkSettings */

@@ -30,9 +30,8 @@ export function makeZoom(ed, bar) {
   bar.append(undo, redo, h("span", { class: "rule", role: "separator" }), lens);
   roving(bar);
   ed.stacks = () => {
-    const { done, undone } = ed.edits;
-    tell(undo, "Undo", done.at(-1)?.name, commandOf("undo").when(ed));
-    tell(redo, "Redo", undone.at(-1)?.name, commandOf("redo").when(ed));
+    tell(undo, "Undo", ed.edits.due("undo"), commandOf("undo").when(ed));
+    tell(redo, "Redo", ed.edits.due("redo"), commandOf("redo").when(ed));
   };
   let shown = 0;
   const update = () => {
@@ -49,7 +48,7 @@ export function makeZoom(ed, bar) {
 /**
  * @param {HTMLButtonElement} made
  * @param {string} title
- * @param {string | undefined} what the gesture that it is about
+ * @param {string | null} what the gesture that it is about
  * @param {boolean} can
  */
 function tell(made, title, what, can) {

@@ -8,8 +8,8 @@ import { count } from "./words.js";
 
 /** As many objects as a group takes. */
 const MOST_MEMBERS = 32;
-/** For so many milliseconds what was deleted is offered back. */
-const PUT_BACK_LASTS = 7000;
+/** For so many milliseconds a delete is offered to be taken back. */
+const UNDO_LASTS = 7000;
 
 /** How far a box goes, within the box around all, for each way to align. */
 const WAYS = /** @type {Record<string, {name: string, by: (box: Box, all: Box) => [number, number]}>} */ ({
@@ -128,26 +128,21 @@ export function duplicate(ed) {
 }
 
 /**
- * Deletes what is selected, and offers it back.
+ * Deletes what is selected, and offers to take that back, for as long as it is the last thing that was done.
  * @param {Ed} ed
  */
 export async function remove(ed) {
   const { edits } = ed;
   const ids = ed.selection.list().map((item) => item.id);
-  const what = ids.length === 1 ? objectName(ed, ids[0]) : count(ids.length);
-  const before = edits.done.at(-1);
-  const sent = edits.do(`Deleted ${what}`, ids.map((id) => `delete ${id}`));
-  const gesture = edits.done.at(-1);
-  if (!gesture || gesture === before) return;
-  const text = ed.node.sites > 1 ? `${gesture.name} for everybody` : gesture.name;
+  const name = `Deleted ${ids.length === 1 ? objectName(ed, ids[0]) : count(ids.length)}`;
+  const { number } = ed.node.turns;
+  await edits.do(name, ids.map((id) => `delete ${id}`));
+  if (edits.typing || ed.node.turns.number === number || edits.due("undo") !== name) return;
   const banner = ed.banner({
-    text, icon: "trash", action: "Put back", key: "Mod+Z", run: () => (ed.readOnly ? ed.refuse([{ why: ed.readOnly }]) : edits.undo(gesture)), lasts: PUT_BACK_LASTS,
+    text: ed.node.sites > 1 ? `${name} for everybody` : name, icon: "trash", action: "Undo", key: "Mod+Z", lasts: UNDO_LASTS,
+    run: () => (ed.readOnly ? ed.refuse([{ why: ed.readOnly }]) : edits.undo()),
   });
-  gesture.turned = () => banner?.remove();
-  // The button still puts it back then; the key takes back what was done last.
-  gesture.passed = () => banner?.querySelector("kbd")?.remove();
-  await sent;
-  if (!edits.done.includes(gesture)) banner?.remove();
+  edits.passed = () => banner?.remove();
 }
 
 /**

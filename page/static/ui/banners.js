@@ -155,7 +155,7 @@ function bubbleOf(ed, refusals, at) {
 function deletedBy(ed, { line, why }) {
   const id = why.endsWith("NoObject") ? line?.split(" ")[1] : null;
   if (!id) return null;
-  const gone = ed.node.events.find((event) => event.op === "delete" && event.id === id);
+  const gone = [...ed.node.events].reverse().find((event) => event.op === "delete" && event.id === id);
   if (!gone) return null;
   const name = ed.people.name(gone.site);
   return `${name === "You" ? "you" : name} deleted it`;

@@ -26,8 +26,8 @@ export class Clipboard {
   /** @param {Ed} ed */
   constructor(ed) {
     this.ed = ed;
-    /** What was put last, where, how many times there, and the gesture that did. */
-    this.last = { text: "", x: 0, y: 0, times: 0, gesture: /** @type {import("../board/edits.js").Gesture | null | undefined} */ (null) };
+    /** What was put last, where, how many times there, and the objects that it became. */
+    this.last = { text: "", x: 0, y: 0, times: 0, ids: /** @type {string[]} */ ([]) };
     document.addEventListener("copy", (event) => isFree(event) && this.take(event, false));
     document.addEventListener("cut", (event) => isFree(event) && !ed.readOnly && this.take(event, true));
     document.addEventListener("paste", (event) => isFree(event) && this.pasted(event));
@@ -105,7 +105,7 @@ export class Clipboard {
     const at = this.placeFor(text);
     if (drawing) this.putItems(drawing.items, name, at);
     else this.putText(text.trim(), name, at);
-    this.last.gesture = ed.edits.done.at(-1);
+    this.last.ids = [...ed.selection.ids];
     if (drawing?.left) ed.banner({ text: `${count(drawing.left, "part")} of it couldn’t be taken: turned ones, paths, pictures`, lasts: 8000 });
     return true;
   }
@@ -125,8 +125,8 @@ export class Clipboard {
     const { ed, last } = this;
     const { x, y } = this.place();
     const isThere = Math.hypot(x - last.x, y - last.y) * ed.camera.zoom < NEAR;
-    const isAgain = text === last.text && isThere && ed.edits.done.includes(last.gesture);
-    this.last = { text, x, y, times: isAgain ? last.times + 1 : 0, gesture: null };
+    const isAgain = text === last.text && isThere && last.ids.some((id) => ed.model.byId.has(id));
+    this.last = { text, x, y, times: isAgain ? last.times + 1 : 0, ids: [] };
     const by = this.last.times * STEP;
     return { x: x + by, y: y + by };
   }

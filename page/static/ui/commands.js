@@ -62,9 +62,9 @@ const TOOLS = commandsOf("Tools", [
 ]);
 
 /** @type {When} */
-const canUndo = (ed) => canWrite(ed) && ed.edits.done.length > 0;
+const canUndo = (ed) => canWrite(ed) && ed.edits.due("undo") !== null;
 /** @type {When} */
-const canRedo = (ed) => canWrite(ed) && ed.edits.undone.length > 0;
+const canRedo = (ed) => canWrite(ed) && ed.edits.due("redo") !== null;
 /** @type {When} */
 const withOne = (ed) => withSome(ed) && ed.selection.ids.size === 1;
 const isNative = { native: true };

@@ -7,7 +7,7 @@ import { count, oneLine, shortened } from "./words.js";
 const DEEDS = /** @type {Record<string, string>} */ ({
   create: "made", delete: "deleted", move: "moved", resize: "resized", stroke: "coloured", fill: "filled",
   width: "set the width of", text: "wrote", group: "grouped", ungroup: "dissolved", raise: "brought to the front",
-  lower: "sent to the back",
+  lower: "sent to the back", restore: "put back", disband: "took apart", rerank: "put back in its place", reopen: "made whole again",
 });
 const KINDS = /** @type {Record<string, string>} */ ({
   rect: "a rectangle", ellipse: "an ellipse", line: "a line", text: "a text", group: "a group",
@@ -96,8 +96,7 @@ export function stepDeedOf(ed, events) {
   const who = ed.people.name(first.site);
   /** @param {string} op */
   const of = (op) => events.filter((event) => event.op === op);
-  const [made, groups, texts, sizes] = ["create", "group", "text", "resize"].map(of);
-  const told = [made, groups, texts, sizes].find((list) => list.length) ?? events;
+  const told = ["create", "group", "restore", "delete", "text", "resize"].map(of).find((list) => list.length) ?? events;
   const { op } = told[0];
   const ids = new Set(told.map((event) => event.id));
   if (ids.size === 1) return deedOf(ed, told[0]);
@@ -107,11 +106,12 @@ export function stepDeedOf(ed, events) {
 
 const NOUNS = /** @type {Record<string, string>} */ ({
   move: "move", resize: "new size", stroke: "colour", fill: "fill", width: "width", text: "text", group: "group", ungroup: "end of the group",
-  raise: "new order", lower: "new order", delete: "delete",
+  raise: "new order", lower: "new order", delete: "delete", disband: "end of the group", rerank: "old order", reopen: "old group",
 });
 
 const WITH_IT = /** @type {Record<string, string>} */ ({
-  text: "wrote in it", raise: "brought it to the front", lower: "sent it to the back",
+  text: "wrote in it", raise: "brought it to the front", lower: "sent it to the back", restore: "put it back", disband: "took it apart",
+  rerank: "put it back in its place", reopen: "made it whole again",
 });
 
 /**
@@ -139,6 +139,12 @@ const lostWords = (ed, gone, change, it = "it") =>
   sentence(`${didIt(ed, gone, it)} while ${didIt(ed, change)}, so the ${NOUNS[change.op]} changes nothing`);
 
 /**
+ * Whether an event does nothing where its object isn't there, and it matters.
+ * @param {Event | undefined} event
+ */
+const isChange = (event) => event !== undefined && event.op !== "delete" && NOUNS[event.op] !== undefined;
+
+/**
  * What a delete that came late has made void, or nothing: the change of it.
  * @param {Ed} ed
  * @param {Event} event
@@ -146,7 +152,7 @@ const lostWords = (ed, gone, change, it = "it") =>
 function voidedBy(ed, event) {
   if (event.op !== "delete" || event.late?.what !== "reworked") return null;
   const { byStamp } = ed.node.history;
-  return event.late.redone.map((stamp) => byStamp.get(stamp)).find((each) => each?.id === event.id && each.op !== "delete") ?? null;
+  return event.late.redone.map((stamp) => byStamp.get(stamp)).find((each) => isChange(each) && each?.id === event.id) ?? null;
 }
 
 /**
@@ -186,7 +192,9 @@ export function lossAmong(ed, came) {
     const gone = own.get(event.id);
     const change = voidedBy(ed, event);
     if (change) return { event, words: lostWords(ed, event, change, objectName(ed, event.id)) };
-    if (gone && event.came > gone.came && event.op !== "delete") return { event, words: lostWords(ed, gone, event, objectName(ed, event.id)) };
+    // Where it is there it was put back.
+    const isLost = gone && event.came > gone.came && isChange(event) && !ed.model.byId.has(event.id);
+    if (isLost) return { event, words: lostWords(ed, gone, event, objectName(ed, event.id)) };
   }
   return null;
 }
@@ -197,9 +205,10 @@ export function lossAmong(ed, came) {
  * @param {Event} event
  */
 export function voidOf(ed, event) {
-  if (event.op === "create" || event.op === "group" || isRepaired(event) || ed.model.byId.has(event.id)) return "";
+  if (!NOUNS[event.op] || event.op === "group" || isRepaired(event) || ed.model.byId.has(event.id)) return "";
   const { events } = ed.node;
-  const gone = events.slice(0, events.indexOf(event)).find((each) => each.op === "delete" && each.id === event.id);
+  const before = events.slice(0, events.indexOf(event)).reverse();
+  const gone = before.find((each) => each.op === "delete" && each.id === event.id);
   return gone ? lostWords(ed, gone, event) : "";
 }
 

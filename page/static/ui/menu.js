@@ -14,7 +14,7 @@ const ON_SELECTION = [
   ["front", "back"],
   ["zoomSel", "copySvg", "copyPng"],
 ];
-const ON_PAPER = [["paste", "all"], ["fit", "objects"], ["copySvg", "copyPng", "savePng"], ["histLate", "palette"]];
+const ON_PAPER = [["paste", "all"], ["undo", "redo"], ["fit", "objects"], ["copySvg", "copyPng", "savePng"], ["histLate", "palette"]];
 
 export class Menu {
   /** @param {Ed} ed */

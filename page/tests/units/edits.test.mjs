@@ -1,5 +1,5 @@
-// Gestures, and taking them back: whole gestures, by lines, and never what another one set since. The node is a fake, which
-// keeps what is typed until the test answers it.
+// Gestures, and taking them back: whole gestures, each by as many lines as it had edits. The node is a fake, which keeps what is typed
+// until the test answers it, and what can be taken back as the bridge tells it.
 
 import assert from "node:assert/strict";
 import { test } from "node:test";
@@ -7,14 +7,39 @@ import { test } from "node:test";
 import "./board_stub.mjs";
 
 const { Edits } = await import("../../static/board/edits.js");
+const { hearing } = await import("../../static/board/hearing.js");
 const { Model } = await import("../../static/board/model.js");
 const { Pending } = await import("../../static/board/pending.js");
 const { Selection } = await import("../../static/board/selection.js");
 const { Lost } = await import("../../static/core/node.js");
 const { Picture } = await import("../../static/core/picture.js");
-const { eventOf } = await import("../../static/core/history.js");
+const { eventOf, History } = await import("../../static/core/history.js");
 
 const rect = (id, x = 0, y = 0) => ({ kind: "rect", id, in: null, at: [x, y], size: [10, 10], stroke: "000000", fill: null, width: 1, label: "" });
+
+/** What the bridge tells of gestures that are done and taken back, by the lines of each batch and their answers. */
+class Turns {
+  constructor() {
+    this.undo = [];
+    this.redo = [];
+    this.number = 0;
+  }
+
+  take(name, lines, answers) {
+    const clocks = answers.filter((answer) => answer.startsWith("ok ")).map((answer) => Number(answer.slice(3).split(".")[0]));
+    if (!clocks.length) return;
+    this.number += 1;
+    const gesture = { name, edits: clocks.length, first: clocks[0], last: clocks.at(-1) };
+    const [verb] = lines;
+    if (verb === "undo") this.redo.push({ ...gesture, name: this.undo.pop().name });
+    else if (verb === "redo") this.undo.push({ ...gesture, name: this.redo.pop().name });
+    else [this.undo, this.redo] = [[...this.undo, gesture], []];
+  }
+
+  told() {
+    return { number: this.number, undo: this.undo.at(-1) ?? null, redo: this.redo.at(-1) ?? null };
+  }
+}
 
 /** A page without a window. */
 function page(...items) {
@@ -23,17 +48,30 @@ function page(...items) {
   const pending = new Pending(picture, model, () => false);
   const told = { refused: [], banners: [], said: [] };
   const nothing = () => {};
+  const history = new History();
+  const turns = new Turns();
+  const type = (lines, name) => {
+    last = last.then(() => {
+      const made = lines();
+      return made.length ? new Promise((done, fail) => typed.push({ lines: made, name, done, fail })) : { answers: [], edits };
+    });
+    return last;
+  };
+  const node = { type, history, turns: turns.told(), site: 1, get events() { return history.events; } };
   const ed = {
-    model, selection: new Selection(model), readOnly: null, settle: nothing, rested: nothing, stacks: nothing,
+    model, node, selection: new Selection(model), readOnly: null, settle: nothing, rested: nothing, stacks: nothing, history: { update: nothing },
+    people: { name: (site) => ["", "You", "Ana", "Bob"][site] },
     refuse: (list) => told.refused.push(...list), banner: (banner) => told.banners.push(banner.text), say: (text) => told.said.push(text),
-    node: { type: (lines) => last = last.then(() => new Promise((done, fail) => typed.push({ lines: lines(), done, fail }))) },
   };
   let last = Promise.resolve();
   const typed = [];
   ed.edits = new Edits(ed, pending);
   let edits = 0;
   let clock = 100;
-  const show = (...shown) => pending.pictured(picture.take({ whole: false, items: shown, gone: [], order: [] }), edits, false);
+  const ear = hearing(ed, pending);
+  Object.assign(globalThis.document, { body: { dataset: {} } });
+  Object.assign(ed, { fit: nothing, camera: { put: nothing } });
+  const show = (items, gone = [], order = []) => ear.picture(picture.take({ whole: false, items, gone, order }), edits, false, false);
   pending.pictured(picture.take({ whole: true, items, gone: [], order: [] }), 0, true);
   const rest = () => new Promise((later) => setImmediate(later));
   /** Gives the lines that were typed first, and answers them: each with a new stamp, or as it says. */
@@ -47,339 +85,254 @@ function page(...items) {
       clock += 1;
       return `ok ${clock}.1`;
     });
+    turns.take(batch.name, batch.lines, answers);
+    node.turns = turns.told();
     batch.done({ answers, edits });
     await rest();
     return batch.lines;
   };
-  const other = (event) => ed.edits.claims.note(eventOf({ site: 2, ...event }, 0));
-  return { ed, model, picture, pending, told, typed, answer, show, other, rest, tick: () => (clock += 1) };
+  const note = (...events) => {
+    for (const event of events) history.take(eventOf({ site: 1, ...event }, history.events.length));
+    ear.events();
+  };
+  return { ed, ear, model, picture, pending, told, turns, typed, answer, show, note, rest };
 }
 
 const places = (model) => model.items.map((item) => `${item.id} ${item.x}`);
+const looked = (id, x, more) => ({ ...rect(id, x), ...more });
 
-test("a move of 40 is taken back in one batch, and done again in one", async () => {
+test("a gesture of 40 is taken back by 40 lines in one batch, and done again by 40", async () => {
   const ids = Array.from({ length: 40 }, (_, at) => `${at + 1}.2`);
-  const { ed, model, answer } = page(...ids.map((id) => rect(id)));
+  const { ed, model, answer, show, typed, rest } = page(...ids.map((id) => rect(id)));
   ed.edits.do("Moved", ids.map((id) => `move ${id} 7 0`));
+  await rest();
+  assert.equal(typed[0].name, "Moved");
   assert.equal((await answer()).length, 40);
   ed.edits.undo();
-  assert.deepEqual(await answer(), ids.map((id) => `move ${id} 0 0`).reverse());
+  assert.deepEqual(await answer(), Array(40).fill("undo"));
+  // Nothing is foreseen: it is shown once the node shows it.
+  assert.ok(model.items.every((item) => item.x === 7));
+  show([]);
   assert.ok(model.items.every((item) => item.x === 0));
   ed.edits.redo();
-  assert.deepEqual(await answer(), ids.map((id) => `move ${id} 7 0`));
-  assert.deepEqual([ed.edits.done.length, ed.edits.undone.length], [1, 0]);
+  assert.deepEqual(await answer(), Array(40).fill("redo"));
+  ed.edits.undo();
+  assert.equal((await answer()).length, 40);
 });
 
-test("each kind of line is taken back by what was there", async () => {
-  const rows = [
-    ["move 1.2 5 6", "move 1.2 3 0"], ["resize 1.2 7 8", "resize 1.2 10 10"], ["stroke 1.2 FF0000", "stroke 1.2 000000"], ["fill 1.2 FF0000", "fill 1.2 none"],
-    ["width 1.2 9", "width 1.2 1"], ["text 1.2 a b", "text 1.2 "],
-  ];
-  for (const [line, back] of rows) {
-    const { ed, answer } = page(rect("1.2", 3));
-    ed.edits.do("Did", [line]);
-    assert.deepEqual(await answer(), [line]);
-    ed.edits.undo();
-    assert.deepEqual(await answer(), [back]);
-  }
-});
-
-test("several gestures on one shape are taken back and done again one by one", async () => {
-  const { ed, answer } = page(rect("1.2"));
-  for (const x of [10, 20, 30]) {
-    ed.edits.do(`to ${x}`, [`move 1.2 ${x} 0`]);
+test("gestures are taken back and done again one by one, whatever they did", async () => {
+  const { ed, answer } = page(rect("1.2"), rect("2.2"));
+  const gestures = { Moved: ["move 1.2 5 5", "move 2.2 5 5"], Raised: ["raise 1.2"], Grouped: ["group 1.2 2.2"], Deleted: ["delete 1.2", "delete 2.2"] };
+  for (const [name, lines] of Object.entries(gestures)) {
+    ed.edits.do(name, lines);
     await answer();
   }
   const went = [];
-  for (const turn of ["undo", "undo", "undo", "redo", "redo", "redo", "undo", "undo", "undo"]) {
-    ed.edits[turn]();
-    went.push((await answer())[0]);
+  for (const which of ["undo", "undo", "undo", "undo", "redo", "redo", "undo", "redo", "redo", "redo"]) {
+    const name = ed.edits.due(which);
+    ed.edits[which]();
+    const lines = await answer();
+    assert.deepEqual(lines, Array(gestures[name].length).fill(which));
+    went.push(name);
   }
-  assert.deepEqual(went.map((line) => Number(line.split(" ")[2])), [20, 10, 0, 10, 20, 30, 20, 10, 0]);
+  assert.deepEqual(went, ["Deleted", "Grouped", "Raised", "Moved", "Moved", "Raised", "Raised", "Raised", "Grouped", "Deleted"]);
+  assert.equal(ed.edits.due("redo"), null);
 });
 
-test("what another one set since stays, and is counted", async () => {
-  const { ed, answer, other, told, tick } = page(rect("1.2"), rect("2.2"), rect("3.2"));
-  ed.edits.do("Moved", ["move 1.2 9 0", "move 2.2 9 0", "move 3.2 9 0"]);
-  await answer();
-  other({ op: "move", target: "2.2", x: 1, y: 1, clock: tick() });
-  // One that came late lies below, and another part is another thing.
-  other({ op: "move", target: "1.2", x: 1, y: 1, clock: 50 });
-  other({ op: "restyle", target: "3.2", stroke: "FF0000", clock: tick() });
-  ed.edits.undo();
-  assert.deepEqual(await answer(), ["move 3.2 0 0", "move 1.2 0 0"]);
-  assert.deepEqual(told.banners, ["1 of 3 changes stayed: changed or deleted since"]);
-});
-
-test("what is made is deleted by an undo, made anew by a redo, and called by its new id from then on", async () => {
-  const { ed, model, answer } = page();
-  ed.edits.do("Made", ["create rect 1 2 3 4", "width @1 2"], (names) => [names[0]]);
-  assert.deepEqual([...ed.selection.ids], ["~1.1"]);
-  assert.deepEqual(await answer(), ["create rect 1 2 3 4", "width @1 2"]);
-  assert.deepEqual([...ed.selection.ids], ["101.1"]);
-  ed.edits.do("Moved", ["move 101.1 50 60"]);
+test("a new gesture forgets what could be done again", async () => {
+  const { ed, answer, told, typed, rest } = page(rect("1.2"));
+  ed.edits.do("Moved", ["move 1.2 5 5"]);
   await answer();
   ed.edits.undo();
-  assert.deepEqual(await answer(), ["move 101.1 1 2"]);
-  ed.edits.undo();
-  assert.deepEqual(await answer(), ["delete 101.1"]);
-  assert.deepEqual(places(model), []);
+  await answer();
+  assert.equal(ed.edits.due("redo"), "Moved");
+  ed.edits.do("Raised", ["raise 1.2"]);
+  // At once, and not only when it is answered.
+  assert.deepEqual([ed.edits.due("undo"), ed.edits.due("redo")], ["Raised", null]);
   ed.edits.redo();
-  assert.deepEqual(await answer(), ["create rect 1 2 3 4", "width @1 2"]);
-  assert.deepEqual(places(model), ["106.1 1"]);
-  ed.edits.redo();
-  assert.deepEqual(await answer(), ["move 106.1 50 60"]);
-  ed.edits.undo();
-  assert.deepEqual(await answer(), ["move 106.1 1 2"]);
-});
-
-test("a shape of one's own that another one worked on isn't taken away", async () => {
-  const { ed, answer, other, told, tick, typed, rest } = page();
-  ed.edits.do("Made", ["create rect 1 2 3 4"]);
   await answer();
-  other({ op: "restyle", target: "101.1", fill: "FF0000", clock: tick() });
-  ed.edits.undo();
-  await rest();
-  assert.deepEqual(typed.shift().lines, []);
-  assert.equal(told.banners.length, 0);
-});
-
-test("groups of groups come apart from the outside", async () => {
-  const { ed, answer } = page(rect("1.2"), rect("2.2"), rect("3.2"));
-  ed.edits.do("Grouped", ["group 1.2 2.2", "group @1 3.2"]);
-  assert.deepEqual(await answer(), ["group 1.2 2.2", "group @1 3.2"]);
-  ed.edits.undo();
-  assert.deepEqual(await answer(), ["ungroup 102.1", "ungroup 101.1"]);
-  ed.edits.redo();
-  assert.deepEqual(await answer(), ["group 1.2 2.2", "group @1 3.2"]);
-});
-
-test("an undo right behind a gesture waits for that one's answers", async () => {
-  const { ed, model, answer } = page();
-  ed.edits.do("Made", ["create rect 1 2 3 4"]);
-  ed.edits.do("Moved", ["move ~1.1 9 9"]);
-  ed.edits.undo();
-  ed.edits.undo();
-  assert.deepEqual(places(model), []);
-  assert.deepEqual(await answer(), ["create rect 1 2 3 4"]);
-  assert.deepEqual(await answer(), ["move 101.1 9 9"]);
-  assert.deepEqual(await answer(), ["move 101.1 1 2"]);
-  assert.deepEqual(await answer(), ["delete 101.1"]);
-  assert.deepEqual(places(model), []);
-});
-
-test("what nothing takes back is said, with what the next undo is about", async () => {
-  const { ed, answer, told, typed, rest } = page(rect("1.2"), rect("2.2"));
-  ed.edits.do("Moved 1 object", ["move 2.2 9 0"]);
-  await answer();
-  for (const line of ["raise 2.2", "lower 2.2"]) {
-    ed.edits.do("Did", [line]);
-    await answer();
-    ed.edits.undo();
-    await rest();
-    assert.equal(typed.length, 0);
-  }
-  assert.equal(told.banners.length, 2);
-  assert.match(told.banners[0], /^What was brought to the front can’t be put back yet\. Undo once more .*“Moved 1 object”$/);
-  ed.edits.undo();
-  assert.deepEqual(await answer(), ["move 2.2 0 0"]);
-});
-
-const looked = (id, x, more) => ({ ...rect(id, x), ...more });
-
-test("what was deleted is put back as new objects that look the same, from the bottom to the top", async () => {
-  const { ed, model, answer, told } = page(
-    looked("1.2", 5, { stroke: "FF0000", fill: "00FF00", width: 3, label: " a @1" }), rect("2.2", 50), { ...rect("3.2", 90), kind: "ellipse" },
-  );
-  // In whatever order they were selected.
-  ed.edits.do("Deleted 2 objects", ["delete 3.2", "delete 1.2"]);
-  await answer();
-  assert.deepEqual(places(model), ["2.2 50"]);
-  ed.edits.undo();
-  assert.deepEqual(places(model), ["2.2 50", "~2.1 5", "~2.5 90"]);
-  assert.deepEqual(await answer(), [
-    "create rect 5 0 10 10  a @1", "stroke @1 FF0000", "fill @1 00FF00", "width @1 3", "create ellipse 90 0 10 10",
-  ]);
-  assert.deepEqual([...ed.selection.ids], ["103.1", "107.1"]);
-  assert.deepEqual(told.banners, []);
-  assert.deepEqual([ed.edits.done.length, ed.edits.undone.length], [0, 1]);
-  ed.edits.redo();
-  assert.deepEqual(await answer(), ["delete 107.1", "delete 103.1"]);
-});
-
-test("gestures from before a delete go on with what was put back, and it is deleted and put back again", async () => {
-  for (const id of ["1.2", null]) {
-    const { ed, answer } = page(...(id ? [rect(id)] : []));
-    if (!id) ed.edits.do("Made", ["create rect 0 0 10 10"]);
-    if (!id) await answer();
-    const name = id ?? "101.1";
-    ed.edits.do("Moved", [`move ${name} 9 0`]);
-    await answer();
-    ed.edits.do("Deleted", [`delete ${name}`]);
-    await answer();
-    ed.edits.undo();
-    assert.deepEqual(await answer(), ["create rect 9 0 10 10"]);
-    const second = ed.model.items[0].id;
-    ed.edits.redo();
-    assert.deepEqual(await answer(), [`delete ${second}`]);
-    ed.edits.undo();
-    assert.deepEqual(await answer(), ["create rect 9 0 10 10"]);
-    const third = ed.model.items[0].id;
-    ed.edits.undo();
-    assert.deepEqual(await answer(), [`move ${third} 0 0`]);
-    ed.edits.redo();
-    assert.deepEqual(await answer(), [`move ${third} 9 0`]);
-    if (id) continue;
-    ed.edits.undo();
-    await answer();
-    ed.edits.undo();
-    assert.deepEqual(await answer(), [`delete ${third}`]);
-  }
-});
-
-test("groups are grouped again, with the groups in them", async () => {
-  const inner = { kind: "group", id: "8.2", in: "9.2", at: [0, 0] };
-  const outer = { kind: "group", id: "9.2", in: null, at: [0, 0] };
-  const items = [outer, inner, looked("1.2", 1, { in: "8.2" }), looked("2.2", 2, { in: "8.2" }), looked("3.2", 3, { in: "9.2" })];
-  const { ed, model, answer } = page(...items);
-  ed.edits.do("Deleted", ["delete 9.2"]);
-  await answer();
-  assert.deepEqual(places(model), []);
-  ed.edits.undo();
-  assert.deepEqual(await answer(), ["create rect 1 0 10 10", "create rect 2 0 10 10", "group @1 @2", "create rect 3 0 10 10", "group @3 @4"]);
-  assert.deepEqual([...ed.selection.ids], ["106.1"]);
-  ed.edits.redo();
-  assert.deepEqual(await answer(), ["delete 106.1"]);
-});
-
-test("a group that was dissolved is made again, unless it was in a group", async () => {
-  const { ed, answer, told, typed, rest } = page(
-    { kind: "group", id: "9.2", in: null, at: [0, 0] }, { kind: "group", id: "8.2", in: "9.2", at: [0, 0] },
-    looked("1.2", 1, { in: "8.2" }), looked("2.2", 2, { in: "8.2" }), looked("3.2", 3, { in: "9.2" }),
-  );
-  ed.edits.do("Dissolved", ["ungroup 8.2"]);
-  await answer();
-  ed.edits.undo();
   await rest();
   assert.equal(typed.length, 0);
-  assert.match(told.banners[0], /^A group in a group can’t be made again yet/);
-  ed.edits.do("Dissolved", ["ungroup 9.2"]);
-  await answer();
+  assert.equal(told.said.at(-1), "There is nothing to do again");
+});
+
+test("an undo right behind a gesture waits for that one's answers, and the next for its own", async () => {
+  const { ed, answer } = page();
+  ed.edits.do("Made", ["create rect 1 2 3 4", "width @1 2"]);
+  ed.edits.do("Moved", ["move ~1.1 9 9"]);
   ed.edits.undo();
-  assert.deepEqual(await answer(), ["group 1.2 2.2 3.2"]);
+  assert.equal(ed.edits.due("redo"), "Moved");
+  ed.edits.undo();
   ed.edits.redo();
-  assert.deepEqual(await answer(), ["ungroup 103.1"]);
+  assert.deepEqual(await answer(), ["create rect 1 2 3 4", "width @1 2"]);
+  assert.deepEqual(await answer(), ["move 101.1 9 9"]);
+  assert.deepEqual(await answer(), ["undo"]);
+  assert.deepEqual(await answer(), ["undo", "undo"]);
+  assert.deepEqual(await answer(), ["redo", "redo"]);
+  assert.deepEqual([ed.edits.due("undo"), ed.edits.due("redo")], ["Made", "Moved"]);
 });
 
-test("where it matters that what was put back is another object, that is said", async () => {
-  const inGroup = [{ kind: "group", id: "9.2", in: null, at: [0, 0] }, looked("1.2", 1, { in: "9.2" }), looked("2.2", 50, { in: "9.2" })];
-  const covered = [rect("1.2"), rect("2.2", 5)];
-  const beside = [rect("1.2"), rect("2.2", 50), rect("3.2", 55)];
-  const rows = [[inGroup, "Put back 1 object. It is a new one: outside its group"], [covered, "Put back 1 object. It is a new one: on top"], [beside, undefined]];
-  for (const [items, words] of rows) {
-    const { ed, answer, told } = page(...items);
-    ed.edits.do("Deleted", ["delete 1.2"]);
-    await answer();
-    ed.edits.undo();
-    await answer();
-    assert.equal(told.banners[0], words);
+test("where nothing can be taken back that is said, and nothing is typed", async () => {
+  const { ed, pending, told, typed, rest } = page(rect("1.2"));
+  for (const [which, words] of [["undo", "There is nothing to undo"], ["redo", "There is nothing to do again"]]) {
+    ed.edits[which]();
+    await rest();
+    assert.deepEqual([typed.length, told.said.at(-1), pending.layers.length], [0, words, 0]);
   }
-  // What lay below doesn't count, nor what was deleted too.
-  const { ed, answer, told, other, tick } = page(...covered);
-  ed.people = { name: () => "Bob" };
-  for (const lines of [["delete 2.2"], ["delete 1.2", "delete 2.2"]]) {
-    ed.edits.do("Deleted", lines);
-    await answer();
-    ed.edits.undo();
-    await answer();
-    ed.edits.undo();
-  }
-  assert.deepEqual(told.banners, []);
-  const [first] = ed.model.items;
-  ed.edits.do("Deleted", [`delete ${first.id}`]);
-  await answer();
-  other({ op: "move", target: first.id, x: 1, y: 1, clock: tick() });
+  ed.readOnly = "you look at the past";
   ed.edits.undo();
-  await answer();
-  assert.deepEqual(told.banners, ["Put back 1 object. It is a new one: on top, without what Bob changed since"]);
+  await rest();
+  assert.equal(told.said.length, 2);
 });
 
-test("what was put back and changed by another isn't deleted by a redo", async () => {
-  const { ed, answer, other, told, tick } = page(rect("1.2"));
-  ed.edits.do("Deleted", ["delete 1.2"]);
+test("an undo that the node refuses is said once, and what it took of it is taken back", async () => {
+  const { ed, answer, pending, show, told } = page(rect("1.2"));
+  ed.edits.do("Moved", ["move 1.2 9 0", "move 1.2 8 0", "move 1.2 7 0"]);
   await answer();
   ed.edits.undo();
-  await answer();
-  other({ op: "move", target: "102.1", x: 1, y: 1, clock: tick() });
-  ed.edits.redo();
-  assert.deepEqual(await answer(), []);
-  assert.deepEqual(told.banners, ["1 of 1 changes stayed: changed or deleted since"]);
+  assert.deepEqual(await answer(null, "refused: SessionFull", "refused: SessionFull"), ["undo", "undo", "undo"]);
+  assert.deepEqual(told.refused, [{ why: "SessionFull" }]);
+  assert.equal(told.said.at(-1), "Undid: Moved");
+  show([rect("1.2", 8)]);
+  assert.equal(pending.layers.length, 0);
 });
 
-test("what another one had deleted first isn't put back", async () => {
-  const { ed, model, answer } = page(rect("1.2"), rect("2.2", 5));
-  ed.edits.do("Deleted", ["delete 1.2", "delete 2.2"]);
-  ed.edits.undo();
-  assert.deepEqual(places(model), ["~2.1 0", "~2.2 5"]);
-  await answer("refused: NoObject");
-  assert.deepEqual(await answer(), ["create rect 5 0 10 10"]);
-  assert.deepEqual(ed.model.items.map((item) => item.x), [0, 5]);
-});
-
-test("a put-back that nobody heard can be done later, and no other gesture is taken back instead", async () => {
-  const { ed, answer, told, typed, rest } = page(rect("1.2"), rect("2.2"));
-  ed.edits.do("Moved", ["move 2.2 9 0"]);
-  await answer();
-  ed.edits.do("Deleted", ["delete 1.2"]);
+test("an undo that nobody heard can be done later", async () => {
+  const { ed, answer, pending, told, typed, rest } = page(rect("1.2"));
+  ed.edits.do("Moved", ["move 1.2 9 0"]);
   await answer();
   ed.edits.undo();
   await rest();
   typed.shift().fail(new Lost("Lost"));
   await rest();
-  assert.deepEqual(told.refused.map(({ why }) => why), ["Lost"]);
-  assert.deepEqual([ed.edits.done.length, ed.edits.undone.length], [2, 0]);
+  assert.deepEqual(told.refused, [{ why: "Lost" }]);
+  assert.deepEqual([ed.edits.due("undo"), ed.edits.due("redo"), pending.layers.length], ["Moved", null, 1]);
 });
 
-test("one gesture alone is taken back, whatever was done since, and only once", async () => {
-  const { ed, answer, typed, rest } = page(rect("1.2"), rect("2.2"));
-  ed.edits.do("Deleted", ["delete 1.2"]);
+const put = (id, more) => ({ op: "restore", target: id, kind: "rect", at: [0, 0], size: [10, 10], stroke: "000000", fill: null, width: 1, label: "", link: null, dissolved: false, rank: { high: id }, ties: [], ...more });
+
+test("what was taken back is selected once it is shown", async () => {
+  const { ed, answer, show, note } = page(rect("1.2"), rect("2.2", 5));
+  ed.edits.do("Deleted", ["delete 1.2", "delete 2.2"]);
   await answer();
-  const [gesture] = ed.edits.done;
-  ed.edits.do("Moved", ["move 2.2 9 0"]);
-  await answer();
-  ed.edits.undo(gesture);
-  assert.deepEqual(await answer(), ["create rect 0 0 10 10"]);
-  ed.edits.undo(gesture);
-  await rest();
-  assert.equal(typed.length, 0);
+  show([], ["1.2", "2.2"]);
+  note({ op: "delete", target: "1.2", clock: 101 }, { op: "delete", target: "2.2", clock: 102 });
   ed.edits.undo();
-  assert.deepEqual(await answer(), ["move 2.2 0 0"]);
+  await answer();
+  assert.deepEqual([...ed.selection.ids], []);
+  // The events may come behind the picture.
+  show([rect("1.2"), rect("2.2", 5)]);
+  assert.deepEqual([...ed.selection.ids], []);
+  note(put("2.2", { clock: 103 }), put("1.2", { clock: 104 }));
+  assert.deepEqual([...ed.selection.ids], ["2.2", "1.2"]);
+  // Later ones select nothing any more.
+  ed.selection.clear();
+  note({ op: "move", target: "1.2", x: 1, y: 1, clock: 105, site: 2 });
+  assert.deepEqual([...ed.selection.ids], []);
 });
 
-test("more is put back than one batch takes", async () => {
-  const many = Array.from({ length: 4000 }, (_, at) => looked(`${at + 1}.2`, at, { stroke: "FF0000", fill: "00FF00" }));
-  const { ed, model, answer } = page(...many);
-  ed.edits.do("Deleted", many.map(({ id }) => `delete ${id}`));
+test("of a group that was taken back its members are selected, and within a group that was entered what is in it", async () => {
+  const group = { kind: "group", id: "3.2", in: null, at: [0, 0] };
+  const { ed, answer, show, note } = page(group, looked("1.2", 0, { in: "3.2" }), looked("2.2", 0, { in: "3.2" }));
+  ed.selection.enter("3.2");
+  ed.edits.do("Moved", ["move 1.2 9 0"]);
   await answer();
   ed.edits.undo();
-  assert.equal(model.items.length, 4000);
-  const [first, second] = [await answer(), await answer()];
-  assert.deepEqual([first.length, second.length], [10000, 2000]);
-  // The 3,334th is made by the last line of the first batch.
-  assert.deepEqual([first.at(-1), second[0]], ["create rect 3333 0 10 10", "stroke 14000.1 FF0000"].map((line) => line.replace("14000", "14100")));
+  await answer();
+  note({ op: "move", target: "1.2", x: 9, y: 0, clock: 101 }, { op: "move", target: "1.2", x: 0, y: 0, clock: 102 });
+  show([looked("1.2", 0, { in: "3.2" })]);
+  assert.deepEqual([[...ed.selection.ids], ed.selection.scope], [["1.2"], "3.2"]);
+  ed.edits.do("Grouped", ["group 3.2 9.2"]);
+  await answer();
+  ed.edits.undo();
+  await answer();
+  note({ op: "disband", target: "3.2", ties: [{ id: "1.2", link: null }, { id: "2.2", link: null }], clock: 104 });
+  show([rect("1.2"), rect("2.2")], ["3.2"]);
+  assert.deepEqual([[...ed.selection.ids], ed.selection.scope], [["1.2", "2.2"], null]);
 });
 
-test("a refused line goes back and says why; a gesture of which nothing was taken is no step of undo", async () => {
+test("what others changed there since is said", async () => {
+  const { ed, answer, show, note, told } = page(rect("1.2"), rect("2.2"));
+  ed.edits.do("Moved", ["move 1.2 9 0", "move 2.2 9 0"]);
+  await answer();
+  note({ op: "move", target: "1.2", x: 9, y: 0, clock: 101 }, { op: "move", target: "2.2", x: 9, y: 0, clock: 102 });
+  // Another part, and one that came before.
+  note({ op: "restyle", target: "1.2", stroke: "FF0000", clock: 103, site: 3 });
+  const undone = async (...events) => {
+    ed.edits.undo();
+    await answer();
+    note(...events);
+    show([rect("1.2"), rect("2.2")]);
+    ed.edits.redo();
+    await answer();
+  };
+  await undone({ op: "move", target: "2.2", x: 0, y: 0, clock: 103 }, { op: "move", target: "1.2", x: 0, y: 0, clock: 104 });
+  assert.deepEqual(told.banners, []);
+  note({ op: "move", target: "1.2", x: 9, y: 0, clock: 105 }, { op: "move", target: "2.2", x: 9, y: 0, clock: 106 });
+  show([]);
+  // Late ones count too: what is put back there is older.
+  note({ op: "move", target: "2.2", x: 4, y: 4, clock: 90, site: 2 }, { op: "delete", target: "1.2", clock: 120, site: 3 });
+  await undone({ op: "move", target: "2.2", x: 0, y: 0, clock: 107 }, { op: "move", target: "1.2", x: 0, y: 0, clock: 108 });
+  assert.deepEqual(told.banners, ["Undone, without what Ana and Bob changed there since"]);
+});
+
+test("an offer to take something back goes with the next thing that is done, here or at another page", async () => {
+  const { ed, ear, answer, turns } = page(rect("1.2"));
+  const passed = [];
+  const offer = (name) => {
+    ed.edits.passed = () => passed.push(name);
+  };
+  ed.edits.do("Moved", ["move 1.2 9 0"]);
+  await answer();
+  offer("first");
+  // What the bridge tells of the own gesture comes behind its answers.
+  ear.stand("turns");
+  assert.deepEqual(passed, []);
+  ed.edits.undo();
+  assert.deepEqual(passed, ["first"]);
+  await answer();
+  offer("second");
+  turns.take("Moved there", ["move 1.2 8 0"], ["ok 200.1"]);
+  ed.node.turns = turns.told();
+  ear.stand("turns");
+  assert.deepEqual(passed, ["first", "second"]);
+  assert.deepEqual([ed.edits.due("undo"), ed.edits.due("redo")], ["Moved there", null]);
+});
+
+test("a gesture of more edits than an undo takes back is said", async () => {
+  const many = Array.from({ length: 1025 }, (_, at) => rect(`${at + 1}.2`, at));
+  const { ed, answer, told } = page(...many);
+  ed.edits.do("Moved", many.slice(1).map(({ id }) => `move ${id} 0 0`));
+  await answer();
+  assert.deepEqual(told.banners, []);
+  ed.edits.do("Moved", many.map(({ id }) => `move ${id} 0 0`));
+  await answer();
+  assert.match(told.banners[0], /^That was 1,025 edits at once\. Undo takes back 1,024 at most/);
+});
+
+test("what is made is called by its id once that is known", async () => {
+  const { ed, model, answer } = page();
+  ed.edits.do("Made", ["create rect 1 2 3 4", "width @1 2"], (names) => [names[0]]);
+  assert.deepEqual([...ed.selection.ids], ["~1.1"]);
+  assert.deepEqual(await answer(), ["create rect 1 2 3 4", "width @1 2"]);
+  assert.deepEqual([...ed.selection.ids], ["101.1"]);
+  ed.edits.do("Grouped", ["group ~1.1 7.2", "group @1 8.2"]);
+  assert.deepEqual(await answer(), ["group 101.1 7.2", "group @1 8.2"]);
+  assert.ok(model.byId.has("104.1"));
+});
+
+test("a refused line goes back and says why", async () => {
   const { ed, model, answer, told } = page(rect("1.2"), rect("2.2"));
   ed.edits.do("Moved", ["move 1.2 9 0", "move 2.2 9 0"]);
   await answer("refused: NoObject");
   assert.deepEqual(told.refused, [{ line: "move 1.2 9 0", why: "NoObject" }]);
   assert.deepEqual(places(model), ["1.2 0", "2.2 9"]);
-  ed.edits.undo();
-  assert.deepEqual(await answer(), ["move 2.2 0 0"]);
-  ed.edits.do("Moved", ["move 1.2 9 0"]);
+  // What was taken of it is one step of undo; a gesture of which nothing was taken is none.
+  ed.edits.do("Tried", ["move 1.2 9 0"]);
   await answer("refused: NoObject");
-  assert.equal(ed.edits.done.length, 0);
+  ed.edits.undo();
+  assert.deepEqual(await answer(), ["undo"]);
+  assert.equal(told.said.at(-1), "Undid: Moved");
 });
 
 test("a label that looks like a reference stays as it is typed", async () => {
@@ -399,7 +352,7 @@ test("without a connection nothing is done, and that is said", async () => {
   await rest();
   assert.deepEqual(places(model), ["1.2 0"]);
   assert.deepEqual(told.refused, [{ line: "move 1.2 9 0", why: "Lost" }]);
-  assert.equal(ed.edits.done.length, 0);
+  assert.equal(ed.edits.due("undo"), null);
 });
 
 test("what can't be drawn on takes nothing", async () => {

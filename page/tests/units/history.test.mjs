@@ -114,9 +114,21 @@ test("an event that is told twice is taken once", () => {
   assert.equal(history.events.length, 1);
 });
 
+const nameOf = (each) => `${each.clock}.${each.site}`;
+const hexOf = (value) => (value === null ? null : value.toString(16).toUpperCase().padStart(6, "0"));
+const toldLink = (link) => link && { id: nameOf(link), dx: link.dx, dy: link.dy };
+const toldRank = (rank) => ({ [rank.height]: nameOf(rank) });
+
+/** The object of a random restore as the bridge tells it. */
+const toldWhole = ({ x, y, w, h, stroke, fill, link, rank, ...rest }) => ({
+  ...rest, at: [x, y], size: [w, h], stroke: hexOf(stroke), fill: hexOf(fill), link: toldLink(link), rank: toldRank(rank),
+});
+
 /** An event of a random log as the bridge tells it. */
-function told({ on, style, value, members, ...rest }) {
-  const name = (each) => `${each.clock}.${each.site}`;
-  const hex = typeof value === "number" && style !== "width" ? value.toString(16).toUpperCase().padStart(6, "0") : value;
-  return { ...rest, ...(on && { target: name(on) }), ...(style && { [style]: hex }), ...(members && { members: members.map(({ dx, dy, ...id }) => ({ id: name(id), dx, dy })) }) };
+function told({ on, style, value, members, whole, ties, rank, ...rest }) {
+  return {
+    ...rest, ...(on && { target: nameOf(on) }), ...(style && { [style]: style === "width" ? value : hexOf(value) }),
+    ...(members && { members: members.map(({ dx, dy, ...id }) => ({ id: nameOf(id), dx, dy })) }), ...(whole && toldWhole(whole)),
+    ...(ties && { ties: ties.map((tie) => ({ id: nameOf(tie), link: toldLink(tie.link) })) }), ...(rank && { rank: toldRank(rank) }),
+  };
 }

@@ -6,7 +6,9 @@ import { existsSync } from "node:fs";
 const BUILT = new URL("../../../crates/groupdesign/out/groupdesign", import.meta.url).pathname;
 export const PROGRAM = process.env.PAGE_PROGRAM || (existsSync(BUILT) ? BUILT : null);
 const KINDS = { rect: 1, ellipse: 2, line: 3, text: 4 };
+const OBJECT_KINDS = { ...KINDS, group: 5 };
 const STYLES = { stroke: 1, fill: 2, width: 3 };
+const NO_FILL = 0xffffffff;
 
 /** What `replay` prints of a log in one of its formats. */
 export function replayed(log, ...words) {
@@ -46,6 +48,23 @@ class Bytes {
     this.number(bytes.length, 1).list.push(...bytes);
     return this;
   }
+
+  link(link) {
+    return link ? this.number(1, 1).stamp(link).number(link.dx, 4).number(link.dy, 4) : this.number(0, 1);
+  }
+
+  rank(rank) {
+    return this.number(rank.height === "high" ? 1 : 0, 1).stamp(rank);
+  }
+
+  ties(ties) {
+    return ties.reduce((all, tie) => all.stamp(tie).link(tie.link), this.number(ties.length, 1));
+  }
+
+  whole({ kind, x, y, w, h, stroke, fill, width, label, link, dissolved, rank }) {
+    const front = [x, y, w, h, stroke, fill ?? NO_FILL].reduce((all, each) => all.number(each, 4), this.number(OBJECT_KINDS[kind], 1));
+    return front.number(width, 1).label(label).link(link).number(dissolved ? 1 : 0, 1).rank(rank);
+  }
 }
 
 const WRITERS = {
@@ -53,19 +72,23 @@ const WRITERS = {
   delete: (bytes, e) => bytes.number(2, 1).stamp(e.on),
   move: (bytes, e) => bytes.number(3, 1).stamp(e.on).number(e.x, 4).number(e.y, 4),
   resize: (bytes, e) => bytes.number(4, 1).stamp(e.on).number(e.w, 4).number(e.h, 4),
-  restyle: (bytes, e) => bytes.number(5, 1).stamp(e.on).number(STYLES[e.style], 1).number(e.value ?? 0xffffffff, 4),
+  restyle: (bytes, e) => bytes.number(5, 1).stamp(e.on).number(STYLES[e.style], 1).number(e.value ?? NO_FILL, 4),
   retext: (bytes, e) => bytes.number(6, 1).stamp(e.on).label(e.label),
   group: (bytes, e) => e.members.reduce((all, each) => all.stamp(each).number(each.dx, 4).number(each.dy, 4), bytes.number(7, 1).number(e.members.length, 1)),
   ungroup: (bytes, e) => bytes.number(8, 1).stamp(e.on),
   raise: (bytes, e) => bytes.number(9, 1).stamp(e.on),
   lower: (bytes, e) => bytes.number(10, 1).stamp(e.on),
+  restore: (bytes, e) => bytes.number(11, 1).stamp(e.on).whole(e.whole).ties(e.ties),
+  disband: (bytes, e) => bytes.number(12, 1).stamp(e.on).ties(e.ties),
+  rerank: (bytes, e) => bytes.number(13, 1).stamp(e.on).rank(e.rank),
+  reopen: (bytes, e) => bytes.number(14, 1).stamp(e.on),
 };
 
 /** The log of events of so many sites, in the order in which they stand. */
 export function logOf(events, sites) {
   const bytes = new Bytes();
   bytes.list.push(...new TextEncoder().encode("GDOL"));
-  bytes.number(2, 1).number(7, 4).number(1, 1).number(sites, 1);
+  bytes.number(3, 1).number(7, 4).number(1, 1).number(sites, 1);
   const counts = new Map();
   for (const event of events) {
     counts.set(event.site, (counts.get(event.site) ?? 0) + 1);
@@ -87,12 +110,28 @@ export function drawer(seed) {
 
 const compare = (a, b) => a.clock - b.clock || a.site - b.site;
 
+/** What an undo makes of one of these objects: each link leads to a later one of them, if not to none. */
+function turned(draw, op, on, before, place, size) {
+  const link = (from) => {
+    const later = before.filter((each) => compare(each, from) > 0);
+    return later.length && draw(3) ? { ...later[draw(later.length)], dx: draw(99) - 49, dy: draw(99) - 49 } : null;
+  };
+  const rank = () => ({ ...before[draw(before.length)], height: ["low", "high"][draw(2)] });
+  const ties = (least) => before.filter((each) => each !== on).slice(0, least + draw(4)).sort(compare).map((each) => ({ ...each, link: link(each) }));
+  if (op === "reopen") return { op, on };
+  if (op === "rerank") return { op, on, rank: rank() };
+  if (op === "disband") return { op, on, ties: ties(1) };
+  const look = { stroke: draw(1 << 24), fill: draw(2) ? null : draw(1 << 24), width: 1 + draw(64), label: ["", "put"][draw(2)] };
+  const kind = Object.keys(OBJECT_KINDS)[draw(5)];
+  return { op, on, whole: { kind, ...place(), ...size(), ...look, link: link(on), dissolved: kind === "group" && draw(4) === 0, rank: rank() }, ties: ties(0) };
+}
+
 /** An operation on one of the objects that were made before a stamp; none of them need be there any more. */
 function operation(draw, stamp, made) {
   const place = () => ({ x: draw(2001) - 1000, y: draw(2001) - 1000 });
   const size = () => ({ w: draw(401) - 200, h: draw(401) - 200 });
   const before = made.filter((each) => compare(each, stamp) < 0);
-  const pick = draw(20);
+  const pick = draw(25);
   if (pick < 4 || before.length < 2) return { op: "create", kind: Object.keys(KINDS)[draw(4)], ...place(), ...size(), label: ["", "a", "é \"q\\", "שלום"][draw(4)] };
   const on = before[draw(before.length)];
   if (pick < 8) return { op: "move", on, ...place() };
@@ -103,6 +142,7 @@ function operation(draw, stamp, made) {
     const members = [...new Set(Array.from({ length: 2 + draw(4) }, () => before[draw(before.length)]))].sort(compare);
     return members.length > 1 ? { op: "group", members: members.map((each) => ({ ...each, dx: draw(99) - 49, dy: draw(99) - 49 })) } : { op: "raise", on };
   }
+  if (pick > 19) return turned(draw, ["restore", "restore", "disband", "rerank", "reopen"][pick - 20], on, before, place, size);
   return { op: ["delete", "ungroup", "raise", "lower"][pick - 16], on };
 }
 

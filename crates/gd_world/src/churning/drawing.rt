@@ -3,11 +3,11 @@
 ghost use Rattle.std.specs.Prelude.{◌≡◌, ℕ, ◌<◌, ◌≤◌, ◌^◌, pos, length, IfSome};
 ghost use Rattle.gd_base.specs.Stamps.{IsStamp};
 ghost use Rattle.gd_lines.specs.InRange.{IsEdit};
-ghost use Rattle.gd_world.specs.Drawn.{IsOfOne, IsPlayed, edit_at};
+ghost use Rattle.gd_world.specs.Drawn.{IsOfOne, IsPlayed, edit_at, turn_at};
 ghost use Rattle.gd_worlds.specs.Churn.{below, create, deliver, group, line_for, move, send, step, stroke};
 
 use gd_base::{COLOUR_LIMIT, Content, Edit, Ids, Label, Shape, Side, Stamp};
-use gd_lines::{Command, ScriptLine};
+use gd_lines::{Command, ScriptLine, Turn};
 use rand_core::utils::NextWord;
 use rand_pcg::Pcg32;
 
@@ -24,12 +24,12 @@ pub(crate) fn step(generator: &mut Pcg32, made: &[Stamp], mails: u32) -> Option<
     ensures ranged { IfSome result IsPlayed }
 {
     let site = 1 + below(generator, 4) as u8;
-    let number = below(generator, 16);
+    let number = below(generator, 18);
     line_for(generator, made, mails, site, number)
 }
 
-/// The line of a site by a number: 0 to 3 make an object, 4 to 11 change one that was made, 12 and 13 send, and all above
-/// deliver.
+/// The line of a site by a number: 0 to 3 make an object, 4 to 11 change one that was made, 12 and 13 send, 14 and 15 deliver, 16
+/// takes an edit back, and all above do one again.
 fn line_for(
     generator: &mut Pcg32,
     made: &[Stamp],
@@ -52,7 +52,13 @@ fn line_for(
     if number < 14 {
         return send(generator, site);
     }
-    deliver(generator, mails)
+    if number < 16 {
+        return deliver(generator, mails);
+    }
+    if number == 16 {
+        return turns(site, Turn::Undo);
+    }
+    turns(site, Turn::Redo)
 }
 
 /// A site is asked for an edit.
@@ -64,6 +70,17 @@ fn asks(site: u8, edit: Edit) -> Option<ScriptLine>
     Some(ScriptLine::At {
         site,
         command: Command::Edit(edit),
+    })
+}
+
+/// A site is asked to take an edit back, or to do one again.
+fn turns(site: u8, which: Turn) -> Option<ScriptLine>
+    ensures line { result ≡ turn_at site which }
+    ensures ranged { IfSome result IsPlayed }
+{
+    Some(ScriptLine::At {
+        site,
+        command: Command::Turn(which),
     })
 }
 

@@ -1,8 +1,10 @@
-use Rattle.std.proofs.Common.{ap, ◌∙◌}
+use Rattle.std.proofs.Common.{[], length, refl, sym, ap, ◌∙◌}
+use Rattle.gd_model.specs.declared.form.Form.TheVariants.{Takes}
 use Rattle.gd_model.specs.Forms.{form}
 use Rattle.gd_canvas.specs.Kept.{op_of}
+use Rattle.gd_canvas.specs.Olds.{TiedValue}
 use Rattle.gd_canvas.specs.Touches.{is_set_by}
-use Rattle.gd_canvas.proofs.TouchLemmas.{set_covers, delete_covers}
+use Rattle.gd_canvas.proofs.TouchLemmas.{form_covers, set_covers}
 use Rattle.gd_canvas.proofs.relations.covers.Goals as goal
 
 pub returns-in-Set : goal.returns-in-Set
@@ -15,4 +17,12 @@ returns-in-Set c =
 pub returns-in-Delete : goal.returns-in-Delete
 returns-in-Delete c =
     let f = c.in-Delete in
-    c.is_taken_by.ensures ∙ delete_covers c.args.s c.args.t c.args.e.now c.args.f.now f.id f.before f.is
+    c.is_taken_by.ensures [] refl
+    ∙ form_covers c.args.s c.args.t (op_of c.args.e.now) (op_of c.args.f.now) (Takes f.id []) (ap (λ k. form c.args.t (op_of k)) f.is)
+
+pub returns-in-Disband : goal.returns-in-Disband
+returns-in-Disband c =
+    let f = c.in-Disband in
+    let ties = c.ties.ensures.ties ∙ ap (λ (t : TiedValue). t.ties) c.deref.ensures in
+    c.is_taken_by-in-Disband.ensures f.tied.value.ties (ap length (sym ties))
+    ∙ form_covers c.args.s c.args.t (op_of c.args.e.now) (op_of c.args.f.now) (Takes f.id f.tied.value.ties) (ap (λ k. form c.args.t (op_of k)) f.is)

@@ -1,10 +1,15 @@
-use Rattle.std.proofs.Common.{◌∙◌}
+use Rattle.std.proofs.Common.{◌≡◌, ◌≤◌, true, List, [], length, ap, subst, sym, ◌∙◌}
+use Rattle.gd_base.specs.declared.ties.Tie.{Tie}
+use Rattle.gd_model.specs.declared.form.Form.TheVariants.{Takes}
 use Rattle.gd_model.specs.Forms.{form}
 use Rattle.gd_model.specs.Objects.{part_of}
-use Rattle.gd_canvas.specs.declared.kept.Kept.TheVariants.{Delete, Set}
-use Rattle.gd_canvas.specs.Kept.{op_of, sets}
-use Rattle.gd_canvas.proofs.SpliceLemmas.{spliced, part_covers}
-use Rattle.gd_canvas.proofs.TouchLemmas.{set_covers, delete_covers}
+use Rattle.gd_model.specs.Relations.{covers_by}
+use Rattle.gd_model.specs.Splices.{splice_by}
+use Rattle.gd_canvas.specs.declared.kept.Kept.TheVariants.{Delete, Set, Disband}
+use Rattle.gd_canvas.specs.Kept.{before_of, of_taken, op_of, sets}
+use Rattle.gd_canvas.specs.Olds.{TiedValue}
+use Rattle.gd_canvas.proofs.SpliceLemmas.{spliced, part_covers, no_olds}
+use Rattle.gd_canvas.proofs.TouchLemmas.{set_covers, form_covers, no_ties}
 use Rattle.gd_canvas.proofs.splices.splice.Goals as goal
 
 pub splice_set-requires : goal.splice_set-requires
@@ -23,5 +28,21 @@ returns-in-Set-clause-before c =
 pub returns-in-Delete-clause-before : goal.returns-in-Delete-clause-before
 returns-in-Delete-clause-before c =
     let f = c.in-Delete in
-    c.splice_deleted.ensures.before f.id (delete_covers c.args.s c.args.t c.args.e.now c.args.f.now f.id f.before f.is ∙ c.requires)
+    c.splice_deleted.ensures.before f.id (form_covers c.args.s c.args.t (op_of c.args.e.now) (op_of c.args.f.now) (Takes f.id []) (ap (λ k. form c.args.t (op_of k)) f.is) ∙ c.requires)
     ∙ spliced c.args.s c.args.t c.args.e.now c.args.f.now (Delete f.id f.before) f.is
+
+pub returns-in-Disband-clause-before : goal.returns-in-Disband-clause-before
+returns-in-Disband-clause-before c =
+    let f = c.in-Disband in
+    let g = form c.args.s (op_of c.args.e.now) in
+    let covers = form_covers c.args.s c.args.t (op_of c.args.e.now) (op_of c.args.f.now) (Takes f.id f.tied.value.ties) (ap (λ k. form c.args.t (op_of k)) f.is) ∙ c.requires in
+    let ties = no_ties f.id f.tied.value.ties g covers in
+    let few = subst (λ (v : TiedValue). length v.olds ≤ length v.ties) c.deref_mut.ensures.value c.clear.ensures.few in
+    let olds = no_olds f.tied.value.ties f.tied.value.olds few ties in
+    let plain = subst (λ (ts : List Tie). covers_by (Takes f.id ts) g ≡ true) ties covers in
+    let before = sym ties in
+    let links = sym olds in
+    (λ i. (before_of c.splice_deleted-in-Disband.new.e, of_taken f.id (c.clear.ensures.olds i) c.splice_deleted-in-Disband.new.later))
+    ∙ c.splice_deleted-in-Disband.ensures.before f.id plain
+    ∙ (λ i. splice_by g (Takes f.id (before i)) (of_taken f.id (links i) (c.deref_mut-in-Disband.ensures.value i)))
+    ∙ spliced c.args.s c.args.t c.args.e.now c.args.f.now (Disband f.id f.before f.tied) f.is

@@ -12,4 +12,4 @@ returns-clause-both c n m p q same =
 pub returns-clause-new : goal.returns-clause-new
 returns-clause-new c n m p q same =
     c.nodes_that_hold_the_same_show_the_same.ensures.sites (site_of n) (new.site_of m)
-    (well_after n p) (goes-node m q).ready.well same
+    (well_after n p) (goes-node m q).well same

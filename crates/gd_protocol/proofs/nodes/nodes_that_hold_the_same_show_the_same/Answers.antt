@@ -10,7 +10,7 @@ use Rattle.gd_protocol.proofs.nodes.nodes_that_hold_the_same_show_the_same.Goals
 pub returns-clause-nodes : goal.returns-clause-nodes
 returns-clause-nodes c n m p q same =
     ap (λ all. text (fold applied [] all)) (ordered-same (site_of n).held (site_of m).held
-    (well_distinct (site_of n) (goes-node n p).ready.well) (well_distinct (site_of m) (goes-node m q).ready.well) same)
+    (well_distinct (site_of n) (goes-node n p).well) (well_distinct (site_of m) (goes-node m q).well) same)
 
 pub returns-clause-sites : goal.returns-clause-sites
 returns-clause-sites c s t p q same =

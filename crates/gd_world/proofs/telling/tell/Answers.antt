@@ -1,11 +1,11 @@
 use Rattle.std.proofs.Common.{ℕ, List, refl, sym, ◌∙◌, ap}
 use Rattle.std.specs.Prelude.{option_map}
-use Rattle.gd_answers.specs.Refusals.{refused_edit, refused_undo}
+use Rattle.gd_answers.specs.Refusals.{refused_edit, refused_turn}
 use Rattle.gd_lines.specs.Refusals.{edit_refusal}
 use Rattle.gd_lines.specs.declared.command.Command.TheVariants as command
 use Rattle.gd_reference.specs.TakeBack.{back_refusal}
 use Rattle.gd_reference.specs.World.{after_line}
-use Rattle.gd_world.proofs.Tells.{edit_makes, edit_refuses, tells_focus, tells_made, tells_name, tells_nothing, tells_read, tells_refused, tells_show, tells_status, tells_who, undo_makes, undo_refuses}
+use Rattle.gd_world.proofs.Tells.{edit_makes, edit_refuses, tells_focus, tells_made, tells_name, tells_nothing, tells_read, tells_refused, tells_show, tells_status, tells_who, turn_makes, turn_refuses}
 use Rattle.gd_world.proofs.telling.tell.Goals as goal
 
 pub returns-in-Ok : goal.returns-in-Ok
@@ -26,21 +26,23 @@ returns-in-Err g c slow stands =
     (tells_refused slow (command.Edit wanted) (option_map edit_refusal (refused_edit c.in-Err.fault)) (edit_refuses slow wanted c.in-Err.fault (fell.answer slow stands)) _ says.ok says.err
     (fell.err_stands slow stands) fell.err_steps)
 
-pub returns-in-Ok-undo : goal.returns-in-Ok-undo
+pub returns-in-Ok-turn : goal.returns-in-Ok-turn
 unfolding after_line
-returns-in-Ok-undo g c slow stands =
-    let made = c.in-Ok-undo.ensures in
-    tells_read _ _ _ _ _ _ command.Undo c.in-Undo.is
-    (tells_made slow command.Undo _ _ c.in-Ok-undo.event (undo_makes slow c.in-Ok-undo.event (made.answer slow stands)) _ c.stamp-in-Ok-undo.ensures c.only-in-Ok-undo.ensures.ok c.only-in-Ok-undo.ensures.err
-    (made.stands slow stands) made.steps)
+returns-in-Ok-turn g c slow stands =
+    let which = c.in-Turn.which in
+    let made = c.in-Ok-turn.ensures in
+    tells_read _ _ _ _ _ _ (command.Turn which) c.in-Turn.is
+    (tells_made slow (command.Turn which) _ _ c.in-Ok-turn.event (turn_makes slow which c.in-Ok-turn.event (made.answer slow stands)) _
+    c.stamp-in-Ok-turn.ensures c.only-in-Ok-turn.ensures.ok c.only-in-Ok-turn.ensures.err (made.stands slow stands) made.steps)
 
-pub returns-in-Err-undo : goal.returns-in-Err-undo
-returns-in-Err-undo g c slow stands =
-    let fell = c.in-Err-undo.ensures in
-    let says = rw c.back_refusal.ensures at c.refused-in-Err-undo.ensures in
-    tells_read _ _ _ _ _ _ command.Undo c.in-Undo.is
-    (tells_refused slow command.Undo (option_map back_refusal (refused_undo c.in-Err-undo.fault)) (undo_refuses slow c.in-Err-undo.fault (fell.answer slow stands)) _ says.ok says.err
-    (fell.err_stands slow stands) fell.err_steps)
+pub returns-in-Err-turn : goal.returns-in-Err-turn
+returns-in-Err-turn g c slow stands =
+    let which = c.in-Turn.which in
+    let fell = c.in-Err-turn.ensures in
+    let says = rw c.back_refusal.ensures at c.refused-in-Err-turn.ensures in
+    tells_read _ _ _ _ _ _ (command.Turn which) c.in-Turn.is
+    (tells_refused slow (command.Turn which) (option_map back_refusal (refused_turn c.in-Err-turn.fault))
+    (turn_refuses slow which c.in-Err-turn.fault (fell.answer slow stands)) _ says.ok says.err (fell.err_stands slow stands) fell.err_steps)
 
 pub returns-in-Name : goal.returns-in-Name
 returns-in-Name g c slow stands =

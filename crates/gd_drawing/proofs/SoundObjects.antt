@@ -1,0 +1,418 @@
+-- What sound events before a stamp leave: the numbers of an object are in their ranges, and its id, rank and link are
+-- before that stamp. It is so of the form of each such event, and of the board, field by field.
+use Rattle.std.proofs.Common.{◌≡◌, ◌≤◌, Bool, true, false, cond, not, ◌&&◌, List, [], ◌∷◌, length, map, Option, None, Some, refl, sym, ap, ◌∙◌, subst, arith}
+use Rattle.std.specs.Prelude.{ℤ, is_some, option_map, IfSome, if◌then◌else◌}
+use Rattle.std.specs.List.{AllByRecursion as Every, filter, list_all}
+use Rattle.std.specs.FinMap as map_of
+use Rattle.std.specs.Str.{is_utf8, chars}
+use Rattle.std.proofs.lemmas.Bool.{and_parts, and_from, cond_both}
+use Rattle.std.proofs.lemmas.List.{length-map}
+use Rattle.std.proofs.lemmas.List.Elements.{recursion_from_All}
+use Rattle.gd_base.specs.Contents.{content_map, is_content, IsTypedBy}
+use Rattle.gd_base.specs.Labels.{IsLabel}
+use Rattle.gd_base.specs.Ranges.{place_limit, size_limit, is_within, is_colour, is_fill, is_width}
+use Rattle.gd_base.specs.Ranks.{given_at}
+use Rattle.gd_base.specs.Stamps.{Stamp, IsStamp, stamp_cmp, is_same, is_before}
+use Rattle.gd_base.specs.Typed.{IsLinked, IsObject}
+use Rattle.gd_base.specs.declared.content.Content.TheVariants.{ToPlace, ToSize, ToStroke, ToFill, ToWidth, ToText, ToFlag, ToRank}
+use Rattle.gd_base.specs.declared.content.Height.TheVariants.{To, At}
+use Rattle.gd_base.specs.declared.content.Side.TheVariants.{Bottom, Top}
+use Rattle.gd_base.specs.declared.member.Member.{Member}
+use Rattle.gd_base.specs.declared.object.Link.{Link}
+use Rattle.gd_base.specs.declared.object.Object.{Object}
+use Rattle.gd_base.specs.declared.op.Op.TheVariants.{Create, Delete, Set, Group, Restore, Disband}
+use Rattle.gd_base.specs.declared.ranges.TheConstants.{MOST_MEMBERS}
+use Rattle.gd_base.specs.declared.ties.Tie.{Tie}
+use Rattle.gd_base.proofs.Insertions.{Every-all_inserted}
+use Rattle.gd_base.proofs.StampLemmas.{is_same-true, is_before-trans}
+use Rattle.gd_events.specs.Events.{Event}
+use Rattle.gd_events.specs.Ops.{Op, Done}
+use Rattle.gd_events.specs.Ordered.{ordered}
+use Rattle.gd_events.specs.Sound.{is_box_in_range, is_shift_in_range, is_link_in_range, is_look_in_range, is_object_in_range, are_ties_in_range, is_in_range, has_members, is_content_before, is_link_before, is_member_before, is_tie_before, are_ties_before, is_object_before, names_before, rise_above, has_rising_ids, IsHeight, AreTies, IsWellTyped, IsOp, IsSoundBefore, IsObjectBefore}
+use Rattle.gd_events.specs.declared.event.EventFault.{EventFault}
+use Rattle.gd_model.specs.Board.{Board, board_with, apply, apply_all, board}
+use Rattle.gd_model.specs.Contents.{Content}
+use Rattle.gd_model.specs.Drawing.{Drawing, find, first_tie, picture}
+use Rattle.gd_model.specs.Forms.{rank_at, tie_of, member_ties, form}
+use Rattle.gd_model.specs.Objects.{new_group, fits, put, set, tied_by}
+use Rattle.gd_model.specs.Undoing.{Lookup}
+use Rattle.gd_model.specs.declared.form.Form.{Form}
+use Rattle.gd_model.specs.declared.form.Form.TheVariants.{Sets, Puts, Takes}
+use Rattle.gd_drawing.proofs.InOrder.{stacking}
+use Rattle.gd_drawing.proofs.Listed.{find-listed}
+use Rattle.gd_drawing.proofs.Lookups.{after, get-board_with}
+
+-- ---- what is before a stamp t
+
+-- an id, or the stamp of a rank
+abbrev pub IsIdBefore : Stamp → Stamp → Type 0
+IsIdBefore t id = IsStamp id × (is_before id t ≡ true)
+
+-- the link of the object of that id
+pub record IsLinkBefore (t id : Stamp) (link : Option Link) : Type 0 where
+  pub typed : IsLinked link
+  pub range : is_link_in_range link ≡ true
+  pub before : is_link_before t id link ≡ true
+
+abbrev pub IsContentBefore : Stamp → Content → Type 0
+IsContentBefore t (ToText label) = IsLabel label
+IsContentBefore t (ToRank rank) = IsIdBefore t (given_at rank)
+IsContentBefore t content = is_content content ≡ true
+
+-- the fields of the object of that id
+pub record AreFieldsBefore (t id : Stamp) (o : Object) : Type 0 where
+  pub place : IsContentBefore t (ToPlace o.x o.y)
+  pub size : IsContentBefore t (ToSize o.w o.h)
+  pub stroke : IsContentBefore t (ToStroke o.stroke)
+  pub fill : IsContentBefore t (ToFill o.fill)
+  pub width : IsContentBefore t (ToWidth o.width)
+  pub label : IsContentBefore t (ToText o.label)
+  pub rank : IsContentBefore t (ToRank o.rank)
+  pub link : IsLinkBefore t id o.link
+
+abbrev pub IsTieBefore : Stamp → Tie → Type 0
+IsTieBefore t tie = IsIdBefore t tie.id × IsLinkBefore t tie.id tie.link
+
+pub record AreTiesBefore (t : Stamp) (ties : List Tie) : Type 0 where
+  pub few : length ties ≤ MOST_MEMBERS
+  pub each : Every (IsTieBefore t) ties
+  pub rising : rise_above None (map (λ x. x.id) ties) ≡ true
+
+abbrev pub IsFormBefore : Stamp → Form → Type 0
+IsFormBefore t (Sets id c) = IsIdBefore t id × IsContentBefore t c
+IsFormBefore t (Puts id o ties) = IsIdBefore t id × AreFieldsBefore t id o × AreTiesBefore t ties
+IsFormBefore t (Takes id ties) = IsIdBefore t id × AreTiesBefore t ties
+
+-- ---- the fields of an object, and the object
+
+four_parts : (a b c d : Bool) → (a && (b && (c && d))) ≡ true → ((a && b) ≡ true) × ((c && d) ≡ true)
+four_parts true true c d h = (refl, h)
+four_parts true false c d h = cc
+four_parts false b c d h = cc
+
+box_parts : (x y w h : ℤ) → is_box_in_range x y w h ≡ true
+    → ((is_within place_limit x && is_within place_limit y) ≡ true)
+    × ((is_within size_limit w && is_within size_limit h) ≡ true)
+box_parts x y w h =
+    four_parts (is_within place_limit x) (is_within place_limit y) (is_within size_limit w) (is_within size_limit h)
+
+four_from : (a b c d : Bool) → (a && b) ≡ true → (c && d) ≡ true → (a && (b && (c && d))) ≡ true
+four_from true true c d p q = q
+four_from true false c d p q = cc
+four_from false b c d p q = cc
+
+box_from : (x y w h : ℤ) → (is_within place_limit x && is_within place_limit y) ≡ true
+    → (is_within size_limit w && is_within size_limit h) ≡ true → is_box_in_range x y w h ≡ true
+box_from x y w h =
+    four_from (is_within place_limit x) (is_within place_limit y) (is_within size_limit w) (is_within size_limit h)
+
+-- what is before a stamp is before a later one
+link_later : (s t id : Stamp) (link : Option Link) → is_before s t ≡ true → is_link_before s id link ≡ true
+    → is_link_before t id link ≡ true
+link_later s t id None l h = refl
+link_later s t id (Some link) l h =
+    let both = and_parts (is_before id link.parent) (is_before link.parent s) h in
+    and_from (is_before id link.parent) (is_before link.parent t) both.0 (is_before-trans link.parent s t both.1 l)
+
+pub fields_before : (s t id : Stamp) (o : Object) → is_before s t ≡ true → IsObject o → is_object_in_range o ≡ true
+    → is_object_before s id o ≡ true → AreFieldsBefore t id o
+fields_before s t id o l typed range before =
+    let ranges = and_parts (is_box_in_range o.x o.y o.w o.h) (is_look_in_range o && is_link_in_range o.link) range in
+    let box = box_parts o.x o.y o.w o.h ranges.0 in
+    let behind = and_parts (is_look_in_range o) (is_link_in_range o.link) ranges.1 in
+    let look = and_parts (is_colour o.stroke) (is_fill o.fill && is_width o.width) behind.0 in
+    let filled = and_parts (is_fill o.fill) (is_width o.width) look.1 in
+    let names = and_parts (is_before id s) (is_before (given_at o.rank) s && is_link_before s id o.link) before in
+    let tops = and_parts (is_before (given_at o.rank) s) (is_link_before s id o.link) names.1 in
+    record {
+      place = box.0;
+      size = box.1;
+      stroke = look.0;
+      fill = filled.0;
+      width = filled.1;
+      label = typed.label;
+      rank = (typed.rank, is_before-trans (given_at o.rank) s t tops.0 l);
+      link = record { typed = typed.link; range = behind.1; before = link_later s t id o.link l tops.1 };
+    }
+
+pub object_before : (t id : Stamp) (o : Object) → IsIdBefore t id → AreFieldsBefore t id o → IsObjectBefore t id o
+object_before t id o i h =
+    record {
+      id_is = i.0;
+      typed = record { label = h.label; link = h.link.typed; rank = h.rank.0 };
+      range =
+          and_from (is_box_in_range o.x o.y o.w o.h) (is_look_in_range o && is_link_in_range o.link)
+          (box_from o.x o.y o.w o.h h.place h.size)
+          (and_from (is_look_in_range o) (is_link_in_range o.link)
+          (and_from (is_colour o.stroke) (is_fill o.fill && is_width o.width) h.stroke
+          (and_from (is_fill o.fill) (is_width o.width) h.fill h.width))
+          h.link.range);
+      before =
+          and_from (is_before id t) (is_before (given_at o.rank) t && is_link_before t id o.link) i.1
+          (and_from (is_before (given_at o.rank) t) (is_link_before t id o.link) h.rank.1 h.link.before);
+    }
+
+-- ---- the form of a sound operation
+
+abbrev first_fault : (range members before rising : Bool) (a b c d : EventFault) → Option EventFault
+first_fault range members before rising a b c d =
+    if not range then Some a else if not members then Some b else if not before then Some c
+    else if not rising then Some d else None
+
+pub fault_parts : (range members before rising : Bool) (a b c d : EventFault)
+    → first_fault range members before rising a b c d ≡ None
+    → (range ≡ true) × (members ≡ true) × (before ≡ true) × (rising ≡ true)
+fault_parts true true true true a b c d e = (refl, refl, refl, refl)
+fault_parts false m f i a b c d e = cc
+fault_parts true false f i a b c d e = cc
+fault_parts true true false i a b c d e = cc
+fault_parts true true true false a b c d e = cc
+
+no_label : IsLabel []
+unfolding is_utf8 chars
+no_label = record { fits = omega arith; plain = refl }
+
+no_link : (t id : Stamp) → IsLinkBefore t id None
+no_link t id = record { typed = tt; range = refl; before = refl }
+
+pub no_ties : (t : Stamp) → AreTiesBefore t []
+unfolding rise_above
+no_ties t = record { few = omega arith; each = tt; rising = refl }
+
+content_before : (s t : Stamp) (c : Done) → IsStamp s → is_before s t ≡ true → IsTypedBy IsHeight c
+    → is_content c ≡ true → is_content_before s c ≡ true
+    → IsContentBefore t (content_map (λ label. label) (rank_at s) c)
+content_before s t (ToPlace x y) is l typed range before = range
+content_before s t (ToSize w h) is l typed range before = range
+content_before s t (ToStroke colour) is l typed range before = range
+content_before s t (ToFill fill) is l typed range before = range
+content_before s t (ToWidth width) is l typed range before = range
+content_before s t (ToText label) is l typed range before = typed
+content_before s t (ToFlag flag) is l typed range before = refl
+content_before s t (ToRank (To Bottom)) is l typed range before = (is, l)
+content_before s t (ToRank (To Top)) is l typed range before = (is, l)
+content_before s t (ToRank (At rank)) is l typed range before = (typed, is_before-trans (given_at rank) s t before l)
+
+each_tie : (s t : Stamp) (ties : List Tie) → is_before s t ≡ true → Every (λ x. IsStamp x.id × IsLinked x.link) ties
+    → are_ties_in_range ties ≡ true → are_ties_before s ties ≡ true → Every (IsTieBefore t) ties
+each_tie s t [] l y h k = tt
+each_tie s t (x ∷ xs) l y h k =
+    let range = and_parts (is_link_in_range x.link) (are_ties_in_range xs) h in
+    let before = and_parts (is_tie_before s x) (are_ties_before s xs) k in
+    let one = and_parts (is_before x.id s) (is_link_before s x.id x.link) before.0 in (
+      (
+        (y.0.0, is_before-trans x.id s t one.0 l),
+        record { typed = y.0.1; range = range.0; before = link_later s t x.id x.link l one.1 },
+      ),
+      each_tie s t xs l y.1 range.1 before.1,
+    )
+
+ties_before : (s t : Stamp) (ties : List Tie) → is_before s t ≡ true → AreTies ties → are_ties_in_range ties ≡ true
+    → are_ties_before s ties ≡ true → rise_above None (map (λ x. x.id) ties) ≡ true → AreTiesBefore t ties
+ties_before s t ties l typed range before rising =
+    let each = recursion_from_All _ ties typed.1 in
+    record { few = typed.0; each = each_tie s t ties l each range before; rising = rising }
+
+-- the members of a sound group are all tied
+all_members : (s : Stamp) (ms : List Member) → list_all (is_member_before s) ms ≡ true
+    → member_ties s ms ≡ map (tie_of s) ms
+all_members s [] h = refl
+all_members s (m ∷ ms) h =
+    let both = and_parts (is_member_before s m) (list_all (is_member_before s) ms) h in
+    ap (λ b. map (tie_of s) (cond b (m ∷ filter (λ n. is_before n.id s) ms) (filter (λ n. is_before n.id s) ms))) both.0
+    ∙ ap (λ xs. tie_of s m ∷ xs) (all_members s ms both.1)
+
+ids-tied : (s : Stamp) (ms : List Member) → map (λ x. x.id) (map (tie_of s) ms) ≡ map (λ m. m.id) ms
+ids-tied s [] = refl
+ids-tied s (m ∷ ms) = ap (λ xs. m.id ∷ xs) (ids-tied s ms)
+
+each_member : (s t : Stamp) (ms : List Member) → IsStamp s → is_before s t ≡ true → Every (λ m. IsStamp m.id) ms
+    → list_all is_shift_in_range ms ≡ true → list_all (is_member_before s) ms ≡ true
+    → Every (IsTieBefore t) (map (tie_of s) ms)
+each_member s t [] is l y h k = tt
+each_member s t (m ∷ ms) is l y h k =
+    let range = and_parts (is_shift_in_range m) (list_all is_shift_in_range ms) h in
+    let before = and_parts (is_before m.id s) (list_all (is_member_before s) ms) k in (
+      (
+        (y.0, is_before-trans m.id s t before.0 l),
+        record { typed = is; range = range.0; before = and_from (is_before m.id s) (is_before s t) before.0 l },
+      ),
+      each_member s t ms is l y.1 range.1 before.1,
+    )
+
+members_before : (s t : Stamp) (ms : List Member) → IsStamp s → is_before s t ≡ true → length ms ≤ MOST_MEMBERS
+    → Every (λ m. IsStamp m.id) ms → list_all is_shift_in_range ms ≡ true → list_all (is_member_before s) ms ≡ true
+    → rise_above None (map (λ m. m.id) ms) ≡ true → AreTiesBefore t (member_ties s ms)
+members_before s t ms is l few y h k rising =
+    subst (AreTiesBefore t) (sym (all_members s ms k))
+    (record {
+      few = omega (arith, length-map ms (tie_of s), few);
+      each = each_member s t ms is l y h k;
+      rising = ap (rise_above None) (ids-tied s ms) ∙ rising;
+    })
+
+new_group_before : (s t : Stamp) → IsStamp s → is_before s t ≡ true → AreFieldsBefore t s (new_group s)
+new_group_before s t is l =
+    record {
+      place = refl;
+      size = refl;
+      stroke = refl;
+      fill = refl;
+      width = refl;
+      label = no_label;
+      rank = (is, l);
+      link = no_link t s;
+    }
+
+form_by : (s t : Stamp) (op : Op) → IsStamp s → is_before s t ≡ true → IsWellTyped op → is_in_range op ≡ true
+    → names_before s op ≡ true → has_rising_ids op ≡ true → IsFormBefore t (form s op)
+form_by s t (Create kind x y w h label) is l typed range before rising =
+    let box = box_parts x y w h range in (
+      (is, l),
+      record {
+        place = box.0;
+        size = box.1;
+        stroke = refl;
+        fill = refl;
+        width = refl;
+        label = typed;
+        rank = (is, l);
+        link = no_link t s;
+      },
+      no_ties t,
+    )
+form_by s t (Delete id) is l typed range before rising = ((typed, is_before-trans id s t before l), no_ties t)
+form_by s t (Set id c) is l typed range before rising =
+    let both = and_parts (is_before id s) (is_content_before s c) before in
+    ((typed.0, is_before-trans id s t both.0 l), content_before s t c is l typed.1 range both.1)
+form_by s t (Group members) is l typed range before rising = (
+  (is, l),
+  new_group_before s t is l,
+  members_before s t members is l typed.0 (recursion_from_All _ members typed.1) range before rising,
+)
+form_by s t (Restore id o ties) is l typed range before rising =
+    let ranges = and_parts (is_object_in_range o) (are_ties_in_range ties) range in
+    let both = and_parts (is_object_before s id o) (are_ties_before s ties) before in
+    let own = and_parts (is_before id s) (is_before (given_at o.rank) s && is_link_before s id o.link) both.0 in (
+      (typed.0, is_before-trans id s t own.0 l),
+      fields_before s t id o l typed.1 ranges.0 both.0,
+      ties_before s t ties l typed.2 ranges.1 both.1 rising,
+    )
+form_by s t (Disband id ties) is l typed range before rising =
+    let both = and_parts (is_before id s) (are_ties_before s ties) before in
+    ((typed.0, is_before-trans id s t both.0 l), ties_before s t ties l typed.1 range both.1 rising)
+
+pub form_before : (s t : Stamp) (op : Op) → IsStamp s → is_before s t ≡ true → IsOp s op → IsFormBefore t (form s op)
+form_before s t op is l h =
+    let parts = fault_parts (is_in_range op) (has_members op) (names_before s op) (has_rising_ids op) _ _ _ _ h.rules in
+    form_by s t op is l h.typed parts.0 parts.2 parts.3
+
+-- ---- the board after a form
+
+abbrev pub IsEntryBefore : Stamp → Stamp → Option Object → Type 0
+IsEntryBefore t id x = IfSome x (λ o. IsIdBefore t id × AreFieldsBefore t id o)
+
+abbrev pub IsLookupBefore : Stamp → Lookup → Type 0
+IsLookupBefore t g = (id : Stamp) → IsEntryBefore t id (g id)
+
+abbrev pub IsBoardBefore : Stamp → Board → Type 0
+IsBoardBefore t b = IsLookupBefore t (map_of.get b)
+
+fields_from : (t id : Stamp) (o : Object) → IsContentBefore t (ToPlace o.x o.y) → IsContentBefore t (ToSize o.w o.h)
+    → IsContentBefore t (ToStroke o.stroke) → IsContentBefore t (ToFill o.fill) → IsContentBefore t (ToWidth o.width)
+    → IsContentBefore t (ToText o.label) → IsContentBefore t (ToRank o.rank) → IsLinkBefore t id o.link
+    → AreFieldsBefore t id o
+fields_from t id o p s c f w l r k =
+    record { place = p; size = s; stroke = c; fill = f; width = w; label = l; rank = r; link = k }
+
+put_before : (t id : Stamp) (c : Content) (o : Object) → IsContentBefore t c → AreFieldsBefore t id o
+    → AreFieldsBefore t id (put c o)
+put_before t id (ToPlace x y) o c h = fields_from t id _ c h.size h.stroke h.fill h.width h.label h.rank h.link
+put_before t id (ToSize a b) o c h = fields_from t id _ h.place c h.stroke h.fill h.width h.label h.rank h.link
+put_before t id (ToStroke a) o c h = fields_from t id _ h.place h.size c h.fill h.width h.label h.rank h.link
+put_before t id (ToFill a) o c h = fields_from t id _ h.place h.size h.stroke c h.width h.label h.rank h.link
+put_before t id (ToWidth a) o c h = fields_from t id _ h.place h.size h.stroke h.fill c h.label h.rank h.link
+put_before t id (ToText a) o c h = fields_from t id _ h.place h.size h.stroke h.fill h.width c h.rank h.link
+put_before t id (ToFlag a) o c h = fields_from t id _ h.place h.size h.stroke h.fill h.width h.label h.rank h.link
+put_before t id (ToRank a) o c h = fields_from t id _ h.place h.size h.stroke h.fill h.width h.label c h.link
+
+tied_before : (t id : Stamp) (given : Option (Option Link)) (o : Object) → IfSome given (IsLinkBefore t id)
+    → AreFieldsBefore t id o → AreFieldsBefore t id (tied_by given o)
+tied_before t id None o g h = h
+tied_before t id (Some link) o g h =
+    fields_from t id (tied_by (Some link) o) h.place h.size h.stroke h.fill h.width h.label h.rank g
+
+first_before : (t : Stamp) (ties : List Tie) (q : Stamp) → Every (IsTieBefore t) ties
+    → IfSome (first_tie ties q) (IsLinkBefore t q)
+first_before t [] q h = tt
+first_before t (x ∷ xs) q h =
+    cond_both (is_same q x.id) (Some x.link) (first_tie xs q) (λ r. IfSome r (IsLinkBefore t q))
+    (λ same. subst (λ id. IsLinkBefore t id x.link) (sym (is_same-true q x.id same)) h.0.1)
+    (λ other. first_before t xs q h.1)
+
+entry-set : (t id : Stamp) (c : Content) (x : Option Object) → IsContentBefore t c → IsEntryBefore t id x
+    → IsEntryBefore t id (option_map (set c) x)
+entry-set t id c None g h = tt
+entry-set t id c (Some o) g h =
+    let fields = AreFieldsBefore t id in
+    (h.0, cond_both (fits c o.kind) (put c o) o fields (λ has. put_before t id c o g h.1) (λ none. h.1))
+
+entry-tied : (t id : Stamp) (ties : List Tie) (x : Option Object) → Every (IsTieBefore t) ties → IsEntryBefore t id x
+    → IsEntryBefore t id (option_map (tied_by (first_tie ties id)) x)
+entry-tied t id ties None g h = tt
+entry-tied t id ties (Some o) g h = (h.0, tied_before t id (first_tie ties id) o (first_before t ties id g) h.1)
+
+after_before : (t : Stamp) (f : Form) (g : Lookup) → IsFormBefore t f → IsLookupBefore t g
+    → IsLookupBefore t (after f g)
+after_before t (Sets id c) g h k q =
+    cond_both (is_same q id) (option_map (set c) (g q)) (g q) (IsEntryBefore t q)
+    (λ same. entry-set t q c (g q) h.1 (k q)) (λ other. k q)
+after_before t (Puts id o ties) g h k q =
+    cond_both (is_some (g id)) (g q) (cond (is_same q id) (Some o) (option_map (tied_by (first_tie ties q)) (g q)))
+    (IsEntryBefore t q) (λ there. k q)
+    (λ absent. cond_both (is_same q id) (Some o) (option_map (tied_by (first_tie ties q)) (g q)) (IsEntryBefore t q)
+    (λ same. subst (λ i. IsEntryBefore t i (Some o)) (sym (is_same-true q id same)) (h.0, h.1))
+    (λ other. entry-tied t q ties (g q) h.2.each (k q)))
+after_before t (Takes id ties) g h k q =
+    let left = cond (is_same q id) None (g q) in
+    cond_both (is_some (g id)) (option_map (tied_by (first_tie ties q)) left) (g q) (IsEntryBefore t q)
+    (λ there. entry-tied t q ties left h.1.each
+    (cond_both (is_same q id) None (g q) (IsEntryBefore t q) (λ same. tt) (λ other. k q)))
+    (λ absent. k q)
+
+pub with_before : (t : Stamp) (f : Form) (b : Board) → IsFormBefore t f → IsBoardBefore t b
+    → IsBoardBefore t (board_with f b)
+with_before t f b h k q = subst (IsEntryBefore t q) (sym (get-board_with f b q)) (after_before t f (map_of.get b) h k q)
+
+all_before : (t : Stamp) (es : List Event) (b : Board) → Every (IsSoundBefore t) es → IsBoardBefore t b
+    → IsBoardBefore t (apply_all es b)
+unfolding apply
+all_before t [] b h k = k
+all_before t (e ∷ es) b h k =
+    let f = form_before e.stamp t e.op h.0.0.stamp h.0.1 h.0.0.op in
+    all_before t es (apply e.stamp e.op b) h.1 (with_before t (form e.stamp e.op) b f k)
+
+empty_before : (t : Stamp) → IsBoardBefore t map_of.empty
+empty_before t q = subst (IsEntryBefore t q) (sym (map_of.get-empty stamp_cmp q)) tt
+
+-- the board of sound events
+pub board_before : (t : Stamp) (held : List Event) → Every (IsSoundBefore t) held → IsBoardBefore t (board held)
+board_before t held h =
+    all_before t (ordered held) map_of.empty
+    (Every-all_inserted (λ (e : Event). e.stamp) (IsSoundBefore t) [] held tt h) (empty_before t)
+
+-- ---- each object
+
+pub on_board : (t : Stamp) (held : List Event) (id : Stamp) (o : Object) → Every (IsSoundBefore t) held
+    → map_of.get (board held) id ≡ Some o → IsObjectBefore t id o
+on_board t held id o h there =
+    let e : IsEntryBefore t id (Some o) = subst (IsEntryBefore t id) there (board_before t held h id) in
+    object_before t id o e.0 e.1
+
+-- what is found in the drawing is on the board
+pub find-picture : (held : List Event) (id : Stamp) → find id (picture held) ≡ map_of.get (board held) id
+find-picture held id = ap (λ (d : Drawing). find id d) (sym (stacking held)) ∙ find-listed (board held) id
+
+pub in_picture : (t : Stamp) (held : List Event) (id : Stamp) (o : Object) → Every (IsSoundBefore t) held
+    → find id (picture held) ≡ Some o → IsObjectBefore t id o
+in_picture t held id o h there = on_board t held id o h (sym (find-picture held id) ∙ there)
