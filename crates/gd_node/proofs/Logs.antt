@@ -10,6 +10,7 @@ use Rattle.gd_effects.specs.Outside.{outside}
 use Rattle.gd_events.specs.Events.{Event}
 use Rattle.gd_events.specs.Sound.{IsOp}
 use Rattle.gd_grammar.specs.Closing.{Closes, gate_place}
+use Rattle.gd_logs.specs.declared.pieces.TheConstants.{RECORD}
 use Rattle.gd_grammar.specs.Drawings.{drawings, log, spelling}
 use Rattle.gd_grammar.specs.HeaderBytes.{Header}
 use Rattle.gd_grammar.proofs.DrawingKind.{drawing_laws}
@@ -56,7 +57,7 @@ module _ (header : Header) (events : List Event) (e : Event) (place : ℕ) (old 
   -- it was added
   module _ (was : IsSome new.contents → IsSome old.contents)
       (adds : IsSome new.contents → Stands drawings header events old → Adds drawings header events (e ∷ []) old new) where
-    pub has_more : (place' : ℕ) → place' ≡ place + 1 + length (spelling e) → place' ≤ place + 492 → HasLog header (events ++ e ∷ []) place' new
+    pub has_more : (place' : ℕ) → place' ≡ place + 1 + length (spelling e) → place' ≤ place + RECORD → HasLog header (events ++ e ∷ []) place' new
     has_more place' at few = record {
       stands = λ t. (adds t (has.stands (was t))).stands;
       gate = omega (arith, at, has.gate, gate_place-more drawings events e);
