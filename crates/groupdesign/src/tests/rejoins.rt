@@ -9,7 +9,7 @@ use std::test;
 
 /// The log of session 7, site 1 of 2, with a rect of site 2. Its closing gate stands at 40.
 const ONE: [u8; 41] = [
-    b'G', b'D', b'O', b'L', 2, 0, 0, 0, 7, 1, 2, 0xC3, 0, 0, 0, 0, 0, 1, 2, 0, 1, 1, 1, 0, 0, 0, 0,
+    b'G', b'D', b'O', b'L', 3, 0, 0, 0, 7, 1, 2, 0xC3, 0, 0, 0, 0, 0, 1, 2, 0, 1, 1, 1, 0, 0, 0, 0,
     0, 0, 0, 0, 0, 0, 0, 10, 0, 0, 0, 10, 0, 0,
 ];
 
