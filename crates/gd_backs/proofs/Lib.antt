@@ -1,5 +1,4 @@
 pub mod NextEvents
-pub mod OneGesture
 pub mod Traces
 mod Turning
 pub mod Soundness

@@ -8,6 +8,5 @@ pub mod Lines
 pub mod ScriptLines
 pub mod InRange
 pub mod Text
-pub mod OpText
 pub mod Replies
 pub mod Refusals

@@ -20,9 +20,9 @@ ghost use Rattle.gd_reference.specs.Said.{says};
 
 use gd_answers::say;
 use gd_events::Event;
-use gd_logs::{AppendFault, LogWriter, Records};
+use gd_logs::LogWriter;
 use gd_outside::{End, Journal, Sink};
-use gd_wire::{Drawings, LogHeader};
+use gd_wire::LogHeader;
 use gd_words::Reply;
 
 /// Begins a journal of that name with the log of this header. `JournalFault` where a call on the journal failed; no other
@@ -68,20 +68,6 @@ pub(crate) fn record<J: Journal>(
     match log.append(journal, event) {
         Ok(()) => Ok(()),
         Err(_) => Err(End::JournalFault),
-    }
-}
-
-/// Adds several events to the log, behind one gate. `NoMemory` where memory ran out, `JournalFault` where a call on the journal
-/// failed; no other end comes.
-pub(crate) fn record_all<J: Journal>(
-    log: &mut LogWriter,
-    journal: &mut J,
-    records: Records<Drawings>,
-) -> Result<(), End> {
-    match log.append_all(journal, records) {
-        Ok(()) => Ok(()),
-        Err(AppendFault::Memory) => Err(End::NoMemory),
-        Err(AppendFault::Journal) => Err(End::JournalFault),
     }
 }
 

@@ -1,5 +1,3 @@
 pub mod Newest
-pub mod Doing
-pub mod Passing
+pub mod Answering
 pub mod Standing
-pub mod Lines

@@ -1,5 +1,3 @@
-pub mod Seen
 pub mod Lists
-pub mod Making
 pub mod Answers
 pub mod Standing

@@ -331,13 +331,7 @@ commands_read = (
   λ n fit. pure_reads _ tt,
   (
     λ n fit. pure_reads _ tt,
-    (
-      λ n fit. pure_reads _ tt,
-      (
-        λ n fit. pure_reads _ tt,
-        all_weaker IsFit IsCommand asked_rows (λ c h. h.0) asked_read,
-      ),
-    ),
+    all_weaker IsFit IsCommand asked_rows (λ c h. h.0) asked_read,
   ),
 )
 

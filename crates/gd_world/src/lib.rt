@@ -3,7 +3,6 @@
 
 mod churning;
 mod fault;
-mod hearing;
 mod laws;
 mod mail;
 mod member;

@@ -17,7 +17,6 @@ use crate::member::Member;
 use crate::replies::Replies;
 use gd_answers::{back_refusal, edit_refusal, noted_reply};
 use gd_base::{Refusal, Steps};
-use gd_events::ListedEvent;
 use gd_lines::Command;
 use gd_site::Site;
 use gd_words::Reply;
@@ -41,7 +40,7 @@ pub(crate) fn tell<L: Ledger>(
             Err(fault) => refused(alloc, edit_refusal(fault)),
         },
         Command::Turn(which) => match member.backs.turn(&mut member.site, *which, steps) {
-            Ok(events) => done(alloc, events.as_slice()),
+            Ok(event) => only(alloc, Reply::Done { id: event.stamp() }),
             Err(fault) => refused(alloc, back_refusal(fault)),
         },
         Command::Name(name) => only(alloc, noted_reply(member.site.set_name(name.copy()))),
@@ -52,25 +51,8 @@ pub(crate) fn tell<L: Ledger>(
             only(alloc, Reply::Status { status })
         }
         Command::Who => who(alloc, &member.site),
-        Command::Blank | Command::Begin | Command::End | Command::Poll | Command::Quit => {
-            Ok(Replies::new(alloc))
-        }
+        Command::Blank | Command::Poll | Command::Quit => Ok(Replies::new(alloc)),
     }
-}
-
-/// That these events were done, and how many there are.
-fn done(alloc: Global, events: &[ListedEvent]) -> Result<Replies, WorldFault>
-    ensures ok { IfOk result (λ replies. replies ≡ done_replies events.now) }
-    ensures err { OnErr result (result ≡ Err WorldFault.NoMemory) }
-{
-    let mut replies = Replies::new(alloc);
-    for listed in events {
-        replies.push(Reply::Done { id: listed.stamp() })?;
-    }
-    replies.push(Reply::End {
-        count: events.len() as u64,
-    })?;
-    Ok(replies)
 }
 
 /// One reply.

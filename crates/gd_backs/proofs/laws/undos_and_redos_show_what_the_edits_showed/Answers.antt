@@ -1,5 +1,5 @@
 use Rattle.gd_backs.proofs.Turning.{in_a_row, is_met, shown_again, something_to_do}
-use Rattle.gd_backs.proofs.laws.undos_and_redos_show_what_the_gestures_showed.Goals as goal
+use Rattle.gd_backs.proofs.laws.undos_and_redos_show_what_the_edits_showed.Goals as goal
 
 pub returns-clause-text : goal.returns-clause-text
 returns-clause-text c = shown_again
