@@ -20,8 +20,9 @@ from node_process import poll_all, program_of, same_drawing
 
 # A session has so many kills, so that journals of several restarts come up.
 KILLS = 8
-# So many edits are typed at once, with a poll behind each few of them. One in so many makes a shape.
-EDITS, POLL, NEW = 40, 4, 5
+# So many edits and gestures are typed at once, with a poll behind each few of them. One edit in so many makes a shape. One in so many
+# is a gesture, which makes so many shapes at most.
+EDITS, POLL, NEW, GESTURE, LARGEST = 40, 4, 5, 4, 12
 LONGEST_LABEL = 200
 # A kill comes behind an answer that is drawn, by up to so many times the time that an answer took so far, or a first one may.
 LATEST, FIRST = 2, 0.001
@@ -39,11 +40,13 @@ HEADS = [*COUNTS, "least", "median", "greatest"]
 
 @dataclass
 class Edit:
-    """An edit that was typed, what its event has beside stamp and number, and the answer, where there was one."""
+    """An edit that was typed, what its event has beside stamp and number, the answer, where there was one, and whether the event is
+    in the journal."""
 
     line: str
     event: dict
     answer: str | None = None
+    is_there: bool = False
 
     def has_made(self, id, event, answers):
         """Whether this is its event. Of one without an answer nobody knows whether it was accepted."""
@@ -51,13 +54,19 @@ class Edit:
         return is_its_id and self.event == {key: event[key] for key in event if key not in ("clock", "site", "seq")}
 
 
+def new_shape(draw):
+    """An edit that makes a shape, which is never refused."""
+    x, y, label = draw.randrange(1000), draw.randrange(1000), "x" * draw.randrange(LONGEST_LABEL + 1)
+    kind = draw.choice(["rect", "ellipse", "line", "text"])
+    event = {"op": "create", "kind": kind, "x": x, "y": y, "w": 10, "h": 20, "label": label}
+    return Edit(f"create {kind} {x} {y} 10 20 {label}", event)
+
+
 def drawn_edit(draw, ids):
     """An edit of one of these shapes, or one that makes a shape."""
-    x, y, label = draw.randrange(1000), draw.randrange(1000), "x" * draw.randrange(LONGEST_LABEL + 1)
     if not ids or draw.randrange(NEW) == 0:
-        kind = draw.choice(["rect", "ellipse", "line", "text"])
-        event = {"op": "create", "kind": kind, "x": x, "y": y, "w": 10, "h": 20, "label": label}
-        return Edit(f"create {kind} {x} {y} 10 20 {label}", event)
+        return new_shape(draw)
+    x, y, label = draw.randrange(1000), draw.randrange(1000), "x" * draw.randrange(LONGEST_LABEL + 1)
     of, colour, name = draw.choice(ids), f"{draw.randrange(1 << 24):06X}", draw.choice(["raise", "lower", "delete"])
     line, event = draw.choice([
         (f"move {of} {x} {y}", {"op": "move", "x": x, "y": y}),
@@ -69,32 +78,50 @@ def drawn_edit(draw, ids):
     return Edit(line, event | {"id": of})
 
 
+def drawn_gesture(draw, ids):
+    """Edits that are typed as one: one alone, or several between `begin` and `end`."""
+    if draw.randrange(GESTURE):
+        return [drawn_edit(draw, ids)]
+    return [new_shape(draw) for _ in range(2 + draw.randrange(LARGEST - 1))]
+
+
+def typed_text(gesture):
+    """The lines of a gesture."""
+    lines = [edit.line for edit in gesture]
+    return lines[0] if len(lines) == 1 else "\n".join(["begin", *lines, "end"])
+
+
 class Member:
     """A site, over all runs of its node: what was typed at it, and the ids of the events that it told of."""
 
     def __init__(self, node):
-        self.node, self.site, self.edits, self.told = node, node.site, [], set()
-        # The lines of this run whose answers nobody has read, and the edits among them.
+        self.node, self.site, self.gestures, self.told = node, node.site, [], set()
+        # The lines of this run whose answers nobody has read, a gesture as one, and the edits among them.
         self.lines, self.waiting = deque(), deque()
+
+    @property
+    def edits(self):
+        return [edit for gesture in self.gestures for edit in gesture]
 
     def type(self, lines):
         self.node.type("\n".join(lines))
         self.lines += lines
 
     def type_edits(self, count, draw):
-        """Types so many edits of what it shows, and polls between them, all at once."""
+        """Types so many edits and gestures of what it shows, and polls between them, all at once."""
         ids = [line.split()[1] for line in self.node.ask("show")[:-1]]
-        edits = [drawn_edit(draw, ids) for _ in range(count)]
-        self.edits += edits
+        gestures = [drawn_gesture(draw, ids) for _ in range(count)]
+        edits = [edit for gesture in gestures for edit in gesture]
+        self.gestures += gestures
         self.waiting += edits
-        self.type([line for at, edit in enumerate(edits, 1) for line in [edit.line] + ["poll"] * (at % POLL == 0)])
+        self.type([line for at, gesture in enumerate(gestures, 1) for line in [typed_text(gesture)] + ["poll"] * (at % POLL == 0)])
         return edits
 
     def take(self, printed):
         """Takes down lines that the node printed."""
         for line in printed:
             what, _, rest = line.partition(" ")
-            if what not in ("ok", "refused:", "echo", "polled") or what == "refused:" and rest != GONE:
+            if what not in ("ok", "refused:", "echo", "polled", "end") or what == "refused:" and rest != GONE:
                 sys.exit(f"site {self.site} printed {line!r}")
             if what in ("ok", "refused:"):
                 self.waiting.popleft().answer = rest
@@ -133,10 +160,14 @@ def check_own(member, events, when):
         sys.exit(f"{when} site {member.site} numbers its own events {numbers}")
     answers = {edit.answer for edit in member.edits}
     for edit in member.edits:
-        if own and edit.has_made(*own[0], answers):
+        edit.is_there = bool(own) and edit.has_made(*own[0], answers)
+        if edit.is_there:
             own.popleft()
     if own:
         sys.exit(f"{when} site {member.site} has {own[0]}, and no such line was typed there and accepted")
+    for gesture in member.gestures:
+        if len({edit.is_there for edit in gesture}) > 1:
+            sys.exit(f"{when} site {member.site} has a part of a gesture: {gesture}")
 
 
 def check_all(members, told, when):
@@ -180,7 +211,7 @@ def kill_once(members, draw, when):
     found = kept_events(victim, victim.told | {id for id in there if there[id]["site"] == victim.site}, when)
     everything = found.keys() | there.keys()
     rounds = poll_all([member.node for member in members], len(everything))
-    counts = Counter(kills=1, typed=EDITS, accepted=len(everything - known), printed=len(victim.told - known), polls=rounds)
+    counts = Counter(kills=1, typed=len(edits), accepted=len(everything - known), printed=len(victim.told - known), polls=rounds)
     counts["refused"] = sum(edit.answer == GONE for edit in edits)
     counts[BEHIND[min(len(found.keys() - victim.told), 2)]] = 1
     check_all(members, everything, when)

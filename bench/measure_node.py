@@ -20,6 +20,8 @@ from node_process import Node, add_program, free_addresses, node_words, program_
 EDITS = 8
 # One shape for so many edits: the others move one of these.
 NEW = 10
+# A gesture has as many moves as a node takes as one, rounded down, and so many gestures are measured.
+TOGETHER, GESTURES = 500, 20
 # The bytes of a frame without events and without a note, of a create without a label, and of a move.
 FRAME, CREATE, MOVE = 32, 28, 25
 SEED = 7
@@ -67,7 +69,7 @@ def times_of_nodes(program, edits, room):
             first.ask("status")
             answer, took = timed(other.ask, "poll")
             taken.append(took)
-            if len(answer) != EDITS + 1 or not all(line.endswith(" applied") for line in answer[:-1]):
+            if len(answer) != EDITS + 1 or not all(" applied " in line for line in answer[:-1]):
                 sys.exit(f"the other site answered {answer} to a poll")
             heard.append(timed(first.ask, "poll")[1])
     if first.ask("show") != other.ask("show"):
@@ -86,6 +88,30 @@ def time_at_once(program, edits, room):
     if done.stdout.count(b"ok ") != len(edits):
         sys.exit(f"of {len(edits)} edits at once {done.stdout.count(b'ok ')} were accepted")
     return took
+
+
+def processor_time(process):
+    """The nanoseconds of a processor that a process has had."""
+    return int(Path(f"/proc/{process.pid}/schedstat").read_text().split()[0])
+
+
+def times_of_gestures(program, room):
+    """What a move alone took, a gesture of many moves, and as many moves one after the other; and of the last two the time of a
+    processor. The node is alone."""
+    node = Node(program, 1, free_addresses(1), room / "gestures.log")
+    draw = Random(SEED)
+    made = node.ask("\n".join(["begin", *["create rect 0 0 10 10"] * TOGETHER, "end"]))[:-1]
+    ids = [line.removeprefix("ok ") for line in made]
+    lone, together, apart, processor = [], [], [], [0, 0]
+    for _ in range(GESTURES):
+        moves = [f"move {each} {draw.randrange(1000)} {draw.randrange(1000)}" for each in ids]
+        lone.append(timed(node.ask, moves[0])[1])
+        for at, (times, typed) in enumerate([(together, ["\n".join(["begin", *moves, "end"])]), (apart, moves)]):
+            before = processor_time(node.process)
+            times.append(sum(timed(node.ask, line)[1] for line in typed))
+            processor[at] += processor_time(node.process) - before
+    node.quit()
+    return lone, together, apart, [each / GESTURES for each in processor]
 
 
 def echo(port):
@@ -156,6 +182,12 @@ def measure(program, count, where):
         row("a datagram of such a size, there and back in Python", echoes)
         row("two writes and two syncs of a file in Python", syncs)
         print(f"{'all edits at once, to a node that is alone':74}{count / time_at_once(program, edits, room) * 1e9:14,.0f}")
+        lone, together, apart, (as_one, alone) = times_of_gestures(program, room)
+        row("a move, to its answer, where the node is alone", lone)
+        row(f"a gesture of {TOGETHER} moves", together, TOGETHER)
+        row(f"{TOGETHER} moves, one after the other", apart, TOGETHER)
+        print(f"a gesture of {TOGETHER} moves takes {median(together) / median(lone):.1f} times as long as a move, and "
+              f"{as_one / 1e6:.2f} ms of a processor; as many moves alone {alone / 1e6:.2f} ms")
         print(f"an edit to its answer takes {median(typed) / median(echoes):.1f} times as long as a datagram there and back")
         print(f"and {median(typed) / median(syncs):.1f} times as long as the writes and syncs; an edit of a poll of eight "
               f"{median(taken) / EDITS / median(syncs):.1f} times")

@@ -11,8 +11,9 @@ from pathlib import Path
 ROOT = Path(__file__).resolve().parent.parent
 BUILT = ROOT / "crates/groupdesign/out/groupdesign"
 SESSION = 7
-# How the last line of an answer begins, by the first word of what was typed. An edit has one line.
-LAST = {"poll": ("polled ", "link fault "), "show": ("end ",), "who": ("end ",)}
+# How the last line of an answer begins, by the first word of what was typed. An edit has one line, and a gesture is typed as a whole.
+LAST = {"poll": ("polled ", "link fault "), "show": ("end ",), "who": ("end ",), "begin": ("end ",)}
+LAST |= dict.fromkeys(("undo", "redo"), ("end ", "refused: "))
 # The most rounds of polls until all hold all events. In a round each site polls once, and behind it come so many seconds,
 # since a proxy between them may be slower than they are.
 ROUNDS, PAUSE = 500, 0.005

@@ -116,10 +116,10 @@ class Desk:
     async def batch(self, texts, name=""):
         """Types the lines of one gesture, which a page calls so, and gives an answer for each and the number of the last edit that
         was taken."""
-        batch = Batch(texts, self.type)
+        batch = Batch(texts, self)
         self.gestures.begin()
         try:
-            # One gesture is typed behind the other, also where one waits for ids.
+            # One gesture is typed behind the other, also where one waits for the clock.
             async with self.typing:
                 await batch.type_all()
             if self.rounds:
@@ -139,7 +139,7 @@ class Desk:
         if self.told_events < len(self.history.events):
             self.read_history()
         self.tell_news([{"what": "own", "event": event, "line": text} for event, text in batch.taken])
-        if self.turns.end(name, batch.answered):
+        if self.turns.end(name, batch.replies, batch.is_astray):
             self.tell("turns", **self.turns.told())
 
     def type(self, typed):
@@ -152,6 +152,15 @@ class Desk:
             raise lines.Refused("Ended") from None
         except Busy:
             raise lines.Refused("Busy") from None
+
+    async def clock(self):
+        """The clock of the site, while nothing is typed that gives it another one. Raises `Refused` as `type` does."""
+        (slot,) = self.type([b"status"])
+        try:
+            (standing,) = await slot.answer()
+        except Ended:
+            raise lines.Refused("Ended") from None
+        return lines.standing_of(standing.decode())["clock"]
 
     async def rename(self, text):
         """Takes what the person here is called, for as long as the journal lies there. Raises `BadName`, and `OSError` where

@@ -3,12 +3,24 @@
 Nothing here judges a drawing. docs/LINES.md has the lines, and the node alone says what becomes of them.
 """
 
+import re
+
 MOST_BYTES = 1024
 EDITS = frozenset(b"create delete move resize stroke fill width text group ungroup raise lower undo redo".split())
+# Those that take the last gesture back, or do it again.
+TURNS = frozenset([b"undo", b"redo"])
 NOTES = frozenset([b"name", b"focus"])
 # How the last line of an answer begins, by the first word of what was typed. Any other has one line.
-LAST = {b"poll": (b"polled ", b"link fault "), b"show": (b"end ",), b"who": (b"end ",)}
+LAST = {
+    b"poll": (b"polled ", b"link fault "),
+    b"show": (b"end ",),
+    b"who": (b"end ",),
+    b"begin": (b"end ",),
+    **dict.fromkeys(TURNS, (b"end ", b"refused: ")),
+}
 ECHOES = ("applied", "dropped", "reworked")
+# An echo: its event, what came of that, and its operation in words.
+ECHO = re.compile(r"echo (\S+) (?:applied|dropped by (\S+)|reworked (\d+)) (.*)", re.DOTALL)
 
 
 class Refused(Exception):
@@ -22,7 +34,7 @@ def first_word(line):
 
 def typed(text):
     """The bytes of the one line that `text` is, without its LF. Raises `Refused` where it is more than one line, or none
-    of those that a page may have typed: an edit, an undo, a redo, a name or a focus, each of which has one line of answer."""
+    of those that a page may have typed: an edit, an undo, a redo, a name or a focus."""
     if not isinstance(text, str):
         raise Refused("UnknownCommand")
     # A lone half of a pair of surrogates has no bytes in UTF-8.
@@ -36,9 +48,9 @@ def typed(text):
     return line
 
 
-def last_of(line):
-    """How the last line of the answer to a typed line begins."""
-    return LAST.get(first_word(line), (b"",))
+def last_of(typed_lines):
+    """How the last line of the answer begins to a typed line, or to the lines of a gesture."""
+    return LAST.get(first_word(typed_lines.partition(b"\n")[0]), (b"",))
 
 
 def item_of(line):
@@ -68,16 +80,16 @@ def standing_of(line):
 
 
 def news_of(line):
-    """What a line of a poll's answer says, for the list of what happened: an echo, or a line as it is."""
-    words = line.split(" ")
-    if words[0] != "echo" or words[2] not in ECHOES:
+    """What a line of a poll's answer says, for the list of what happened: an echo, with its operation, or a line as it is."""
+    found = ECHO.fullmatch(line)
+    if found is None:
         return {"what": "said", "line": line}
-    news = {"what": words[2], "event": words[1]}
-    if words[2] == "dropped":
-        news["by"] = words[4]
-    if words[2] == "reworked":
-        news["count"] = int(words[3])
-    return news
+    event, by, count, done = found.groups()
+    if by:
+        return {"what": "dropped", "event": event, "by": by, "line": done}
+    if count:
+        return {"what": "reworked", "event": event, "count": int(count), "line": done}
+    return {"what": "applied", "event": event, "line": done}
 
 
 def datagrams_of(line):

@@ -26,15 +26,22 @@ class Busy(Exception):
 
 
 class Slot:
-    """The place of one answer among those that are waited for.
+    """The place of one answer among those that are waited for: that to a line, or to the lines of a gesture.
 
     `accepted` is how many edits the node had accepted once this answer was whole: what a `show` printed has these."""
 
-    __slots__ = ("last", "lines", "whole", "cut", "accepted")
+    __slots__ = ("last", "count", "lines", "whole", "cut", "accepted")
 
-    def __init__(self, last, loop):
-        self.last, self.lines, self.cut, self.accepted = last, [], False, 0
+    def __init__(self, last, loop, count=1):
+        """`count` lines were typed. The last one of the answer begins as `last` says."""
+        self.last, self.count, self.lines, self.cut, self.accepted = last, count, [], False, 0
         self.whole = loop.create_future()
+
+    def events(self):
+        """How many edits were accepted by what was typed. No other answer begins so."""
+        if not self.lines[0].startswith((b"ok ", b"refused: ")):
+            return 0
+        return sum(line.startswith(b"ok ") for line in self.lines)
 
     def close(self, cut=False):
         self.cut = cut
@@ -68,7 +75,7 @@ class Node:
         self.source, self.goal = self.process.stdout.fileno(), self.process.stdin.fileno()
         self.pending, self.unwritten = b"", bytearray()
         self.ready = Slot((b"ready ",), self.loop)
-        self.slots, self.heard_at = deque([self.ready]), time.monotonic()
+        self.slots, self.lines_waiting, self.heard_at = deque([self.ready]), 1, time.monotonic()
         self.is_over, self.ending = asyncio.Event(), None
         self.prepare()
 
@@ -91,15 +98,17 @@ class Node:
         return self.ready.lines[-1].decode()
 
     def type(self, *lines):
-        """Types lines, which are such as have answers, and gives the slots of these. Raises `Ended` where the node has, and
-        `Busy` where too many answers are waited for; then none is typed."""
+        """Types lines, which are such as have answers, and gives the slots of these; a gesture stands here as one line, and has
+        one. Raises `Ended` where the node has, and `Busy` where too many answers are waited for; then none is typed."""
         if self.status is not None:
             raise Ended
-        if len(self.slots) + len(lines) > MOST_WAITING:
+        slots = [Slot(last_of(line), self.loop, line.count(b"\n") + 1) for line in lines]
+        count = sum(slot.count for slot in slots)
+        if self.lines_waiting + count > MOST_WAITING:
             raise Busy
         if not self.slots:
             self.heard_at = time.monotonic()
-        slots = [Slot(last_of(line), self.loop) for line in lines]
+        self.lines_waiting += count
         self.slots.extend(slots)
         self.write(b"".join(line + b"\n" for line in lines))
         return slots
@@ -174,8 +183,8 @@ class Node:
                 self.finish(self.slots.popleft())
 
     def finish(self, slot):
-        if slot.lines[-1].startswith(b"ok "):
-            self.accepted += 1
+        self.lines_waiting -= slot.count
+        self.accepted += slot.events()
         slot.accepted = self.accepted
         slot.close()
 

@@ -86,7 +86,9 @@ class Rounds:
         """Types a line once there is room for it, and gives the place of its answer."""
         while True:
             try:
-                (slot,) = self.node.type(line)
+                # A poll gives the site another clock.
+                async with self.desk.typing:
+                    (slot,) = self.node.type(line)
                 return slot
             except Busy:
                 await asyncio.sleep(self.poll_every)

@@ -1,10 +1,11 @@
-"""What an undo takes back and a redo does again: whole gestures, each of which is so many lines of the node's."""
+"""What an undo takes back and a redo does again: whole gestures of a page. Each is one gesture of the node, or several in a row where
+it has more edits than that takes as one."""
 
 from typing import NamedTuple
 
-from page.lines import first_word
+from page.lines import TURNS
 
-# As many edits does a node take back, and so many it does again.
+# As many gestures does a node take back, and so many it does again.
 MOST_BACKS = 1_024
 # A name that a page gives a gesture has at most so many characters.
 MOST_NAME = 100
@@ -12,13 +13,13 @@ NOTHING = "refused: NothingBack"
 
 
 class Gesture(NamedTuple):
-    """What a page calls it, and the clocks of its events."""
+    """What a page calls it, and the clocks of the events of each gesture of the node."""
 
     name: str
-    clocks: list
+    parts: list
 
     def told(self):
-        return {"name": self.name, "edits": len(self.clocks), "first": self.clocks[0], "last": self.clocks[-1]}
+        return {"name": self.name, "lines": len(self.parts), "first": self.parts[0][0], "last": self.parts[-1][-1]}
 
 
 class Turns:
@@ -29,21 +30,26 @@ class Turns:
         # How often they have changed: what was told later counts.
         self.undos, self.redos, self.number = [], [], 0
 
-    def end(self, name, answered):
-        """Takes the lines of a gesture, each with its answer. Says whether anything has changed."""
-        verbs = [(first_word(text.encode()), answer) for text, answer in answered if answer == NOTHING or answer.startswith("ok ")]
-        undone, redone = (clocks_of(answer for each, answer in verbs if each == verb) for verb in (b"undo", b"redo"))
-        made = clocks_of(answer for verb, answer in verbs if verb not in (b"undo", b"redo"))
+    def end(self, name, replies, is_astray=False):
+        """Takes what was typed of a gesture, each by its first word, with the lines of its answer; and whether something was taken
+        back at once, by an undo that nobody asked for. Says whether anything has changed."""
+        done = [(verb, clocks_of(reply)) for verb, reply in replies]
+        undone, redone = ([clocks for each, clocks in done if each == verb and clocks] for verb in (b"undo", b"redo"))
+        made = [clocks for verb, clocks in done if verb not in TURNS and clocks]
+        has_nothing = {verb for verb, reply in replies if reply == [NOTHING]}
         if made:
-            self.undos, self.redos = kept([*self.undos, Gesture(name, made)]), []
+            self.undos = kept([*self.undos, Gesture(name, made)])
+        if made or is_astray:
+            self.redos = []
         turned(self.undos, self.redos, undone)
         turned(self.redos, self.undos, redone)
-        if (b"undo", NOTHING) in verbs:
+        if b"undo" in has_nothing:
             self.undos = []
-        if (b"redo", NOTHING) in verbs:
+        if b"redo" in has_nothing:
             self.redos = []
-        self.number += bool(verbs)
-        return bool(verbs)
+        is_new = bool(made or undone or redone or has_nothing or is_astray)
+        self.number += is_new
+        return is_new
 
     def forget(self):
         """A node that goes on from its journal takes nothing back."""
@@ -55,29 +61,29 @@ class Turns:
         return {"number": self.number, "undo": undo, "redo": redo}
 
 
-def clocks_of(answers):
+def clocks_of(reply):
     """The clocks of the events that were made."""
-    return [int(answer[3:].partition(".")[0]) for answer in answers if answer != NOTHING]
+    return [int(line[3:].partition(".")[0]) for line in reply if line.startswith("ok ")]
 
 
-def turned(due, other, clocks):
-    """Takes as many edits as there are clocks from the newest gestures that are due to the others, as one gesture."""
-    if not clocks:
+def turned(due, other, parts):
+    """Takes as many gestures of the node as these from the newest ones that are due to the others, as one gesture."""
+    if not parts:
         return
-    name, left = "", len(clocks)
+    name, left = "", len(parts)
     while left > 0 and due:
-        name, edits = due.pop()
-        if len(edits) > left:
-            due.append(Gesture(name, edits[:-left]))
-        left -= len(edits)
-    other.append(Gesture(name, clocks))
+        name, gone = due.pop()
+        if len(gone) > left:
+            due.append(Gesture(name, gone[:-left]))
+        left -= len(gone)
+    other.append(Gesture(name, parts))
 
 
 def kept(gestures):
     """The newest of these gestures, as many as the node can take back whole."""
     left = MOST_BACKS
     for at in reversed(range(len(gestures))):
-        left -= len(gestures[at].clocks)
+        left -= len(gestures[at].parts)
         if left < 0:
             return gestures[at + 1 :]
     return gestures

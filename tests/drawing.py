@@ -4,7 +4,7 @@ alone."""
 from dataclasses import astuple, dataclass
 
 GROUP = "group"
-# As many edits are taken back, and so many done again.
+# As many gestures are taken back, and so many done again.
 MOST_BACKS = 1_024
 
 
@@ -175,36 +175,73 @@ class Drawing:
         return "".join(f"{line}\n" for line in lines) + f"end {len(lines)}\n"
 
 
+@dataclass
+class Typed:
+    """What is typed at once, a line or a gesture: its lines, those that are printed of it, and how many events it makes."""
+
+    lines: list
+    answers: list
+    count: int
+
+
 class Typist:
-    """Edits that a person types at one site that is alone, drawn from a seed, and the events that they make. All are accepted.
-    Some of them are taken back, and some of these done again."""
+    """Edits that a person types at one site that is alone, alone or in gestures, drawn from a seed, and the events that they make. All
+    are accepted. Some of them are taken back, and some of these done again."""
 
     # It has about so many objects. A group is deleted seldom, since what was in it is hidden for good.
     MOST, SELDOM = 300, 0.02
+    # So many of the gestures have several edits, or none, and so many at most.
+    TOGETHER, LARGEST = 0.1, 12
 
     def __init__(self, draw, site=1):
         self.draw, self.site, self.drawing = draw, site, Drawing()
-        self.lines, self.events, self.undos, self.redos = [], [], [], []
+        self.typed, self.events, self.undos, self.redos = [], [], [], []
+        # The lines of a gesture that has begun, and what takes each of them back.
+        self.waiting = None
 
     def type(self, line, op):
-        """An edit, typed and as the operation of its event."""
-        self.undos.append(self.happens(line, op))
-        del self.undos[:-MOST_BACKS]
-        self.redos = []
+        """An edit, typed and as the operation of its event: a gesture by itself, where none has begun."""
+        back = self.happens(op)
+        if self.waiting is None:
+            self.end([line], [back], [])
+        else:
+            self.waiting.append((line, back))
 
-    def happens(self, line, op):
-        """A line that is typed, and the operation of its event. Gives what takes that back."""
+    def together(self, count):
+        """So many edits are typed as one gesture."""
+        self.waiting = []
+        for _ in range(count):
+            self.draw_on()
+        lines, backs = [line for line, _ in self.waiting], [back for _, back in self.waiting]
+        self.waiting = None
+        self.end(["begin", *lines, "end"], backs, [f"end {count}"])
+
+    def end(self, lines, backs, behind):
+        """A gesture was done, which is taken back so."""
+        self.note(lines, len(backs), behind)
+        if backs:
+            self.undos.append(backs[::-1])
+            del self.undos[:-MOST_BACKS]
+            self.redos = []
+
+    def note(self, lines, count, behind):
+        oks = [f"ok {id_text(stamp)}" for stamp, _, _ in self.events[len(self.events) - count :]]
+        self.typed.append(Typed(lines, oks + behind, count))
+
+    def happens(self, op):
+        """The operation of the next event. Gives what takes that back."""
         stamp = (len(self.events) + 1, self.site)
         back = self.drawing.back(stamp, op)
-        self.lines.append(line)
         self.events.append((stamp, stamp[0], op))
         self.drawing.apply(stamp, op)
         return back
 
     def turn(self, line):
-        """The last edit is taken back by an `undo`, or done again by a `redo`."""
+        """The last gesture is taken back by an `undo`, or done again by a `redo`."""
         due, other = (self.undos, self.redos) if line == "undo" else (self.redos, self.undos)
-        other.append(self.happens(line, due.pop()))
+        backs = [self.happens(op) for op in due.pop()]
+        other.append(backs[::-1])
+        self.note([line], len(backs), [f"end {len(backs)}"])
 
     def create(self):
         draw = self.draw
@@ -213,10 +250,12 @@ class Typist:
         self.type(f"create {kind} {x} {y} {w} {h}{label and ' '}{label}", ("create", kind, x, y, w, h, label))
 
     def edit(self):
-        """Types one more line. Behind an undo comes often another one, or a redo."""
+        """Types one more gesture. Behind an undo comes often another one, or a redo."""
         turns = ["undo"] * bool(self.undos) + ["redo", "redo"] * bool(self.redos)
         if turns and self.draw.random() < (0.7 if self.redos else 0.1):
             self.turn(self.draw.choice(turns))
+        elif self.draw.random() < self.TOGETHER:
+            self.together(self.draw.randint(0, self.LARGEST))
         else:
             self.draw_on()
 

@@ -19,8 +19,10 @@ SESSION = 7
 HOST = "127.0.0.1"
 # More than a datagram has at most.
 MOST = 65_536
-# How the last line of an answer begins, by the first word of what was typed. An edit has one line.
-LAST = {"poll": ("polled ", "link fault "), "show": ("end ",), "who": ("end ",)}
+# How the last line of an answer begins, by the first word of what was typed. An edit has one line, and one that waits in a gesture
+# none until its `end`: a gesture is typed as a whole.
+LAST = {"poll": ("polled ", "link fault "), "show": ("end ",), "who": ("end ",), "begin": ("end ",)}
+LAST |= dict.fromkeys(("undo", "redo"), ("end ", "refused: "))
 # A folder in memory, where there is one: a journal there is synced at once.
 MEMORY = Path("/dev/shm")
 

@@ -1,5 +1,6 @@
 """What comes over a node's link, and what it prints, journals and sends then."""
 
+from tests.echoes import echoes
 from tests.nodes import answered, started
 from tests.program import DONE, Case
 from tests.spelled import GREATEST_CLOCK, changed, frame, log, square
@@ -23,19 +24,19 @@ TURNS = [
     (
         [frame([RECT]), frame([THIRD, FOURTH]), frame([SECOND, THIRD, FOURTH])],
         "poll\nstatus\n",
-        "echo 1.2 applied\necho 2.2 applied\necho 3.2 applied\necho 4.2 applied\npolled 3\nheld 4 kept 0 line 4 clock 4\n",
+        echoes(RECT, SECOND, THIRD, FOURTH) + "polled 3\nheld 4 kept 0 line 4 clock 4\n",
     ),
     # The first frame promises that nothing up to clock 9 is to come.
     (
         [frame([RECT, SECOND], clock=9), frame([((9, 2), 3, ("raise", (1, 2)))])],
         "poll\nstatus\n",
-        "echo 1.2 applied\necho 2.2 applied\nevent 9.2 refused: Backdated 9 9\npolled 2\nheld 2 kept 0 line 2 clock 2\n",
+        echoes(RECT, SECOND) + "event 9.2 refused: Backdated 9 9\npolled 2\nheld 2 kept 0 line 2 clock 2\n",
     ),
     # The greatest clock.
     (
         [frame([square((GREATEST_CLOCK, 2), 1)])],
         "poll\ncreate rect 0 0 1 1\n",
-        "echo 281474976710655.2 applied\npolled 1\nrefused: ClockEnd\n",
+        echoes(square((GREATEST_CLOCK, 2), 1)) + "polled 1\nrefused: ClockEnd\n",
     ),
     # The first frame promises what the second one breaks.
     (
@@ -47,7 +48,7 @@ TURNS = [
     (
         [frame([moved(2, 1, (1, 1), 90)])],
         "create rect 0 0 10 10\nmove 1.1 50 50\nmove 1.1 60 60\npoll\nstatus\n",
-        "ok 1.1\nok 2.1\nok 3.1\necho 2.2 dropped by 3.1\npolled 1\nheld 4 kept 1 line 2 clock 3\n",
+        "ok 1.1\nok 2.1\nok 3.1\necho 2.2 dropped by 3.1 move 1.1 90 90\npolled 1\nheld 4 kept 1 line 2 clock 3\n",
     ),
 ]
 
@@ -62,7 +63,7 @@ class Arrivals(Case):
         return node
 
     def test_a_frame_that_comes_three_times_is_taken_once(self):
-        node = self.expect_poll([FRAME] * 3, "poll\nquit\n", "echo 1.2 applied\npolled 3\n")
+        node = self.expect_poll([FRAME] * 3, "poll\nquit\n", echoes(RECT) + "polled 3\n")
         self.assertEqual((node.journal, node.frames), (log([RECT]), {2: [ANSWER]}))
 
     def test_events_are_taken_in_turn_above_the_sure_clock(self):

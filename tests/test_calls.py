@@ -1,11 +1,13 @@
 """A fault, and a kill, at each system call of a short session of a node, by strace; and which calls a node makes."""
 
+import itertools
 import re
 import shutil
 import signal
 import subprocess
 from dataclasses import dataclass, replace
 
+from tests.echoes import applied
 from tests.nodes import Node, Peer, free_addresses, room
 from tests.program import DONE, JOURNAL_FAULT, LINK_FAULT, LONGEST, PROGRAM, READ_FAULT, WRITE_FAULT, Case, at_a_time
 from tests.read import events_of
@@ -26,15 +28,19 @@ LOOKS = ["openat", "statx", "flock"]
 
 @dataclass(frozen=True)
 class Plan:
-    """A short session of site 1 of two: its journal when it starts, if there is one, what is typed, the event of the other site that
-    has come by then, the events that the journal has in the end, and what is printed where no call fails: each line with the
-    number of the events that it tells of."""
+    """A short session of site 1 of two: its journal when it starts, if there is one, what is typed, the events of the other site that
+    have come by then, in one frame, the events that the journal has in the end, as they are recorded together, and what is printed
+    where no call fails: each line with the number of the events that it tells of."""
 
     contents: bytes | None
     typed: bytes
-    theirs: tuple
-    events: list
+    theirs: list
+    recorded: list
     lines: list
+
+    @property
+    def events(self):
+        return [event for together in self.recorded for event in together]
 
     @property
     def printed(self):
@@ -44,23 +50,47 @@ class Plan:
         """How many events these lines tell of."""
         return max(told for line, told in self.lines if line in lines)
 
+    def may_be_kept(self, lines):
+        """How many events the journal may have where these lines were printed: those that they tell of, and perhaps all that are
+        recorded together next. Never a part of these."""
+        told, counts = self.told(lines), list(itertools.accumulate(map(len, self.recorded)))
+        return {told, next((count for count in counts if count > told), told)}
+
 
 OTHERS, RAISE = square((1, 2), 1), ((2, 2), 2, ("raise", (1, 2)))
+NEW_EVENTS = [square((1, 1), 1), OTHERS, ((2, 1), 2, ("move", (1, 1), 5, 5))]
 NEW = Plan(
     None,
     b"create rect 0 0 10 10\npoll\nmove 1.1 5 5\npoll\nquit\n",
-    OTHERS,
-    [square((1, 1), 1), OTHERS, ((2, 1), 2, ("move", (1, 1), 5, 5))],
-    [("ready 1 of 2", 0), ("ok 1.1", 1), ("echo 1.2 applied", 2), ("polled 1", 2), ("ok 2.1", 3), ("polled 0", 3)],
+    [OTHERS],
+    [[event] for event in NEW_EVENTS],
+    [("ready 1 of 2", 0), ("ok 1.1", 1), (applied(OTHERS), 2), ("polled 1", 2), ("ok 2.1", 3), ("polled 0", 3)],
 )
 KEPT = [square((1, 1), 1), OTHERS]
 AGAIN = Plan(
     log(KEPT),
     b"create rect 0 0 10 10\npoll\nmove 2.1 5 5\npoll\nquit\n",
-    RAISE,
-    [*KEPT, square((2, 1), 2), RAISE, ((3, 1), 3, ("move", (2, 1), 5, 5))],
-    [("ready 1 of 2", 2), ("ok 2.1", 3), ("echo 2.2 applied", 4), ("polled 1", 4), ("ok 3.1", 5), ("polled 0", 5)],
+    [RAISE],
+    [KEPT, [square((2, 1), 2)], [RAISE], [((3, 1), 3, ("move", (2, 1), 5, 5))]],
+    [("ready 1 of 2", 2), ("ok 2.1", 3), (applied(RAISE), 4), ("polled 1", 4), ("ok 3.1", 5), ("polled 0", 5)],
 )
+# Several edits as one, a frame of several events, and an undo; and a gesture that never ends.
+MADE = [square((1, 1), 1), square((2, 1), 2), ((3, 1), 3, ("fill", (1, 1), 0xFF00))]
+CAME = [OTHERS, RAISE, ((3, 2), 3, ("move", (1, 2), 5, 5))]
+UNDONE = [((4, 1), 4, ("fill", (1, 1), None)), ((5, 1), 5, ("delete", (2, 1))), ((6, 1), 6, ("delete", (1, 1)))]
+TOGETHER = Plan(
+    None,
+    b"begin\ncreate rect 0 0 10 10\nmove 9.1 0 0\ncreate rect 0 0 10 10\nshow\nfill 1.1 00FF00\nend\npoll\nundo\npoll\nbegin\n"
+    b"create rect 0 0 10 10\ncreate rect 0 0 10 10\nquit\n",
+    CAME,
+    [MADE, CAME, UNDONE],
+    [
+        ("ready 1 of 2", 0), ("ok 1.1", 3), ("refused: NoObject", 3), ("ok 2.1", 3), ("refused: InGesture", 3), ("ok 3.1", 3), ("end 5", 3),
+        *((applied(event), 6) for event in CAME), ("polled 1", 6),
+        ("ok 4.1", 9), ("ok 5.1", 9), ("ok 6.1", 9), ("end 3", 9), ("polled 0", 9),
+    ],
+)
+PLANS = [NEW, AGAIN, TOGETHER]
 
 
 @dataclass(frozen=True)
@@ -94,7 +124,7 @@ def session(plan, *strace):
             with Node(1, [*free_addresses(1), peer.address], folder / "j", *flags, under=under) as node:
                 first = node.read_line()
                 if first:
-                    peer.send(node, frame([plan.theirs]))
+                    peer.send(node, frame(plan.theirs))
                 printed, status, _ = node.end(plan.typed)
         finally:
             peer.close()
@@ -128,7 +158,7 @@ def may_trace():
 class Calls(Case):
     @classmethod
     def setUpClass(cls):
-        cls.wholes = [(plan, session(plan)) for plan in (NEW, AGAIN)] if may_trace() else []
+        cls.wholes = [(plan, session(plan)) for plan in PLANS] if may_trace() else []
 
     def setUp(self):
         if not self.wholes:
@@ -139,7 +169,8 @@ class Calls(Case):
             self.assertEqual((whole.status, whole.lines), (DONE, plan.printed))
             self.assertEqual(whole.journal, log(plan.events))
 
-    # Before `ready` the file and its folder are synced, and before each answer the event and its open gate, in that order.
+    # Before `ready` the file and its folder are synced, and before each answer its events and the open gate in front of them, in that
+    # order: with two syncs, however many events these are.
     def test_what_is_told_was_synced(self):
         told = ("pwrite64", "fsync", "fdatasync", "write")
         for _, whole in self.wholes:
@@ -173,12 +204,13 @@ class Calls(Case):
         return events
 
     def expect_sound(self, plan, call, ended):
-        """What was printed is a front of the lines, and the journal has the events that these tell of, and perhaps one more."""
+        """What was printed is a front of the lines, and the journal has the events that these tell of, and perhaps those that come
+        together next."""
         self.assertEqual(ended.lines, plan.printed[: len(ended.lines)], call)
         events = self.expect_to_go_on(plan, call, ended)
         if ended.lines:
             self.assertEqual(events, plan.events[: len(events)], call)
-            self.assertIn(len(events) - plan.told(ended.lines), (0, 1), call)
+            self.assertIn(len(events), plan.may_be_kept(ended.lines), call)
 
     # Where a receive failed the frame isn't there, or comes later. A frame that was lost changes nothing here.
     def test_each_call_fails_in_turn(self):

@@ -1,7 +1,9 @@
 """A node that is sent datagram after datagram: the worked frame with each other byte in each place, and the longest."""
 
+from tests.echoes import applied, echoes
 from tests.nodes import answered, started
 from tests.program import DONE, Case
+from tests.read import frame_events
 from tests.spelled import GREATEST_CLOCK, changed, frame, log, number, record, square
 from tests.test_frames import TAKEN, line_of
 from tests.worked import EVENT, FRAME
@@ -41,7 +43,7 @@ class Datagrams(Case):
         taken = [row for row in rows if told[row] == TAKEN]
         with started((1, 2)) as (node, peers):
             self.assertTrue(node.is_ready())
-            self.assertEqual(self.polled(node, peers[2], [FRAME]), [TAKEN])
+            self.assertEqual(self.polled(node, peers[2], [FRAME]), [applied(square((1, 2), 1))])
             lines = self.polled(node, peers[2], [changed(FRAME, [row]) for row in refused])
             for row, line in zip(refused, lines, strict=True):
                 self.assertEqual(line, told[row], row)
@@ -58,7 +60,7 @@ class Datagrams(Case):
         with started((1, 2)) as (node, peers):
             self.assertTrue(node.is_ready())
             lines = self.polled(node, peers[2], [datagram for datagram, _ in pairs])
-            self.assertEqual(lines, [f"echo {clock}.2 applied" for clock in range(1, len(pairs) + 1)])
+            self.assertEqual(lines, [applied(frame_events(datagram)[0]) for datagram, _ in pairs])
             events = b"".join(b"\xC3" + event for _, event in pairs)
             self.assertTrue(node.journal.read_bytes() == log([], closed=False) + events + b"\0", "another journal")
 
@@ -75,23 +77,25 @@ class Datagrams(Case):
 
 class Longest(Case):
     # Eight objects that are put back, each with a label of 200 bytes, in a group, with 32 ties to groups; a name of 16 bytes and a
-    # focus. One that acknowledges what was never made is refused.
+    # focus. Their echoes are the longest that say `applied`. One that acknowledges what was never made is refused.
     def test_the_longest_frame_is_taken(self):
-        link = ((99, 16), FARTHEST, -FARTHEST)
-        whole = ("text", -FARTHEST, FARTHEST, 1, -1, 0, None, 64, "é" * 100, link, False, ("high", (50, 16)))
-        ties = [((clock, 16), link) for clock in range(1, 33)]
-        events = [((100 + turn, 16), turn, ("restore", (50, 16), whole, *ties)) for turn in range(1, 9)]
+        base = GREATEST_CLOCK - 108
+        link, size = ((base + 99, 16), -FARTHEST, -FARTHEST), -1_000_000
+        whole = ("ellipse", -FARTHEST, -FARTHEST, size, size, 0, 0, 64, "é" * 100, link, True, ("high", (base + 50, 16)))
+        ties = [((base + clock, 16), link) for clock in range(1, 33)]
+        events = [((base + 100 + turn, 16), turn, ("restore", (base + 50, 16), whole, *ties)) for turn in range(1, 9)]
         of = {"clock": GREATEST_CLOCK, "note": 65_535, "focus": (GREATEST_CLOCK, 16), "name": SIXTEEN}
         of["session"] = 2**32 - 1
         longest, event = frame(events, sender=16, **of), record(*events[0])
         self.assertEqual((len(longest), len(event)), (8_096, 1_006))
-        self.assertEqual(event[:18], bytes.fromhex("000000000065 10 0001 0B 000000000032 10 04"))
-        self.assertEqual(event[-23:], bytes.fromhex("000000000020 10 01 000000000063 10 3B9ACA00 C4653600"))
+        self.assertEqual(event[:18], bytes.fromhex("FFFFFFFFFFF8 10 0001 0B FFFFFFFFFFC5 10 02"))
+        self.assertEqual(event[-23:], bytes.fromhex("FFFFFFFFFFB3 10 01 FFFFFFFFFFF6 10 C4653600 C4653600"))
         datagrams = [frame(events, sender=16, held=65_535, **of), longest]
         node = answered((1, 16), "poll\nwho\n", datagrams, sender=16, session=2**32 - 1)
-        echoes = "".join(f"echo {clock}.16 applied\n" for clock in range(101, 109))
+        printed = echoes(*events)
+        self.assertEqual(max(map(len, printed.encode().splitlines())), 2_619)
         who = "who 16 sixteen-letters! focus 281474976710655.16\nend 1\n"
-        printed = f"frame refused: OverAck 65535 0\n{echoes}polled 2\n{who}"
+        printed = f"frame refused: OverAck 65535 0\n{printed}polled 2\n{who}"
         self.assertEqual((node.text, node.status), (f"ready 1 of 16\n{printed}", DONE))
         self.assertEqual(node.journal, log(events, sites=16, session=2**32 - 1))
 
@@ -119,6 +123,7 @@ class Longest(Case):
                 self.assertEqual(node.held(), held + 8)
                 sent.append(peers[1].received()[-1])
         oks = [[[f"ok {clock}.2"] for clock in range(first, first + 8)] for first in (257, 265, 273)]
+        oks[1:] = [[[*ok, "end 1"] for ok in part] for part in oks[1:]]
         self.assertEqual(answers, [["polled 1"], ["noted 1"], ["noted 2"], *oks[0], ["polled 1"], *oks[1], ["polled 1"], *oks[2]])
         disbands, restores = [], []
         for turn, part in enumerate(ids):

@@ -5,7 +5,7 @@ import subprocess
 
 from tests.nodes import Node, free_addresses, node_words, room
 from tests.program import DONE, JOURNAL_FAULT, LINK_FAULT, LONGEST, PROGRAM, USAGE, WRITE_FAULT, Case, at_a_time, run_program
-from tests.spelled import CLOSED, log, record, square
+from tests.spelled import CLOSED, OPEN, log, record, square
 from tests.test_calls import OTHERS, STRACE, Plan, may_trace, read_in_pieces, session
 from tests.test_statuses import limited
 from tests.worked import TIE
@@ -13,7 +13,7 @@ from tests.worked import TIE
 ONE, TWO = square((1, 1), 1), ((2, 1), 2, ("create", "rect", 5, 5, 10, 10, ""))
 TYPED = b"create rect 0 0 10 10\ncreate rect 5 5 10 10\nquit\n"
 LINES = [("ready 1 of 2", 0), ("ok 1.1", 1), ("ok 2.1", 2)]
-APPENDED = Plan(None, TYPED, OTHERS, [ONE, TWO], LINES)
+APPENDED = Plan(None, TYPED, [OTHERS], [[ONE], [TWO]], LINES)
 # A record stands behind the closed gate before that gate is opened.
 HEADER, FIRST, BOTH = log([]), log([ONE]), log([ONE, TWO])
 SECOND_WRITTEN = FIRST[:-1] + CLOSED + record(*TWO) + CLOSED
@@ -27,6 +27,20 @@ FAULTS = [
     ("pwrite64", 2, 1, HEADER), ("fsync", 3, 1, FIRST_WRITTEN), ("pwrite64", 3, 1, FIRST_WRITTEN), ("fsync", 4, 1, FIRST),
     ("pwrite64", 4, 2, FIRST), ("fsync", 5, 2, SECOND_WRITTEN), ("pwrite64", 5, 2, SECOND_WRITTEN), ("fsync", 6, 2, BOTH),
     ("pwrite64", 6, 3, BOTH), ("fsync", 7, 3, BOTH),
+]
+
+# The same of a gesture: both stand behind the closed gate before that is opened.
+TOGETHER = Plan(
+    None,
+    TYPED.replace(b"create", b"begin\ncreate", 1).replace(b"quit", b"end\nquit"),
+    [OTHERS],
+    [[ONE, TWO]],
+    [("ready 1 of 2", 0), ("ok 1.1", 2), ("ok 2.1", 2), ("end 2", 2)],
+)
+BOTH_WRITTEN = HEADER + record(*ONE) + OPEN + record(*TWO) + CLOSED
+GESTURE_FAULTS = [
+    ("pwrite64", 2, 1, HEADER), ("fsync", 3, 1, BOTH_WRITTEN), ("pwrite64", 3, 1, BOTH_WRITTEN), ("fsync", 4, 1, BOTH),
+    ("pwrite64", 4, 4, BOTH), ("fsync", 5, 4, BOTH),
 ]
 
 # The name of a journal, and the folder in which it stands.
@@ -48,11 +62,15 @@ class Traced(Case):
             self.skipTest("strace isn't there, or may not trace")
 
     def test_what_a_fault_of_an_append_leaves(self):
-        rows = [(APPENDED, "-e", f"inject={name}:error=EIO:when={number}") for name, number, _, _ in FAULTS]
-        for row, ended in zip(FAULTS, at_a_time(session, rows)):
+        self.expect_left(APPENDED, FAULTS)
+        self.expect_left(TOGETHER, GESTURE_FAULTS)
+
+    def expect_left(self, plan, faults):
+        rows = [(plan, "-e", f"inject={name}:error=EIO:when={number}") for name, number, _, _ in faults]
+        for row, ended in zip(faults, at_a_time(session, rows)):
             _, _, lines, journal = row
-            status = DONE if lines == len(LINES) else JOURNAL_FAULT
-            self.assertEqual((ended.status, ended.lines, ended.journal), (status, APPENDED.printed[:lines], journal), row)
+            status = DONE if lines == len(plan.lines) else JOURNAL_FAULT
+            self.assertEqual((ended.status, ended.lines, ended.journal), (status, plan.printed[:lines], journal), row)
 
     # The folder of the name is opened, and what is behind the last `/` is made in it.
     def test_a_name_stands_in_its_folder(self):

@@ -1,12 +1,15 @@
 """A node's frames on their way to another node: cut, and with each byte changed."""
 
+from tests.echoes import applied, echoes
 from tests.nodes import answered, replayed
 from tests.program import DONE, Case, at_a_time
+from tests.read import frame_events
 from tests.spelled import changed, log, square
 from tests.test_changes import CHANGES
 from tests.worked import EVENT, FRAME
 
-TAKEN = "echo 1.2 applied"
+# It is taken, and its event is applied.
+TAKEN = "taken"
 
 
 def bad(why, at):
@@ -116,7 +119,8 @@ class Frames(Case):
     def expect_received(self, rows):
         """Each datagram, and the line that is printed of it. What was taken is journalled, and nothing else is."""
         for (datagram, line), node in zip(rows, at_a_time(received, [(datagram,) for datagram, _ in rows])):
-            self.assertEqual((node.text, node.status), (f"ready 1 of 2\n{line}\npolled 1\n", DONE), datagram.hex())
+            printed = applied(frame_events(datagram)[0]) if line == TAKEN else line
+            self.assertEqual((node.text, node.status), (f"ready 1 of 2\n{printed}\npolled 1\n", DONE), datagram.hex())
             event = b"\xC3" + datagram[EVENT:] if line == TAKEN else b""
             self.assertEqual(node.journal, log([], closed=False) + event + b"\0", datagram.hex())
 
@@ -162,17 +166,16 @@ LONG = [
     "create rect 0 0 10 10 a\ncreate ellipse 5 5 5 5 b\ngroup 1.2 2.2\nungroup 3.2\nundo\nundo\nredo\nundo\n",
     "create rect 0 0 10 10 a\nraise 1.2\nundo\nredo\ndelete 1.2\nundo\nlower 1.2\nundo\n",
 ]
-ALL_TAKEN = "".join(f"echo {clock}.2 applied\n" for clock in range(1, 9)) + "polled 1\n"
 
 
 class LongFrames(Case):
-    def expect_sound(self, node, at):
+    def expect_sound(self, node, datagram, at):
         """Either the frame was refused, and nothing else came of it, or all of it was taken, and is in the journal."""
         self.assertEqual(node.status, DONE, at)
         lines = node.text.split("\n")
         is_refusal = len(lines) == 5 and lines[1].startswith("frame refused: ") and lines[2:] == ["polled 1", "end 0", ""]
         if not is_refusal:
-            self.assertEqual(node.text, f"ready 1 of 2\n{ALL_TAKEN}{replayed(node.journal)}", at)
+            self.assertEqual(node.text, f"ready 1 of 2\n{echoes(*frame_events(datagram))}polled 1\n{replayed(node.journal)}", at)
 
     def test_a_long_frame_with_a_changed_bit_is_refused_or_taken_whole(self):
         for typed in LONG:
@@ -180,6 +183,6 @@ class LongFrames(Case):
             rows = [(0, 0)] + [(at, change) for at in range(len(sent)) for change in (1, 128)]
             datagrams = [changed(sent, [(at, sent[at] ^ change)]) for at, change in rows]
             nodes = at_a_time(received, [(datagram, "poll\nshow\n") for datagram in datagrams])
-            self.assertTrue(nodes[0].text.startswith(f"ready 1 of 2\n{ALL_TAKEN}"), nodes[0].text)
-            for row, node in zip(rows, nodes):
-                self.expect_sound(node, row)
+            self.assertTrue(nodes[0].text.startswith(f"ready 1 of 2\n{echoes(*frame_events(sent))}polled 1\n"), nodes[0].text)
+            for row, datagram, node in zip(rows, datagrams, nodes):
+                self.expect_sound(node, datagram, row)

@@ -38,7 +38,7 @@ OWN = log([square((2, 1), 1)])[11:]
 class Journals(Case):
     def test_a_journal_is_a_log_of_what_is_held(self):
         node = answered((1, 2), TYPED, [frame([square((1, 2), 1)])])
-        self.assertEqual(node.text, "ready 1 of 2\nok 1.1\nok 2.1\necho 1.2 applied\npolled 1\nok 3.1\n")
+        self.assertEqual(node.text, "ready 1 of 2\nok 1.1\nok 2.1\necho 1.2 applied create rect 0 0 10 10\npolled 1\nok 3.1\n")
         self.assertEqual(node.journal, JOURNAL)
         self.expect(["upgrade"], node.journal, DONE, JOURNAL)
 

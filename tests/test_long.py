@@ -2,7 +2,7 @@
 
 from random import Random
 
-from tests.drawing import Typist, id_text
+from tests.drawing import Typist
 from tests.nodes import Node, answered, free_addresses, replayed, room
 from tests.program import DONE, Case, run_program
 from tests.spelled import log
@@ -14,19 +14,21 @@ MEBIBYTE = 1 << 20
 class Long(Case):
     def test_a_journal_of_50000_edits(self):
         typist = Typist(Random(7))
-        for _ in range(EDITS):
+        while len(typist.events) < EDITS:
             typist.edit()
         drawing, journal = typist.drawing.text(), log(typist.events, sites=1)
         self.assertGreater(len(journal), MEBIBYTE)
-        node = answered((1, 1), "".join(f"{line}\n" for line in [*typist.lines, "show"]))
+        lines = [line for each in typist.typed for line in each.lines]
+        node = answered((1, 1), "".join(f"{line}\n" for line in [*lines, "show"]))
         self.assertEqual(node.status, DONE)
-        answers = "".join(f"ok {id_text(stamp)}\n" for stamp, _, _ in typist.events)
+        answers = "".join(f"{line}\n" for each in typist.typed for line in each.answers)
         self.expect_same(node.text, f"ready 1 of 1\n{answers}{drawing}")
         self.expect_same(node.journal, journal)
         self.expect_same(replayed(node.journal), drawing)
         self.expect_same(run_program(["upgrade"], node.journal).printed, journal)
         again = answered((1, 1), "show\nstatus\n", contents=node.journal)
-        held = f"held {EDITS} kept 0 line {EDITS} clock {EDITS}\n"
+        count = len(typist.events)
+        held = f"held {count} kept 0 line {count} clock {count}\n"
         self.expect_same(again.text, f"ready 1 of 1\n{drawing}{held}")
 
     def expect_same(self, found, wanted):
@@ -42,8 +44,10 @@ class Long(Case):
             typist.edit()
         with room(on_disk=True) as folder, Node(1, free_addresses(1), folder / "j") as node:
             self.assertTrue(node.is_ready())
-            for count, line in enumerate(typist.lines[:50], 1):
-                self.assertEqual(node.ask(line), [f"ok {count}.1"])
+            count = 0
+            for each in typist.typed[:50]:
+                self.assertEqual(node.ask("\n".join(each.lines)), each.answers)
+                count += each.count
                 self.assertEqual((folder / "j").read_bytes(), log(typist.events[:count], sites=1))
-            _, status, _ = node.end("".join(f"{line}\n" for line in typist.lines[50:]).encode())
+            _, status, _ = node.end("".join(f"{line}\n" for each in typist.typed[50:] for line in each.lines).encode())
             self.assertEqual((status, (folder / "j").read_bytes()), (DONE, log(typist.events, sites=1)))

@@ -61,6 +61,15 @@ def line_of(draw, node, site):
     return draw.choice(lines + [f"group {id} {draw.choice(ids)}"] * 3)
 
 
+def gesture_of(draw, node, site):
+    """Such an edit, or several of them as one."""
+    line = line_of(draw, node, site)
+    if draw.random() < 0.8 or line in ("undo", "redo"):
+        return line
+    others = [line_of(draw, node, site) for _ in range(draw.randrange(12))]
+    return "\n".join(["begin", line, *others, "end"])
+
+
 class Lossy(Case):
     def test_all_come_to_show_the_same(self):
         for seed, (sites, edits, rates, is_killed) in enumerate(SESSIONS, 1):
@@ -79,9 +88,9 @@ class Lossy(Case):
         accepted = 0
         for turn in range(edits):
             for site, node in nodes.items():
-                answer = node.ask(line_of(draw, node, site))
+                answer = node.ask(gesture_of(draw, node, site))
                 self.assertTrue(answer[0].startswith(("ok ", "refused: ")), answer)
-                accepted += answer[0].startswith("ok ")
+                accepted += sum(line.startswith("ok ") for line in answer)
                 if turn % POLL == POLL - 1:
                     self.poll(node)
                 self.link.pump(nodes)

@@ -58,7 +58,7 @@ class Many(Case):
                     held, kept = 2 * EACH + turn, 2 * (EACH - line)
                     self.assertEqual(node.ask("status"), [f"held {held} kept {kept} line {line} clock {EACH}"])
                     peers[3].send(node, frame([square((line + 1, 3), turn + 1)], sender=3, clock=line + 1))
-                    self.assertEqual(node.ask("poll"), [f"echo {line + 1}.3 applied", "polled 1"])
+                    self.assertEqual(node.ask("poll"), [f"echo {line + 1}.3 applied create rect 0 0 10 10", "polled 1"])
                     self.assertEqual(node.ask("status")[0].split()[3], str(kept - 2))
                 shown = node.ask("show")
         late = [(line + 1, 3) for line in LINES]

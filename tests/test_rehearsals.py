@@ -22,7 +22,7 @@ class Rehearsals(Case):
     # The last line has no LF.
     def test_the_last_line_needs_no_end(self):
         typed = b"at 1 create rect 0 0 10 10\nsend 1 2\ndeliver 1"
-        self.expect(rehearse(2), typed, DONE, "ok 1.1\nmail 1\necho 1.1 applied\ndelivered 1\n")
+        self.expect(rehearse(2), typed, DONE, "ok 1.1\nmail 1\necho 1.1 applied create rect 0 0 10 10\ndelivered 1\n")
 
     def test_there_are_a_hundred_thousand_lines_at_most(self):
         lines = b"\n" * 100_000

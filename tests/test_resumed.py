@@ -1,5 +1,6 @@
 """What a node goes on with: a journal closed at each gate, cut at each length, of another one, and as a crash leaves it."""
 
+from tests.echoes import applied
 from tests.nodes import answered, started
 from tests.program import BAD_LOG, DONE, OTHER_JOURNAL, Case, at_a_time
 from tests.spelled import CLOSED, OPEN, changed, frame, log, record, square
@@ -32,6 +33,15 @@ def torn(count):
     return rows
 
 
+# The same where both events were being written behind one gate: they are there together, or neither is.
+def torn_together():
+    together = OPEN.join(record(*event) for event in EVENTS)
+    front = LOG[: GATES[0]]
+    rows = [(front + CLOSED + together[:cut] + bytes([fill]) * (len(together) - cut), 0) for cut in range(0, 58, 7) for fill in (0, 0xC3)]
+    rows += [(front + bytes([fill]) + together + CLOSED, 2 * (fill == 0xC3)) for fill in (0, 0xC3, 0xFF)]
+    return rows
+
+
 class Resumed(Case):
     def expect_resumed(self, rows):
         """Each journal, and how many of the events it has. Each node adds an event there, and leaves what stood behind."""
@@ -53,6 +63,9 @@ class Resumed(Case):
 
     def test_what_a_crash_left_of_an_append_is_gone_on_from(self):
         self.expect_resumed(torn(0) + torn(1))
+
+    def test_what_a_crash_left_of_a_gesture_is_gone_on_from(self):
+        self.expect_resumed(torn_together())
 
     def expect_refused(self, rows):
         """Each journal, and how its node ends and what it prints. It is left as it is."""
@@ -104,10 +117,10 @@ class Begun(Case):
             self.assertTrue(node.is_ready())
             self.assertEqual(node.ask("create rect 10 20 30 40"), ["ok 1.1"])
             peers[2].send(node, frame(HELD[1:3]))
-            self.assertEqual(node.ask("poll"), ["echo 1.2 applied", "echo 2.2 applied", "polled 1"])
+            self.assertEqual(node.ask("poll"), [*map(applied, HELD[1:3]), "polled 1"])
             self.assertEqual(node.ask("raise 1.1"), ["ok 3.1"])
             peers[3].send(node, frame(HELD[4:], sender=3))
-            self.assertEqual(node.ask("poll"), ["echo 1.3 applied", "echo 3.3 applied", "polled 1"])
+            self.assertEqual(node.ask("poll"), [*map(applied, HELD[4:]), "polled 1"])
             held = node.journal.read_bytes()
             self.assertEqual(held, log(HELD, sites=3))
             for peer in peers.values():

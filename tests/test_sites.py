@@ -1,5 +1,6 @@
 """What one site answers and sends: dialogues, frames that come to it, its limits, its notes, and what it goes on with."""
 
+from tests.echoes import applied, echoes
 from tests.nodes import answered, started
 from tests.program import DONE, Case
 from tests.spelled import GREATEST_CLOCK, changed, frame, log, square
@@ -18,32 +19,32 @@ FRAMES = [
     (
         [FRAME] * 3,
         "poll\nstatus\n",
-        "echo 1.2 applied\npolled 3\nheld 1 kept 0 line 1 clock 1\n",
+        f"{echoes(SQUARE)}polled 3\nheld 1 kept 0 line 1 clock 1\n",
     ),
     (
         [frame([SQUARE]), frame([THIRD, FOURTH]), frame([SECOND, THIRD, FOURTH])],
         "poll\nstatus\nshow\n",
-        "echo 1.2 applied\necho 2.2 applied\necho 3.2 applied\necho 4.2 applied\npolled 3\n"
+        f"{echoes(SQUARE, SECOND, THIRD, FOURTH)}polled 3\n"
         f"held 4 kept 0 line 4 clock 4\n{RECT.format('1.2', '3 3')}end 1\n",
     ),
     # The first frame promises that nothing up to clock 8 is to come.
     (
         [frame([SQUARE, SECOND], clock=8), frame([((9, 2), 3, ("raise", (1, 2)))])],
         "poll\nstatus\n",
-        "echo 1.2 applied\necho 2.2 applied\necho 9.2 applied\npolled 2\nheld 3 kept 0 line 9 clock 9\n",
+        f"{echoes(SQUARE, SECOND)}echo 9.2 applied raise 1.2\npolled 2\nheld 3 kept 0 line 9 clock 9\n",
     ),
     # No edit follows the greatest clock.
     (
         [frame([square((GREATEST_CLOCK, 2), 1)])],
         "poll\ncreate rect 0 0 1 1\nraise 9.1\nraise 9.17\nstatus\n",
-        "echo 281474976710655.2 applied\npolled 1\nrefused: ClockEnd\nrefused: ClockEnd\nrefused: BadId\n"
+        "echo 281474976710655.2 applied create rect 0 0 10 10\npolled 1\nrefused: ClockEnd\nrefused: ClockEnd\nrefused: BadId\n"
         "held 1 kept 0 line 281474976710655 clock 281474976710655\n",
     ),
     # The last edit has it, and nothing takes it back.
     (
         [frame([square((GREATEST_CLOCK - 1, 2), 1)])],
         "poll\nraise 281474976710654.2\ncreate rect 0 0 1 1\nundo\nundo\nredo\nstatus\n",
-        "echo 281474976710654.2 applied\npolled 1\nok 281474976710655.1\nrefused: ClockEnd\n"
+        "echo 281474976710654.2 applied create rect 0 0 10 10\npolled 1\nok 281474976710655.1\nrefused: ClockEnd\n"
         "refused: ClockEnd\nrefused: ClockEnd\nrefused: NothingBack\n"
         "held 2 kept 1 line 281474976710654 clock 281474976710655\n",
     ),
@@ -139,16 +140,17 @@ class Limits(Case):
         rows += [(f"move 1.1 {place} 0", f"ok {place + 1}.1") for place in range(1, BACKS + 1)]
         for line, first, places in (("undo", BACKS + 2, range(BACKS)[::-1]), ("redo", 2 * BACKS + 2, range(1, BACKS + 1))):
             for turn, place in enumerate(places):
-                rows += [(line, f"ok {first + turn}.1")]
+                rows += [(line, f"ok {first + turn}.1\nend 1")]
                 rows += [("show", RECT.format("1.1", f"{place} 0") + "end 1")] * (turn % 100 == 0 or turn == BACKS - 1)
             rows += [(line, "refused: NothingBack")]
         self.expect_lines(1, rows)
 
     # What came before is forgotten by so many edits, and so is what could be done again, by the first of them.
     def test_an_edit_forgets_what_could_be_done_again(self):
-        rows = [("create rect 0 0 10 10", "ok 1.1"), ("move 1.1 5 5", "ok 2.1"), ("undo", "ok 3.1"), ("undo", "ok 4.1")]
-        rows += [("create rect 1 1 10 10", "ok 5.1"), ("redo", "refused: NothingBack"), ("undo", "ok 6.1"), ("undo", "refused: NothingBack")]
-        self.expect_lines(1, [*rows, ("redo", "ok 7.1"), ("show", RECT.format("5.1", "1 1") + "end 1")])
+        rows = [("create rect 0 0 10 10", "ok 1.1"), ("move 1.1 5 5", "ok 2.1"), ("undo", "ok 3.1\nend 1"), ("undo", "ok 4.1\nend 1")]
+        rows += [("create rect 1 1 10 10", "ok 5.1"), ("redo", "refused: NothingBack"), ("undo", "ok 6.1\nend 1")]
+        rows += [("undo", "refused: NothingBack")]
+        self.expect_lines(1, [*rows, ("redo", "ok 7.1\nend 1"), ("show", RECT.format("5.1", "1 1") + "end 1")])
 
 
 class Notes(Case):
@@ -182,7 +184,7 @@ class Told(Case):
             (3, frame(count=0, clock=12, sender=3, to=2), [], 0, "held 4 kept 0 line 4 clock 4"),
             (3, frame(count=0, clock=12, sender=3, to=2), [], 6, "held 10 kept 1 line 9 clock 10"),
             (1, frame([gap], sender=1, to=2), [], 0, "held 10 kept 1 line 9 clock 10"),
-            (1, frame([next], sender=1, to=2), ["echo 10.1 applied"], 0, "held 11 kept 0 line 10 clock 10"),
+            (1, frame([next], sender=1, to=2), [applied(next)], 0, "held 11 kept 0 line 10 clock 10"),
             (1, frame([next], sender=1, to=2), [], 0, "held 11 kept 0 line 10 clock 10"),
             (1, frame([late], sender=1, to=2), ["event 10.1 refused: Backdated 10 10"], 0, "held 11 kept 0 line 10 clock 10"),
         ]

@@ -7,7 +7,8 @@ from tests.worked import ELLIPSE_LINE, RECT_LINE, TIE, TIE_SNAPSHOT, TIE_TEXT
 
 # A frame of session 7 from site 2 to site 1, with the count 2 and the clock 2: the event 2.2, its second, moves 1.1 to 7 8.
 MOVE = frame([((2, 2), 2, ("move", (1, 1), 7, 8))])
-MOVED_TEXT = "echo 2.2 applied\n" + ELLIPSE_LINE.replace("at 0 0", "at 7 8") + RECT_LINE + "end 2\n"
+MOVED = "echo 2.2 applied move 1.1 7 8\n"
+MOVED_TEXT = MOVED + ELLIPSE_LINE.replace("at 0 0", "at 7 8") + RECT_LINE + "end 2\n"
 
 
 def stream(*datagrams):
@@ -65,9 +66,9 @@ class Snapshots(Case):
                 ([], b"\x1F", "bad view at 124: Short\n"),
                 ([], b"\x1F\xA1\0", "bad view at 123: Long\n"),
                 ([], b"\x1F\xA0", "bad view at 125: Short\n"),
-                ([MOVE], b"\0", "echo 2.2 applied\nbad view at 183: Short\n"),
-                ([MOVE], b"\0\x02\x01", "echo 2.2 applied\nbad view at 185: Short\n"),
-                ([MOVE], b"\xFF\xFF", "echo 2.2 applied\nbad view at 182: Long\n"),
+                ([MOVE], b"\0", MOVED + "bad view at 183: Short\n"),
+                ([MOVE], b"\0\x02\x01", MOVED + "bad view at 185: Short\n"),
+                ([MOVE], b"\xFF\xFF", MOVED + "bad view at 182: Long\n"),
             ]
         ])
 

@@ -22,7 +22,7 @@ class Strangers(Case):
             stranger.send(node, b"x")
             peers[2].send(node, RECT)
             stranger.send(node, b"y")
-            self.assertEqual(node.ask("poll"), ["echo 1.2 applied", "polled 1"])
+            self.assertEqual(node.ask("poll"), ["echo 1.2 applied create rect 0 0 10 10", "polled 1"])
             self.assertEqual(node.ask("status"), ["held 1 kept 0 line 1 clock 1"])
         stranger.close()
 
@@ -79,5 +79,5 @@ class IPv6(Case):
             self.assertTrue(one.is_ready() and two.is_ready())
             self.assertEqual(one.ask("create rect 0 0 10 10"), ["ok 1.1"])
             one.ask("status")
-            self.assertEqual(two.ask("poll"), ["echo 1.1 applied", "polled 1"])
+            self.assertEqual(two.ask("poll"), ["echo 1.1 applied create rect 0 0 10 10", "polled 1"])
             self.assertEqual(two.ask("show"), one.ask("show"))

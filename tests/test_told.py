@@ -155,7 +155,7 @@ class Told(Case):
         typed = b"create rect 0 0 10 10\nundo\nredo\npoll\nstatus\n"
         words = node_words(1, free_addresses(1), "small")
         self.expect_in_a_small_stack(
-            words, typed, b"ready 1 of 1\nok 1.1\nok 2.1\nok 3.1\npolled 0\nheld 3 kept 0 line 3 clock 3\n")
+            words, typed, b"ready 1 of 1\nok 1.1\nok 2.1\nend 1\nok 3.1\nend 1\npolled 0\nheld 3 kept 0 line 3 clock 3\n")
         words = node_words(1, free_addresses(1), "small", "--resume")
         self.expect_in_a_small_stack(words, b"status\n", b"ready 1 of 1\nheld 3 kept 0 line 3 clock 3\n")
         churned = self.launch_in_a_small_stack(["churn", "--seed", "1", "--steps", "2000"], b"")

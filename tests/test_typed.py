@@ -40,7 +40,8 @@ FAULTS = [
     ("text", "WrongCount"), ("text 9.17 a", "BadId"), ("group 1.1", "WrongCount"), ("group 1.1 x", "BadId"),
     ("focus", "WrongCount"), ("focus x", "BadId"), ("name A B", "WrongCount"), ("name AAAAAAAAAAAAAAAAA", "BadLabel"),
     ("show 1", "WrongCount"), ("status 1", "WrongCount"), ("who 1", "WrongCount"), ("undo 1", "WrongCount"),
-    ("redo 1", "WrongCount"), ("Redo", "UnknownCommand"), ("redo", "NothingBack"),
+    ("redo 1", "WrongCount"), ("begin 1", "WrongCount"), ("end 1", "WrongCount"), ("end", "NoGesture"), ("Begin", "UnknownCommand"),
+    ("Redo", "UnknownCommand"), ("redo", "NothingBack"),
     ("poll 1", "WrongCount"), ("quit x", "WrongCount"), ("undo", "NothingBack"), ("raise 9.1", "NoObject"),
     ("text 9.16", "NoObject"),
 ]
@@ -56,6 +57,27 @@ class Typed(Case):
             with self.subTest(name):
                 self.expect_text(typed, printed)
         self.expect_text("".join(f"{line}\n" for line, _ in NOTED), "".join(answer for _, answer in NOTED))
+
+    # A blank line is none of them. Behind them a line is refused whatever it is, but for one that ends the gesture or the run.
+    def test_a_gesture_has_at_most_512_lines(self):
+        edit, full = "create rect 0 0 10 10\n", "refused: GestureFull\n"
+        oks = "".join(f"ok {clock}.1\n" for clock in range(1, 513))
+        for behind, printed in [
+            ("end\n", f"{oks}end 512\n"),
+            (" \nend\n", f"{oks}end 512\n"),
+            (f"{edit}show\npaint\n{'x' * 1_025}\nend 1\nbegin\nend\nstatus\n", f"{oks}{6 * full}end 518\nheld 512 kept 0 line 512 clock 512\n"),
+            (f"{edit}quit\nend\n", ""),
+        ]:
+            self.expect_text(f"begin\n{edit * 512}{behind}", printed)
+
+    # Of 1,025 gestures of several edits the first one stays.
+    def test_the_last_1024_gestures_are_taken_back(self):
+        made = "create rect 0 0 10 10\n" + "begin\nmove 1.1 1 1\nmove 1.1 2 2\nend\n" * 1_024
+        typed = made + "raise 1.1\n" + "undo\n" * 1_025 + "status\n"
+        node = answered((1, 1), typed)
+        counts = [line for line in node.text.splitlines() if line.startswith("end ")]
+        self.assertEqual(counts, ["end 2"] * 1_024 + ["end 1"] + ["end 2"] * 1_023)
+        self.assertEqual(node.text.splitlines()[-2:], ["refused: NothingBack", "held 4097 kept 0 line 4097 clock 4097"])
 
     def test_each_fault_of_a_line_has_its_refusal(self):
         self.expect_text(
@@ -119,14 +141,26 @@ class Kept(Case):
     def test_an_undo_and_a_redo_are_events_like_any_other(self):
         node = self.second_of_three("create rect 0 0 10 10\nundo\nundo\nredo\nredo\n")
         nothing = "refused: NothingBack\n"
-        self.assertEqual(node.text, f"ready 2 of 3\nok 1.2\nok 2.2\n{nothing}ok 3.2\n{nothing}")
+        self.assertEqual(node.text, f"ready 2 of 3\nok 1.2\nok 2.2\nend 1\n{nothing}ok 3.2\nend 1\n{nothing}")
         events = [RECT, DELETE, RESTORE]
         self.assertEqual(node.journal, self.journal(*events))
         self.assertEqual(node.frames, {to: [frame(events[:count], to=to) for count in (1, 2, 3)] for to in (1, 3)})
 
-    # A refused line, a note and a line that only prints send nothing, and neither is journalled.
+    # One frame goes to each other site behind it, with its first eight events, and none before its end.
+    def test_a_gesture_is_journalled_as_a_whole_and_sent_behind_its_end(self):
+        edits = "create rect 0 0 10 10\n" * 10
+        events = [square((clock, 2), clock) for clock in range(1, 11)]
+        node = self.second_of_three(f"begin\n{edits}raise 9.1\nend\n")
+        oks = "".join(f"ok {clock}.2\n" for clock in range(1, 11))
+        self.assertEqual(node.text, f"ready 2 of 3\n{oks}refused: NoObject\nend 11\n")
+        self.assertEqual(node.journal, self.journal(*events))
+        self.assertEqual(node.frames, {to: [frame(events[:8], to=to, count=10, clock=10)] for to in (1, 3)})
+        node = self.second_of_three(f"begin\n{edits}poll\nquit\n")
+        self.assertEqual((node.text, node.sent, node.journal), ("ready 2 of 3\n", 0, self.journal()))
+
+    # A refused line, a note and a line that only prints send nothing, and neither is journalled. Nor does a gesture of such lines.
     def test_lines_without_an_event_send_nothing(self):
-        node = self.second_of_three("name Ada\nfocus 1.1\nwho\nshow\nstatus\nraise 1.1\n")
+        node = self.second_of_three("name Ada\nfocus 1.1\nwho\nshow\nstatus\nraise 1.1\nbegin\nraise 1.1\nshow\nend\n")
         self.assertEqual((node.status, node.sent, node.journal), (DONE, 0, self.journal()))
 
     def test_a_poll_sends_the_note(self):

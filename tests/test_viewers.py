@@ -111,15 +111,15 @@ def raised(clock, site, turn):
 
 # What comes, frame after frame, and what is printed of each: a repeat, and what stands behind a gap, have no line.
 TAKEN = [
-    (raised(4, 2, 1), "echo 4.2 applied\n"),
+    (raised(4, 2, 1), "echo 4.2 applied raise 1.1\n"),
     (raised(4, 2, 1), ""),
     (raised(9, 2, 3), ""),
     (raised(4, 2, 2), "event 4.2 refused: Backdated 4 4\n"),
-    (raised(3, 1, 3), "echo 3.1 dropped by 4.2\n"),
-    (raised(5, 1, 4), "echo 5.1 applied\n"),
+    (raised(3, 1, 3), "echo 3.1 dropped by 4.2 raise 1.1\n"),
+    (raised(5, 1, 4), "echo 5.1 applied raise 1.1\n"),
     (frame(sender=2, to=16, count=1, clock=6), ""),
     (raised(6, 2, 2), "event 6.2 refused: Backdated 6 6\n"),
-    (raised(7, 2, 2), "echo 7.2 applied\n"),
+    (raised(7, 2, 2), "echo 7.2 applied raise 1.1\n"),
 ]
 
 

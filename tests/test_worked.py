@@ -3,6 +3,7 @@ and the view of docs/FORMATS.md, and the words and refusals of docs/LINES.md."""
 
 import re
 
+from tests.echoes import words
 from tests.nodes import answered
 from tests.pages import blocks_of, lines_of, quoted, rows_of
 from tests.program import BAD_LOG, DONE, Case, run_program
@@ -101,7 +102,7 @@ class Formats(Case):
     # The steps of a churn, played by their lines: what a delivery takes stands in front of its own end.
     def test_the_steps_of_a_churn(self):
         rows = [row for row in self.table("Site", "Number", "Line", "Answer") if quoted(row[2])]
-        lines, answers = [quoted(row[2])[0] for row in rows], [quoted(row[3])[0] for row in rows]
+        lines, answers = [quoted(row[2])[0] for row in rows], [answer for row in rows for answer in quoted(row[3])]
         typed = [line if line.split()[0] in ("send", "deliver") else f"at {row[0]} {line}" for row, line in zip(rows, lines)]
         ended = run_program(["rehearse", "--sites", "4"], "".join(f"{line}\n" for line in typed).encode())
         printed = [line for line in ended.text.splitlines() if not line.startswith("delivered ")]
@@ -131,7 +132,7 @@ class Formats(Case):
     def test_the_view(self):
         moved = item(frame([((2, 2), 2, ("move", (1, 1), 7, 8))]))
         self.assertEqual((len(moved), moved[:2]), (59, b"\0\x39"))
-        self.expect(["view"], TIE_SNAPSHOT + moved, DONE, block_with(FORMATS, "echo 2.2 applied"))
+        self.expect(["view"], TIE_SNAPSHOT + moved, DONE, block_with(FORMATS, "echo 2.2 applied move 1.1 7 8"))
 
 
 class Lines(Case):
@@ -146,15 +147,29 @@ class Lines(Case):
             shown = run_program(["rehearse", "--sites", "1"], given.encode()).text.splitlines()[2]
             self.assertEqual(shown.partition("width 1")[2], f" text {wanted}" if wanted else "", line)
 
-    # Two objects are there, 1.1 and 2.1; the examples name others, or one of them twice.
+    # Two objects are there, 1.1 and 2.1; the examples name others, or one of them twice. What waits is refused at its end.
     def test_refusals(self):
         (rows,) = rows_of(LINES, "WHY", "When", "Example")
-        found = [(row[0], quoted(row[2])[0]) for row in rows if quoted(row[2])]
+        found = [(row[0], quoted(row[2])) for row in rows if quoted(row[2])]
         self.assertGreater(len(found), 3)
-        made = "at 1 create rect 0 0 1 1\n" * 2
-        for why, line in found:
-            printed = f"ok 1.1\nok 2.1\nrefused: {why}\n"
-            self.expect(["rehearse", "--sites", "1"], f"{made}at 1 {line}\n".encode(), DONE, printed)
+        for why, lines in found:
+            typed = ["create rect 0 0 1 1"] * 2 + lines + ["end"] * (lines[0] == "begin")
+            end = "end 1\n" if lines[0] == "begin" else ""
+            printed = f"ready 1 of 1\nok 1.1\nok 2.1\nrefused: {why}\n{end}"
+            self.assertEqual(answered((1, 1), "".join(f"{line}\n" for line in typed)).text, printed, why)
+
+    # Each echo of the table ends with the words of its operation.
+    def test_echoes(self):
+        (rows,) = rows_of(LINES, "Echo", "What it says")
+        ops = {
+            "4.1": ("move", (1, 1), 5, 5), "7.1": ("text", (1, 1), "Hi"), "8.1": ("group", ((1, 1), 0, 0), ((2, 1), 5, 5)),
+            "9.1": ("disband", (3, 1), ((1, 1), None), ((2, 1), ((4, 1), 5, 5))),
+            "16.2": ("restore", (1, 2), ("rect", 1, 2, -3, 4, 0, 0xFF00, 7, "Hi", None, False, ("low", (14, 2)))),
+        }
+        self.assertEqual(len(rows), len(ops))
+        for cell, _ in rows:
+            (echo,) = quoted(cell)
+            self.assertTrue(echo.endswith(f" {words(ops[echo.split(' ')[1]])}"), echo)
 
     def test_faults_of_a_rehearsal(self):
         (rows,) = [rows for rows in rows_of(LINES, "Line", "Fault") if "`at`, `at 1`" in rows[0][0]]

@@ -117,6 +117,12 @@ class Taking(WithUndo):
         back = [f"move {name} {x} {y}" for name, (x, y) in zip(names, places)][::-1]
         self.assert_turns(lambda: self.one.drag((295, 215), (395, 315), hold=["ctrl"]), went, back, went)
         self.assertEqual(set(self.one.selected()), set(names))
+        # It is one line at the node, and one gesture there.
+        self.assertEqual(self.one.ask("ed.node.turns.redo.lines"), 1)
+        self.one.picture("board-forty-back")
+        self.redo()
+        wait_for(lambda: self.one.item(names[0])["x"] == 300)
+        self.one.picture("board-forty-moved")
 
     def test_a_text_and_the_size_that_it_needed(self):
         (name,) = self.make(self.one, "create rect 300 200 160 80 Old words", select=True)

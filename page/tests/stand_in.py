@@ -22,20 +22,48 @@ def put(text):
     os.write(1, text.encode())
 
 
-def answer(line, script, count):
-    """The lines that answer a typed one."""
-    verb = line.split(" ")[0]
-    if line in script.get("refused", {}):
-        return [f"refused: {script['refused'][line]}"]
-    if verb == "show":
-        return [*script.get("show", []), f"end {len(script.get('show', []))}"]
-    if verb == "poll":
-        polls = script.setdefault("polls", [])
-        return polls.pop(0) if polls else ["polled 0"]
-    others = {"who": ["who 1 - focus -", "end 1"], "status": ["held 0 kept 0 line 0 clock 0"]}
-    if verb in ("name", "focus"):
-        return [f"noted {count}"]
-    return others.get(verb, [f"ok {count}.1"])
+class Answers:
+    """What answers typed lines: edits by rising stamps, and those between `begin` and `end` all at once."""
+
+    def __init__(self, script):
+        self.script, self.made, self.noted, self.waiting = script, 0, 0, None
+
+    def lines(self, line):
+        """The lines that answer a typed one."""
+        verb = line.split(" ")[0]
+        if verb == "begin":
+            self.waiting = []
+            return []
+        if verb == "end":
+            waiting, self.waiting = self.waiting, None
+            return [*(self.edit(each) for each in waiting), f"end {len(waiting)}"]
+        if self.waiting is not None:
+            self.waiting.append(line)
+            return []
+        return self.alone(verb, line)
+
+    def edit(self, line):
+        if line in self.script.get("refused", {}):
+            return f"refused: {self.script['refused'][line]}"
+        self.made += 1
+        return f"ok {self.made}.1"
+
+    def alone(self, verb, line):
+        """The answer to a line that stands in no gesture."""
+        shown, polls = self.script.get("show", []), self.script.setdefault("polls", [])
+        if verb == "show":
+            return [*shown, f"end {len(shown)}"]
+        if verb == "poll":
+            return polls.pop(0) if polls else ["polled 0"]
+        if verb == "who":
+            return ["who 1 - focus -", "end 1"]
+        if verb == "status":
+            return [f"held 0 kept 0 line 0 clock {self.made}"]
+        if verb in ("name", "focus"):
+            self.noted += 1
+            return [f"noted {self.noted}"]
+        done = self.edit(line)
+        return [done, "end 1"] if verb in ("undo", "redo") and done.startswith("ok ") else [done]
 
 
 def serve(journal, script, words):
@@ -45,8 +73,9 @@ def serve(journal, script, words):
         sys.exit(script["status"])
     put(f"ready {words[words.index('--site') + 1]} of 2\n")
     before, front, status = script.get("end", [None, "", 0])
+    answers = Answers(script)
     with open(f"{journal}.typed", "a", encoding="utf-8", newline="\n") as typed:
-        for count, given in enumerate(sys.stdin.buffer, 1):
+        for given in sys.stdin.buffer:
             line = given.decode().rstrip("\n")
             print(line, file=typed, flush=True)
             if line == "quit":
@@ -54,7 +83,7 @@ def serve(journal, script, words):
             if line == before:
                 put(front)
                 sys.exit(status)
-            put("".join(each + "\n" for each in answer(line, script, count)))
+            put("".join(each + "\n" for each in answers.lines(line)))
 
 
 def main(words):

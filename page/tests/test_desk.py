@@ -15,7 +15,7 @@ from page.tests.places import until
 
 class Asking(WithDesk):
     async def test_the_drawing_is_asked_for_where_it_may_have_changed(self):
-        desk = await self.desk(polls=[["polled 0"]] * 20 + [["echo 1.2 applied", "polled 1"]], show=[ROW])
+        desk = await self.desk(polls=[["polled 0"]] * 20 + [["echo 1.2 applied raise 1.1", "polled 1"]], show=[ROW])
         await self.wait_for_polls(10)
         self.assertEqual(self.typed().count("show"), 1)
         await until(lambda: self.typed().count("show") == 2)
@@ -34,8 +34,18 @@ class Asking(WithDesk):
         await until(lambda: self.typed().count("poll") == 2)
         await asyncio.sleep(0.2)
         verbs = [line.split(" ")[0] for line in self.typed()[len(first) :]]
-        self.assertEqual(verbs.index("show"), 500)
+        self.assertEqual([verbs[0], verbs[501], verbs[502]], ["begin", "end", "show"])
         self.assertEqual({verb: verbs.count(verb) for verb in ("raise", "show", "poll")}, {"raise": 500, "show": 1, "poll": 1})
+
+    async def test_no_poll_comes_between_the_clock_and_a_gesture_whose_ids_are_foretold_by_it(self):
+        desk = await self.desk(poll_every=0.001)
+        for _ in range(50):
+            await desk.batch(["create rect 0 0 1 1", "fill @1 none"])
+        typed = self.typed()
+        begun = [at for at, line in enumerate(typed) if line == "begin"]
+        self.assertEqual({typed[at - 1] for at in begun}, {"status"})
+        fills = [line for line in typed if line.startswith("fill")]
+        self.assertEqual(fills, [f"fill {2 * at + 1}.1 none" for at in range(50)])
 
     async def test_a_page_that_comes_before_the_first_drawing_is_told_of_none(self):
         desk = await self.desk(poll_every=1000, show=[ROW])
@@ -60,7 +70,7 @@ class Asking(WithDesk):
     async def test_polls_are_soon_while_events_come(self):
         # Without that the next poll would come after a quarter of an hour.
         with mock.patch("page.rounds.SOON_FOR", 100):
-            await self.desk(poll_every=1000, polls=[["echo 1.2 applied", "polled 1"]])
+            await self.desk(poll_every=1000, polls=[["echo 1.2 applied raise 1.1", "polled 1"]])
             await self.wait_for_polls(5)
 
     async def test_a_line_break_is_refused_before_the_node_sees_it(self):
@@ -75,7 +85,8 @@ class Asking(WithDesk):
         one = ["create rect 0 0 1 1", "fill @1 none", "raise @1"]
         other = ["create text 0 0 1 1 a", "fill @1 000000"]
         await asyncio.gather(desk.batch(one), desk.batch(other))
-        self.assertEqual([line.split(" ")[0] for line in self.edits()], ["create", "fill", "raise", "create", "fill"])
+        verbs = [line.split(" ")[0] for line in self.edits()]
+        self.assertEqual(verbs, ["begin", "create", "fill", "raise", "end", "begin", "create", "fill", "end"])
 
     async def test_a_journal_that_is_there_is_gone_on_with(self):
         await self.desk()
@@ -120,16 +131,18 @@ class Telling(WithDesk):
         self.assertEqual([(each["what"], each["event"], each["line"]) for each in own], wanted)
 
     async def test_what_happened(self):
-        echoes = ["echo 1.2 applied", "echo 2.2 dropped by 3.1", "echo 3.2 reworked 4", "frame refused: Session"]
+        echoes = ["echo 1.2 applied raise 1.1", "echo 2.2 dropped by 3.1 raise 1.1", "echo 3.2 reworked 4 delete 1.1", "frame refused: Session"]
         await self.desk(polls=[[*echoes, "polled 4"], ["polled 0"], ["link fault after 0"]])
         await until(lambda: len(self.heard("news")) == 2)
         whats = [entry["what"] for each in self.heard("news") for entry in each["news"]]
         self.assertEqual(whats, ["applied", "dropped", "reworked", "said", "said"])
+        done = [entry["line"] for each in self.heard("news") for entry in each["news"]]
+        self.assertEqual(done[:3], ["raise 1.1", "raise 1.1", "delete 1.1"])
         await until(lambda: any(each["others"] for each in self.heard("picture")))
 
     async def test_frames_of_a_wrong_peer_don_t_push_out_what_happened(self):
         with mock.patch("page.news.SAY_EVERY", 1000):
-            await self.desk(polls=[["echo 1.2 applied", "polled 1"]] + [["frame refused: Session", "polled 1"]] * 100)
+            await self.desk(polls=[["echo 1.2 applied raise 1.1", "polled 1"]] + [["frame refused: Session", "polled 1"]] * 100)
             await self.wait_for_polls(100)
         entries = [entry for each in self.heard("news") for entry in each["news"]]
         self.assertEqual([entry["what"] for entry in entries], ["applied", "said"])
@@ -146,42 +159,35 @@ class Telling(WithDesk):
     async def test_a_page_that_comes_later_is_told_all(self):
         desk = await self.desk(show=[ROW])
         await desk.batch(["move 1.1 0 0"])
-        await until(lambda: desk.shown == 1 and desk.standing and desk.who)
+        await until(lambda: desk.shown == 1 and desk.standing.get("clock") == 1 and desk.who)
         told = self.opened(desk)
         hello = {"is": "hello", "desk": 1, "site": 1, "sites": 2, "session": 7, "demo": False, "openly": False, "journal": "site.log"}
-        turns = {"number": 1, "undo": {"name": "", "edits": 1, "first": told["hello"]["turns"]["undo"]["first"]}, "redo": None}
-        turns["undo"]["last"] = turns["undo"]["first"]
+        turns = {"number": 1, "undo": {"name": "", "lines": 1, "first": 1, "last": 1}, "redo": None}
         self.assertEqual(told["hello"], {**hello, "desks": [1], "names": {}, "gestures": [], "turns": turns})
         self.assertEqual([each["id"] for each in told["picture"]["items"]], ["1.1"])
         self.assertEqual((told["picture"]["whole"], told["picture"]["edits"]), (True, 1))
         self.assertEqual([each["line"] for each in told["news"]["news"]], ["move 1.1 0 0"])
         self.assertEqual(told["who"]["who"], [{"site": 1, "name": None, "focus": None}])
-        self.assertEqual(told["standing"]["standing"], {"held": 0, "kept": 0, "line": 0, "clock": 0})
+        self.assertEqual(told["standing"]["standing"], {"held": 0, "kept": 0, "line": 0, "clock": 1})
         self.assertEqual((told["peers"]["silent"], [each["site"] for each in told["peers"]["peers"]]), (False, [2]))
         self.assertEqual(list(told), ["hello", "news", "who", "standing", "peers", "picture", "history"])
 
     async def test_the_edits_of_a_gesture_are_told_as_one(self):
         desk = await self.desk(poll_every=1000, refused={"raise 9.1": "NoObject"})
-        await until(lambda: "who" in self.typed())
-        first = len(self.typed()) + 1
         for lines in (["raise 1.1"], ["raise 9.1", "raise 1.1", "raise 9.1", "raise 2.1"], ["raise 9.1", "raise 1.1"], ["focus 1.1"]):
             await desk.batch(lines)
-        told = [each["gestures"] for each in self.heard("gestures")]
-        # The stand-in counts all lines, those too that it refuses.
-        (clocks,) = told[0]
-        self.assertEqual((len(told), clocks[1] - clocks[0]), (1, 2))
-        self.assertGreater(clocks[0], first)
-        self.assertEqual(self.opened(desk)["hello"]["gestures"], [clocks])
+        self.assertEqual([each["gestures"] for each in self.heard("gestures")], [[[2, 3]]])
+        self.assertEqual(self.opened(desk)["hello"]["gestures"], [[2, 3]])
 
     async def test_what_can_be_taken_back_is_told_behind_each_gesture_and_to_who_comes_later(self):
         desk = await self.desk(poll_every=1000, refused={"raise 9.1": "NoObject"})
         rows = [
-            ("Moved", ["move 1.1 0 0", "move 2.1 0 0"], ("Moved", 2), None), ("", ["raise 9.1"], ("Moved", 2), None),
-            ("", ["focus 1.1"], ("Moved", 2), None), ("", ["undo", "undo"], None, ("Moved", 2)), ("", ["redo", "redo"], ("Moved", 2), None),
+            ("Moved", ["move 1.1 0 0", "move 2.1 0 0"], ("Moved", 1), None), ("", ["raise 9.1"], ("Moved", 1), None),
+            ("", ["focus 1.1"], ("Moved", 1), None), ("", ["undo"], None, ("Moved", 1)), ("", ["redo"], ("Moved", 1), None),
         ]
         for name, lines, *wanted in rows:
             turns = (await desk.batch(lines, name))["turns"]
-            due = [each and (each["name"], each["edits"]) for each in (turns["undo"], turns["redo"])]
+            due = [each and (each["name"], each["lines"]) for each in (turns["undo"], turns["redo"])]
             self.assertEqual(due, wanted)
             self.assertEqual(self.opened(desk)["hello"]["turns"], turns)
         told = self.heard("turns")
@@ -195,13 +201,12 @@ class Telling(WithDesk):
         await until(lambda: self.typed()[-2:] == ["who", "status"] and not desk.node.slots)
         os.kill(desk.node.process.pid, signal.SIGSTOP)
         gesture = asyncio.create_task(desk.batch(list(lines)))
-        await until(lambda: len(desk.node.slots) >= len(lines))
-        first = len(self.typed()) + 1
-        own = [create(f"{first + at}.1", at + 1, "rect", 0, 0, 1, 1) for at in range(len(lines))]
-        self.journal.write_bytes(log(header(), *own, create(f"{first}.2", 1, "rect", 0, 0, 1, 1)))
+        await until(lambda: desk.node.slots)
+        own = [create(f"{at + 1}.1", at + 1, "rect", 0, 0, 1, 1) for at in range(len(lines))]
+        self.journal.write_bytes(log(header(), *own, create("1.2", 1, "rect", 0, 0, 1, 1)))
         # As behind a poll that brought the other one's event.
         desk.read_history()
-        return desk, gesture, [first, first + len(lines) - 1]
+        return desk, gesture, [1, len(lines)]
 
     async def test_a_gesture_is_told_before_its_events_however_late_its_answers_come(self):
         desk, gesture, clocks = await self.stopped("raise 1.1", "raise 2.1", "raise 3.1")
@@ -236,7 +241,7 @@ class Telling(WithDesk):
     async def test_events_are_told_once_with_what_came_of_them(self):
         first, second = (create(f"{clock}.2", clock, "rect", 0, 0, 1, 1) for clock in (1, 2))
         self.journal.write_bytes(log(header(), first))
-        desk = await self.desk(polls=[["polled 0"]] * 10 + [["echo 2.2 reworked 3", "polled 1"]])
+        desk = await self.desk(polls=[["polled 0"]] * 10 + [["echo 2.2 reworked 3 raise 1.1", "polled 1"]])
         self.assertEqual(len(self.opened(desk)["history"]["events"]), 1)
         await until(lambda: self.heard("picture"))
         self.journal.write_bytes(log(header(), first, second))

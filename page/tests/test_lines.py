@@ -28,12 +28,12 @@ class Typed(unittest.TestCase):
         self.refused("text 1.1 " + "a" * 1016, "LongLine")
         self.refused("text 1.1 " + "\u00e9" * 508, "LongLine")
 
-    def test_only_lines_with_one_line_of_answer_go_through(self):
+    def test_only_edits_turns_and_notes_go_through(self):
         for verb in ("create", "delete", "move", "resize", "stroke", "fill", "width", "text", "group", "ungroup"):
             self.assertEqual(typed(verb), verb.encode())
         for verb in ("raise", "lower", "undo", "redo", "name", "focus"):
             self.assertEqual(typed(verb), verb.encode())
-        for text in ("", "   ", "quit", " quit", "poll", "show", "who", "status", "Create", "\tundo", "undo\t", "Redo", "paint"):
+        for text in ("", "   ", "begin", "end", "quit", " quit", "poll", "show", "who", "status", "Create", "\tundo", "undo\t", "Redo", "paint"):
             self.refused(text, "UnknownCommand")
 
     def test_what_is_no_text_is_refused(self):
@@ -64,9 +64,14 @@ class Printed(unittest.TestCase):
         self.assertEqual(datagrams_of("link fault after 2"), 2)
 
     def test_what_a_poll_says(self):
-        self.assertEqual(news_of("echo 1.2 applied"), {"what": "applied", "event": "1.2"})
-        self.assertEqual(news_of("echo 1.2 dropped by 2.1"), {"what": "dropped", "event": "1.2", "by": "2.1"})
-        self.assertEqual(news_of("echo 1.2 reworked 17"), {"what": "reworked", "event": "1.2", "count": 17})
+        rows = {
+            "echo 1.2 applied move 1.1 5 -5": {"what": "applied", "event": "1.2", "line": "move 1.1 5 -5"},
+            "echo 7.2 dropped by 9.1 text 1.1  a b ": {"what": "dropped", "event": "7.2", "by": "9.1", "line": "text 1.1  a b "},
+            "echo 8.2 reworked 17 rerank 1.1 high 1.1": {"what": "reworked", "event": "8.2", "count": 17, "line": "rerank 1.1 high 1.1"},
+            "echo 9.2 applied text 1.1 dropped by \u2028\u0085": {"what": "applied", "event": "9.2", "line": "text 1.1 dropped by \u2028\u0085"},
+        }
+        for line, wanted in rows.items():
+            self.assertEqual(news_of(line), wanted)
         for line in ("event 1.2 refused: Backdated 1 3", "frame refused: Short at 0", "frame refused: Session"):
             self.assertEqual(news_of(line), {"what": "said", "line": line})
 
@@ -75,6 +80,9 @@ class Printed(unittest.TestCase):
         self.assertEqual(last_of(b"  who "), (b"end ",))
         self.assertEqual(last_of(b"poll"), (b"polled ", b"link fault "))
         self.assertEqual(last_of(b"text 1.1 show"), (b"",))
+        self.assertEqual(last_of(b"begin\ntext 1.1 show\nshow\nend"), (b"end ",))
+        for verb in (b"undo", b" redo "):
+            self.assertEqual(last_of(verb), (b"end ", b"refused: "))
 
     def test_each_status_of_a_node_has_a_meaning(self):
         meanings = [meaning_of(status) for status in (0, 2, 3, 4, 5, 6, 7, 8, 9, 11, 13)]

@@ -29,32 +29,44 @@ class WithNode(WithStandIn):
 class Answers(WithNode):
     async def test_replies_split_anywhere(self):
         node = await self.node()
-        stream = f"{SHOWN}\nend 1\nok 1.1\n".encode()
+        answers = {
+            b"show": [SHOWN, "end 1"], b"raise 1.1": ["ok 1.1"], b"begin\nraise 1.1\nraise 2.1\nend": ["ok 2.1", "refused: NoObject", "end 2"],
+            b"undo": ["ok 3.1", "end 1"], b" redo": ["refused: NothingBack"],
+        }
+        stream = "".join(f"{line}\n" for lines in answers.values() for line in lines).encode()
         for cut in range(len(stream) + 1):
-            slots = [Slot(last_of(line), node.loop) for line in (b"show", b"undo")]
+            slots = [Slot(last_of(typed), node.loop) for typed in answers]
             node.slots.extend(slots)
             for piece in (stream[:cut], stream[cut:]):
                 node.hand_out(piece)
-            self.assertEqual([line.decode() for line in slots[0].lines], [SHOWN, "end 1"])
-            self.assertEqual((slots[1].lines, node.pending, len(node.slots)), ([b"ok 1.1"], b"", 0))
+            self.assertEqual([[line.decode() for line in slot.lines] for slot in slots], list(answers.values()))
+            self.assertEqual((node.pending, len(node.slots)), (b"", 0))
 
     async def test_a_cut_line_is_left_out(self):
-        node = await self.node(end=["undo", "ok 2.1", 8])
+        node = await self.node(end=["undo", "ok 1.1", 8])
         (slot,) = node.type(b"undo")
         await slot.settled()
         self.assertEqual((slot.lines, slot.cut), ([], True))
 
     async def test_answers_of_one_line_and_of_several(self):
-        node = await self.node(show=[SHOWN], polls=[["echo 1.2 applied", "polled 1"], ["link fault after 0"]])
+        node = await self.node(show=[SHOWN], polls=[["echo 1.2 applied raise 1.1", "polled 1"], ["link fault after 0"]])
         self.assertEqual(await self.ask(node, "show"), [SHOWN, "end 1"])
-        self.assertEqual(await self.ask(node, "poll"), ["echo 1.2 applied", "polled 1"])
+        self.assertEqual(await self.ask(node, "poll"), ["echo 1.2 applied raise 1.1", "polled 1"])
         self.assertEqual(await self.ask(node, "poll"), ["link fault after 0"])
-        self.assertEqual(await self.ask(node, "move 1.1 0 0"), ["ok 4.1"])
+        self.assertEqual(await self.ask(node, "move 1.1 0 0"), ["ok 1.1"])
 
     async def test_a_refusal_is_an_answer(self):
         node = await self.node(refused={"raise 9.1": "NoObject"})
         self.assertEqual(await self.ask(node, "raise 9.1"), ["refused: NoObject"])
-        self.assertEqual(await self.ask(node, "undo"), ["ok 2.1"])
+        self.assertEqual(await self.ask(node, "undo"), ["ok 1.1", "end 1"])
+
+    async def test_a_gesture_has_one_answer(self):
+        node = await self.node(refused={"raise 9.1": "NoObject"})
+        slots = node.type(b"begin\nraise 1.1\nraise 9.1\nraise 2.1\nend", b"raise 3.1")
+        self.assertEqual(node.lines_waiting, 6)
+        await slots[-1].answer()
+        self.assertEqual(slots[0].lines, [b"ok 1.1", b"refused: NoObject", b"ok 2.1", b"end 3"])
+        self.assertEqual((slots[1].lines, [slot.accepted for slot in slots], node.lines_waiting), ([b"ok 3.1"], [2, 3], 0))
 
     async def test_each_answer_has_the_number_of_edits_before_it(self):
         node = await self.node(refused={"raise 9.1": "NoObject"}, show=[SHOWN])
@@ -70,7 +82,7 @@ class Answers(WithNode):
 
     async def test_ten_thousand_typed_lines(self):
         node = await self.node()
-        slots = node.type(*[b"undo"] * 10_000)
+        slots = node.type(*[b"raise 1.1"] * 10_000)
         await slots[-1].answer()
         self.assertEqual([slot.lines for slot in slots], [[f"ok {count}.1".encode()] for count in range(1, 10_001)])
 
@@ -92,7 +104,7 @@ class Answers(WithNode):
 class Ends(WithNode):
     async def test_an_end_in_the_middle_of_an_answer(self):
         node = await self.node(end=["show", f"{SHOWN}\nrect 2.", 8])
-        (waiting,) = node.type(b"undo")
+        (waiting,) = node.type(b"raise 1.1")
         with self.assertRaises(Ended):
             await node.ask(b"show")
         self.assertEqual((waiting.lines, waiting.cut), ([b"ok 1.1"], False))
@@ -144,7 +156,7 @@ class Silence(WithNode):
         await until(lambda: node.silence() > 0.3)
         self.assertFalse(slot.whole.done())
         self.go_on(node)
-        self.assertEqual(await slot.answer(), [b"ok 2.1"])
+        self.assertEqual(await slot.answer(), [b"ok 2.1", b"end 1"])
         self.assertEqual(node.silence(), 0)
 
     async def test_who_stops_waiting_doesn_t_stop_others(self):
@@ -154,17 +166,19 @@ class Silence(WithNode):
         await asyncio.sleep(0)
         one.cancel()
         self.go_on(node)
-        self.assertEqual(await other, [b"ok 2.1"])
+        self.assertEqual(await other, [b"ok 2.1", b"end 1"])
 
     async def test_what_waits_for_it_is_bounded(self):
         with mock.patch("page.node.MOST_WAITING", 1000):
             node = await self.stopped()
-            slots = node.type(*[b"text 1.1 " + b"a" * 1000] * 1000)
-            with self.assertRaises(Busy):
-                node.type(b"undo")
+            slots = node.type(*[b"text 1.1 " + b"a" * 1000] * 999)
+            for typed in (b"begin\nend", b"begin\nundo\nend"):
+                with self.assertRaises(Busy):
+                    node.type(typed)
+            slots += node.type(b"undo")
             self.go_on(node)
             await slots[-1].answer()
-            self.assertEqual(await self.ask(node, "undo"), ["ok 1002.1"])
+            self.assertEqual(await self.ask(node, "undo"), ["ok 1002.1", "end 1"])
         self.assertEqual(len(self.typed()), 1002)
 
     async def test_one_that_hangs_is_ended_all_the_same(self):

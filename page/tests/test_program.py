@@ -8,6 +8,7 @@ import unittest
 from unittest import mock
 
 from page.audience import Audience
+from page.batch import stamps_of
 from page.demo import Proxy
 from page.desk import Desk
 from page.draw import ROOT, node_command
@@ -69,13 +70,17 @@ class TwoSites(WithFolder):
         return {each["is"]: each for each in map(json.loads, desk.opening())}
 
     async def draw(self):
-        """A shape of each kind, a group, and each other edit; the answers."""
+        """A shape of each kind, a group, and each other edit, as one gesture; then some that are taken back, and done again. The
+        answers."""
         lines = ["create rect 10 20 30 40 caf\u00e9", "create ellipse 0 0 9 9", "create line 1 2 -3 -4", "create text 5 5 9 9 \u05d0 @1"]
         lines += ["fill @1 FFCC00", "stroke @2 00ab0c", "width @3 7", "text @4  a  b ", "fill @1 none", "move @1 -5 6"]
-        lines += ["resize @2 -1 2", "group @1 @2", "move @12 100 100", "raise @3", "lower @4", "group @12 @3", "ungroup @16"]
-        # What is taken back: the delete, the create, the end of the group, the group, and the lower.
-        lines += ["create rect 1 1 1 1", "delete @18", *["undo"] * 5, *["redo"] * 3]
-        return (await self.desks[0].batch(lines))["answers"]
+        lines += ["resize @2 -1 2", "group @1 @2", "move @12 100 100"]
+        answers = (await self.desks[0].batch(lines))["answers"]
+        one, two, _, four = (answer[3:] for answer in answers[:4])
+        (raised, grouped) = [f"raise {one}", f"lower {four}", f"raise {two}"], [f"group {answers[11][3:]} {four}", "ungroup @1"]
+        for gesture in (raised, grouped, ["create rect 1 1 1 1", "delete @1"], ["undo"] * 3, ["redo"] * 2):
+            answers += (await self.desks[0].batch(gesture))["answers"]
+        return answers
 
     async def same(self):
         """Waits until both show the same, with nothing kept."""
@@ -86,13 +91,46 @@ class TwoSites(WithFolder):
     async def test_drawings_and_events_are_those_that_the_program_prints(self):
         answers = await self.draw()
         self.assertEqual([each for each in answers if not each.startswith("ok ")], [])
+        self.assertEqual([len(answer.split("\n")) for answer in answers[-5:]], [3, 3, 4, 4, 3])
+        count = sum(len(stamps_of(answer)) for answer in answers)
         await self.same()
         for desk in self.desks:
             self.assertEqual(self.told(desk)["picture"]["items"], replayed(desk.journal, "json"))
-            await until(lambda: len(desk.history.events) == len(answers))
+            await until(lambda: len(desk.history.events) == count)
             self.assertEqual([as_replayed(json.loads(each)) for each in desk.history.events], replayed(desk.journal, "events"))
             self.assertEqual(json.loads(await saved(PROGRAM, desk.journal, "json")), replayed(desk.journal, "json"))
         self.assertEqual({json.loads(each)["came"] for each in self.desks[1].history.events}, {"applied"})
+
+    async def test_a_gesture_is_in_the_journal_and_taken_back_as_one(self):
+        one, _ = self.desks
+        made = (await one.batch([line for at in range(20) for line in (f"create rect {at} 0 9 9", f"fill @{2 * at + 1} 11223{at % 10}")]))["answers"]
+        self.assertEqual(made, [f"ok {clock}.1" for clock in range(1, 41)])
+        await self.same()
+        before = list(one.picture.lines)
+        moved = await one.batch([f"move {2 * at + 1}.1 {at} 50" for at in range(20)], "Moved")
+        self.assertEqual((moved["turns"]["undo"]["lines"], one.gestures.whole), (1, [[1, 40], [41, 60]]))
+        (answer,) = (await one.batch(["undo"]))["answers"]
+        self.assertEqual(answer.split("\n"), [*(f"ok {clock}.1" for clock in range(61, 81)), "end 20"])
+        await self.same()
+        self.assertEqual(one.picture.lines, before)
+
+    async def test_more_than_the_node_takes_as_one_is_taken_back_whole(self):
+        one, _ = self.desks
+        turns = (await one.batch([f"create rect {at} 0 9 9" for at in range(1030)]))["turns"]
+        self.assertEqual(turns["undo"], {"name": "", "lines": 3, "first": 1, "last": 1030})
+        answers = (await one.batch(["undo"] * 3))["answers"]
+        self.assertEqual([answer.split("\n")[-1] for answer in answers], ["end 6", "end 512", "end 512"])
+        await until(lambda: one.shown == 2060)
+        self.assertEqual(one.picture.lines, [])
+
+    async def test_what_a_refusal_led_astray_is_taken_back(self):
+        one, _ = self.desks
+        await one.batch(["create rect 0 0 9 9"])
+        astray = await one.batch(["create rect 1000000001 0 9 9", "create rect 5 5 9 9", "fill @1 112233", "fill @2 445566"])
+        # The first fill was done to what the second create made.
+        self.assertEqual(astray["answers"], ["refused: BadNumber"] * 3 + ["refused: NoObject"])
+        await until(lambda: one.shown == 5)
+        self.assertEqual([line.split(b" ")[1] for line in one.picture.lines], [b"1.1"])
 
     async def test_the_session_is_the_one_that_was_given(self):
         await self.desks[0].batch(["create rect 0 0 1 1"])

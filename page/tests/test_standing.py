@@ -74,7 +74,7 @@ class Ending(WithDesk):
     async def test_nothing_at_an_ended_node_is_ok(self):
         desk = await self.ended()
         answered = await desk.batch(["create rect 0 0 1 1", "raise @1"])
-        self.assertEqual((answered["answers"], answered["edits"]), (["refused: Ended", "refused: NoObject"], 1))
+        self.assertEqual((answered["answers"], answered["edits"]), (["refused: Ended"] * 2, 1))
 
     async def test_no_second_node_starts_on_a_live_journal(self):
         desk = await self.desk()

@@ -48,7 +48,7 @@ class Sockets(WithServer):
         gesture = ["create rect 0 0 1 1", *[f"text @{line} a" for line in range(1, 200)]]
         await page.socket.send_str(json.dumps({"do": "batch", "desk": 1, "id": 1, "lines": gesture}))
         await page.socket.close()
-        await until(lambda: len(self.edits()) == 200)
+        await until(lambda: len(self.edits()) == 202)
 
     async def test_messages_that_ask_for_nothing_are_answered_so(self):
         page = await self.open()
@@ -77,7 +77,7 @@ class Sockets(WithServer):
     async def test_a_gesture_is_called_by_its_name(self):
         page, other = await self.open(), await self.open()
         answers = await page.ask("batch", lines=["raise 1.1", "raise 2.1"], name="Raised \u05d0")
-        wanted = {"name": "Raised \u05d0", "edits": 2}
+        wanted = {"name": "Raised \u05d0", "lines": 1}
         self.assertEqual(answers["turns"]["undo"], answers["turns"]["undo"] | wanted)
         told = await other.kind("turns")
         self.assertEqual((told["undo"], told["redo"]), (answers["turns"]["undo"], None))

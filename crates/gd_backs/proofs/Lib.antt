@@ -1,4 +1,5 @@
 pub mod NextEvents
+pub mod OneGesture
 pub mod Traces
 mod Turning
 pub mod Soundness

@@ -5,14 +5,14 @@ use Rattle.std.proofs.lemmas.Bool.{and_from, and_parts, cond_both}
 use Rattle.std.proofs.lemmas.List.Elements.{All-from_recursion}
 use Rattle.std.specs.FinMap as map_of
 use Rattle.std.specs.List.{AllByRecursion as Every}
-use Rattle.gd_base.proofs.Lists.{Every-weaker, list_all-from_Every}
+use Rattle.gd_base.proofs.Lists.{Every-append, Every-weaker, list_all-from_Every}
 use Rattle.gd_base.proofs.StampLemmas.{is_before-trans}
 use Rattle.gd_base.specs.Stamps.{Stamp, IsStamp, is_before}
 use Rattle.gd_base.specs.Typed.{AreTied, IsLinked}
-use Rattle.gd_base.specs.declared.content.Content.TheVariants.{ToPlace, ToSize, ToStroke, ToFill, ToWidth, ToText, ToFlag, ToRank}
+use Rattle.gd_base.specs.declared.content.Content.TheVariants.{ToText, ToRank}
 use Rattle.gd_base.specs.declared.object.Object.{Object}
 use Rattle.gd_base.specs.declared.ties.Tie.{Tie}
-use Rattle.gd_drawing.proofs.SoundObjects.{AreFieldsBefore, AreTiesBefore, IsContentBefore, IsEntryBefore, IsFormBefore, IsIdBefore, IsLookupBefore, IsTieBefore, board_before, form_before, object_before}
+use Rattle.gd_drawing.proofs.SoundObjects.{AreFieldsBefore, AreTiesBefore, IsContentBefore, IsEntryBefore, IsFormBefore, IsIdBefore, IsLookupBefore, IsTieBefore, board_before, each_before, form_before, object_before}
 use Rattle.gd_events.specs.Events.{Event}
 use Rattle.gd_events.specs.Ops.{Op}
 use Rattle.gd_events.specs.Sound.{are_ties_before, are_ties_in_range, has_members, has_rising_ids, is_above, is_in_range, is_tie_before, names_before, rise_above, IsOp, IsSoundBefore, IsWellTyped}
@@ -23,6 +23,9 @@ use Rattle.gd_model.specs.Forms.{form}
 use Rattle.gd_model.specs.Objects.{fits, old}
 use Rattle.gd_model.specs.Undoing.{Lookup, before_by, old_in, old_ties, with_old}
 use Rattle.gd_model.specs.declared.form.Form.{Form}
+use Rattle.gd_reference.specs.Judging.{with_event}
+use Rattle.gd_reference.specs.SlowSite.{SlowSite}
+use Rattle.gd_reference.specs.TakeBack.{back_of, backs_of}
 use Rattle.gd_model.specs.declared.form.Form.TheVariants.{Sets, Puts, Takes}
 
 -- ---- the operation of a form
@@ -67,16 +70,6 @@ sound_form t (Takes id (x ∷ xs)) h =
     (and_from _ _ h.0.1 (ties-before t (x ∷ xs) h.1)) h.1.rising
 
 -- ---- the before-value of a form
-
-old-content : (t id : Stamp) (c : Content) (o : Object) → AreFieldsBefore t id o → IsContentBefore t (old c o)
-old-content t id (ToPlace x y) o h = h.place
-old-content t id (ToSize a b) o h = h.size
-old-content t id (ToStroke a) o h = h.stroke
-old-content t id (ToFill a) o h = h.fill
-old-content t id (ToWidth a) o h = h.width
-old-content t id (ToText a) o h = h.label
-old-content t id (ToFlag a) o h = refl
-old-content t id (ToRank a) o h = h.rank
 
 -- ids that rise above one rise above what lies below it
 rise-lower : (last : Option Stamp) (id : Stamp) (ids : List Stamp) → is_above last id ≡ true
@@ -138,7 +131,7 @@ module _ (t : Stamp) (g : Lookup) (sound : IsLookupBefore t g) where
       by (Some o) k =
           cond_both (fits c o.kind) (Some (old c o)) None
           (λ y. IsFormBefore t (unwrap_or (option_map (Sets id) y) (Sets id c)))
-          (λ has. (h.0, old-content t id c o k.1)) (λ none. h)
+          (λ has. (h.0, each_before t id o k.1 c)) (λ none. h)
   back_before (Puts id o ties) h =
       cond_both (is_some (g id)) None (Some (Takes id (old_ties ties g)))
       (λ v. IsFormBefore t (unwrap_or v (Puts id o ties))) (λ there. h) (λ absent. (h.0, old-are ties h.2))
@@ -155,3 +148,15 @@ unfolding back
 sound_back held s t op sound is l h =
     sound_form t _ (back_before t (map_of.get (board held)) (board_before t held sound) (form s op)
     (form_before s t op is l h))
+
+-- ---- of several events
+
+pub sound_backs : (slow : SlowSite) (es : List Event) (t : Stamp) → Every (IsSoundBefore t) slow.held
+    → Every (IsSoundBefore t) es → Every (IsOp t) (backs_of slow es)
+unfolding backs_of
+sound_backs slow [] t held sound = tt
+sound_backs slow (e ∷ es) t held sound =
+    let next = with_event slow e in
+    Every-append _ (backs_of next es) (back_of slow e ∷ [])
+    (sound_backs next es t (Every-append _ slow.held (e ∷ []) held (sound.0, tt)) sound.1)
+    (sound_back slow.held e.stamp t e.op held sound.0.0.stamp sound.0.1 sound.0.0.op, tt)

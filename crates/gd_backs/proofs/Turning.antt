@@ -1,50 +1,82 @@
--- Undos and redos lead along the boards of the edits.
-use Rattle.std.proofs.Common.{◌≡◌, ℕ, zero, suc, ◌+◌, ◌-◌, ◌≤◌, Bool, true, false, cond, List, [], ◌∷◌, ◌++◌, length, Option, None, Some, Result, Ok, Err, refl, sym, ap, ◌∙◌, subst, arith}
-use Rattle.std.specs.Prelude.{take, drop, replicate, is_ok, nat_le}
+-- Undos and redos lead along the boards of the gestures.
+use Rattle.std.proofs.Common.{◌≡◌, ℕ, zero, suc, ◌+◌, ◌-◌, ◌≤◌, Bool, true, false, cond, List, [], ◌∷◌, ◌++◌, length, Option, None, Some, Ok, Err, refl, sym, ap, ◌∙◌, subst, arith}
+use Rattle.std.specs.Prelude.{take, drop, replicate, is_ok, nat_lt}
 use Rattle.gd_base.specs.Stamps.{Stamp}
 use Rattle.gd_base.specs.declared.ranges.TheConstants.{MOST_BACKS}
-use Rattle.gd_base.specs.declared.refusal.EditRefusal.{EditRefusal}
 use Rattle.gd_base.specs.declared.refusal.EditRefusal.TheVariants.{ClockEnd, SessionFull}
 use Rattle.gd_drawing.proofs.InOrder.{stacking}
 use Rattle.gd_events.specs.Events.{Event}
 use Rattle.gd_events.specs.Ops.{Op}
-use Rattle.gd_lines.specs.Edits.{Edit}
 use Rattle.gd_lines.specs.declared.command.Turn.{Turn}
 use Rattle.gd_lines.specs.declared.command.Turn.TheVariants.{Undo, Redo}
-use Rattle.gd_model.specs.Backs.{back}
 use Rattle.gd_model.specs.Board.{Board, apply, board, listed}
 use Rattle.gd_model.specs.Drawing.{picture}
-use Rattle.gd_reference.specs.Backs.{due, kept, with_edit, with_turn}
+use Rattle.gd_reference.specs.Backs.{Backs, due, kept, with_gesture, with_turn}
 use Rattle.gd_reference.specs.DrawingText.{text}
-use Rattle.gd_reference.specs.Judging.{edit, edit_by, event_of, greatest_stamp_clock, most_own_events}
+use Rattle.gd_reference.specs.Judging.{greatest_stamp_clock, most_own_events, with_event}
 use Rattle.gd_reference.specs.SlowSite.{SlowSite, clock, own}
-use Rattle.gd_reference.specs.TakeBack.{BackRefusal, NothingBack, Refused, after_edit, after_turn, back_of, or_refused, turn, turn_by, with_back}
-use Rattle.gd_backs.specs.Turns.{edits, turns, done_after, IsMet}
-use Rattle.gd_backs.proofs.NextEvents.{IsOwnNext, accepted_as, edit-becomes, next-board, turn-becomes}
+use Rattle.gd_reference.specs.TakeBack.{Asked, BackRefusal, NothingBack, Refused, after_gesture, after_turn, back_of, backs_of, done, made, turn, turn_by, with_events, with_made, with_turned}
+use Rattle.gd_backs.specs.Turns.{are_some, gestures, turns, done_after, IsMet}
+use Rattle.gd_backs.proofs.NextEvents.{AreOwn, accepted_as, made-own, next-board, next_of, turn-becomes}
 use Rattle.gd_backs.proofs.Traces.{no_trace}
 
 -- ---- operations that lead along boards
 
--- the operations, one after another and at any stamps, lead from b to each of these boards
-abbrev LeadsTo : Board → List Board → List Op → Type 0
-LeadsTo b [] ops = Unit {0}
-LeadsTo b (c ∷ cs) [] = ⊥
-LeadsTo b (c ∷ cs) (op ∷ ops) = ((s : Stamp) → apply s op b ≡ c) × LeadsTo c cs ops
+-- the operations, one after another and at any stamps, lead from b to c
+abbrev Leads : Board → List Op → Board → Type 0
+Leads b [] c = b ≡ c
+Leads b (op ∷ ops) c = (s : Stamp) → Leads (apply s op b) ops c
 
-leads-take : (n : ℕ) (b : Board) (cs : List Board) (ops : List Op) → length cs ≤ n → LeadsTo b cs ops
-    → LeadsTo b cs (take n ops)
-leads-take n b [] ops l h = tt
-leads-take n b (c ∷ cs) [] l h = absurd h
-leads-take zero b (c ∷ cs) (op ∷ ops) l h = absurd (omega (arith, l))
-leads-take (suc n) b (c ∷ cs) (op ∷ ops) l h = (h.0, leads-take n c cs ops (omega (arith, l)) h.1)
+leads-append : (a b c : Board) (xs ys : List Op) → Leads a xs b → Leads b ys c → Leads a (xs ++ ys) c
+leads-append a b c [] ys p q = subst (λ d. Leads d ys c) (sym p) q
+leads-append a b c (x ∷ xs) ys p q = λ s. leads-append (apply s x a) b c xs ys (p s) q
 
--- from the board with an operation, its back leads back, and then the others
-leads-back : (s : Stamp) (op : Op) (b : Board) (cs : List Board) (ops : List Op) → suc (length cs) ≤ MOST_BACKS
-    → LeadsTo b cs ops → LeadsTo (apply s op b) (b ∷ cs) (kept (back s op b) ops)
-leads-back s op b cs ops l h =
-    leads-take MOST_BACKS (apply s op b) (b ∷ cs) (back s op b ∷ ops) l (λ t. no_trace s t op b, h)
+-- from the board with own events, what takes them back leads back: the last one first
+leads-back : (slow : SlowSite) (es : List Event) → AreOwn slow es
+    → Leads (board (with_events slow es).held) (backs_of slow es) (board slow.held)
+unfolding with_events backs_of
+leads-back slow [] own = refl
+leads-back slow (e ∷ es) own =
+    let next = with_event slow e in
+    leads-append (board (with_events next es).held) (board next.held) (board slow.held) (backs_of next es)
+    (back_of slow e ∷ []) (leads-back next es own.1)
+    (λ s. ap (apply s (back_of slow e)) (next-board slow e.op e own.0.next) ∙ no_trace e.stamp s e.op (board slow.held))
 
--- ---- a site between its boards, by the number of edits that are done
+-- operations that lead on do so as events
+done-leads : (slow : SlowSite) (ops : List Op) (c : Board) → AreOwn slow (done slow ops) → Leads (board slow.held) ops c
+    → board (with_events slow (done slow ops)).held ≡ c
+unfolding with_events done
+done-leads slow [] c own h = h
+done-leads slow (op ∷ ops) c own h =
+    let e = next_of slow op in
+    done-leads (with_event slow e) ops c own.1
+    (subst (λ b. Leads b ops c) (sym (next-board slow op e own.0.next)) (h e.stamp))
+
+-- these gestures lead from b to each of these boards, one after another
+abbrev LeadTo : Board → List Board → List (List Op) → Type 0
+LeadTo b [] all = Unit {0}
+LeadTo b (c ∷ cs) [] = ⊥
+LeadTo b (c ∷ cs) (ops ∷ all) = Leads b ops c × LeadTo c cs all
+
+lead-take : (n : ℕ) (b : Board) (cs : List Board) (all : List (List Op)) → length cs ≤ n → LeadTo b cs all
+    → LeadTo b cs (take n all)
+lead-take n b [] all l h = tt
+lead-take n b (c ∷ cs) [] l h = absurd h
+lead-take zero b (c ∷ cs) (ops ∷ all) l h = absurd (omega (arith, l))
+lead-take (suc n) b (c ∷ cs) (ops ∷ all) l h = (h.0, lead-take n c cs all (omega (arith, l)) h.1)
+
+-- what leads from c to b, and then those that lead on from there
+lead-kept : (b c : Board) (back : List Op) (cs : List Board) (all : List (List Op)) → suc (length cs) ≤ MOST_BACKS
+    → Leads c back b → LeadTo b cs all → LeadTo c (b ∷ cs) (kept back all)
+lead-kept b c back cs all l first h = lead-take MOST_BACKS c (b ∷ cs) (back ∷ all) l (first, h)
+
+-- a gesture of at least one event is kept
+gesture_kept : (ops : List Op) (last : Op) (backs : Backs)
+    → with_gesture (ops ++ last ∷ []) backs ≡ record { undos = kept (ops ++ last ∷ []) backs.undos; redos = [] }
+gesture_kept [] last backs = refl
+gesture_kept (op ∷ ops) last backs = refl
+
+-- ---- a site between its boards, by the number of gestures that are done
 
 module _ (at : ℕ → Board) where
   abbrev pasts : ℕ → List Board
@@ -63,110 +95,114 @@ module _ (at : ℕ → Board) where
   futures-length n zero = refl
   futures-length n (suc m) = ap suc (futures-length (suc n) m)
 
-  -- n edits are done, and m are taken back
+  -- n gestures are done, and m are taken back
   record IsAt (n m : ℕ) (slow : SlowSite) : Type 0 where
     shows : board slow.held ≡ at n
-    down : LeadsTo (at n) (pasts n) slow.backs.undos
-    up : LeadsTo (at n) (futures n m) slow.backs.redos
+    down : LeadTo (at n) (pasts n) slow.backs.undos
+    up : LeadTo (at n) (futures n m) slow.backs.redos
 
-  -- behind the next event the board is c, and its back leads back to b
-  record Steps (slow : SlowSite) (e : Event) (b c : Board) (behind : List Board) (ops : List Op) : Type 0 where
-    shows : board (slow.held ++ e ∷ []) ≡ c
-    back : LeadsTo c (b ∷ behind) (kept (back_of slow e) ops)
+  -- behind these events the board is c, and what takes them back leads back to b
+  record Steps (slow : SlowSite) (es : List Event) (b c : Board) (behind : List Board) (all : List (List Op)) : Type 0 where
+    shows : board (with_events slow es).held ≡ c
+    back : LeadTo c (b ∷ behind) (kept (backs_of slow es) all)
 
-  steps : (slow : SlowSite) (op : Op) (e : Event) (b c : Board) (behind : List Board) (ops : List Op)
-      → IsOwnNext slow op e → suc (length behind) ≤ MOST_BACKS → board slow.held ≡ b → apply e.stamp e.op b ≡ c
-      → LeadsTo b behind ops → Steps slow e b c behind ops
-  steps slow op e b c behind ops next few here leads h =
-      subst (λ d. Steps slow e b d behind ops) leads (record {
-        shows = next-board slow op e next ∙ ap (apply e.stamp e.op) here;
-        back =
-            subst (λ d. LeadsTo (apply e.stamp e.op b) (b ∷ behind) (kept (back e.stamp e.op d) ops)) (sym here)
-            (leads-back e.stamp e.op b behind ops few h);
-      })
+  steps : (slow : SlowSite) (es : List Event) (b c : Board) (behind : List Board) (all : List (List Op))
+      → AreOwn slow es → suc (length behind) ≤ MOST_BACKS → board slow.held ≡ b
+      → board (with_events slow es).held ≡ c → LeadTo b behind all → Steps slow es b c behind all
+  steps slow es b c behind all own few here there h =
+      let back = subst (λ d. Leads d (backs_of slow es) b) there
+      (subst (λ d. Leads (board (with_events slow es).held) (backs_of slow es) d) here (leads-back slow es own)) in
+      record { shows = there; back = lead-kept b c (backs_of slow es) behind all few back h }
 
   -- what an undo, or a redo, leads to: what is due then leads on, and its own back is kept among the others
-  turned : (slow : SlowSite) (which : Turn) (b c : Board) (ahead behind : List Board) (others : List Op)
+  turned : (slow : SlowSite) (which : Turn) (b c : Board) (ahead behind : List Board) (others : List (List Op))
       → is_ok (turn slow which) ≡ true → suc (length behind) ≤ MOST_BACKS → board slow.held ≡ b
-      → LeadsTo b (c ∷ ahead) (due which slow.backs) → LeadsTo b behind others → (P : SlowSite → Type 0)
-      → ((e : Event) → Steps slow e b c behind others → LeadsTo c ahead (drop 1 (due which slow.backs))
-      → P (with_back {Why = BackRefusal} slow (Ok e) (with_turn which))) → P (after_turn slow which)
+      → LeadTo b (c ∷ ahead) (due which slow.backs) → LeadTo b behind others → (P : SlowSite → Type 0)
+      → ((es : List Event) → Steps slow es b c behind others → LeadTo c ahead (drop 1 (due which slow.backs))
+      → P (with_made slow es (with_turn which))) → P (after_turn slow which)
   unfolding after_turn
   turned slow which b c ahead behind others ok few here forth h P made =
       let accepted = accepted_as (turn slow which) ok in
-      let e = accepted.0 in
-      let t = turn-becomes slow which e accepted.1 in
-      let leads = subst (LeadsTo b (c ∷ ahead)) t.first forth in
-      let there = ap (λ (f : Event). apply e.stamp f.op b) (sym t.next.is) ∙ leads.0 e.stamp in
-      subst (λ r. P (with_back slow r (with_turn which))) (sym accepted.1)
-      (made e (steps slow t.change e b c behind others t.next few here there h)
-      (subst (λ ops. LeadsTo c ahead (drop 1 ops)) (sym t.first) leads.1))
+      let es = accepted.0 in
+      let t = turn-becomes slow which es accepted.1 in
+      let leads = subst (LeadTo b (c ∷ ahead)) t.first forth in
+      let own = subst (AreOwn slow) (sym t.are) t.own in
+      let there = done-leads slow t.ops c own (subst (λ d. Leads d t.ops c) (sym here) leads.0) in
+      let shows = subst (λ l. board (with_events slow l).held ≡ c) t.are there in
+      subst (λ r. P (with_turned slow which r)) (sym accepted.1)
+      (made es (steps slow es b c behind others t.own few here shows h)
+      (subst (λ all. LeadTo c ahead (drop 1 all)) (sym t.first) leads.1))
 
   undo_step : (n m : ℕ) (slow : SlowSite) → suc n + m ≤ MOST_BACKS → is_ok (turn slow Undo) ≡ true
       → IsAt (suc n) m slow → IsAt n (suc m) (after_turn slow Undo)
   undo_step n m slow few ok h =
       turned slow Undo (at (suc n)) (at n) (pasts n) (futures (suc n) m) slow.backs.redos ok
       (omega (arith, few, futures-length (suc n) m)) h.shows h.down h.up (IsAt n (suc m))
-      (λ e s on. record { shows = s.shows; down = on; up = s.back })
+      (λ es s on. record { shows = s.shows; down = on; up = s.back })
 
   redo_step : (n m : ℕ) (slow : SlowSite) → suc n + m ≤ MOST_BACKS → is_ok (turn slow Redo) ≡ true
       → IsAt n (suc m) slow → IsAt (suc n) m (after_turn slow Redo)
   redo_step n m slow few ok h =
       turned slow Redo (at n) (at (suc n)) (futures (suc n) m) (pasts n) slow.backs.undos ok
       (omega (arith, few, pasts-length n)) h.shows h.up h.down (IsAt (suc n) m)
-      (λ e s on. record { shows = s.shows; down = s.back; up = on })
+      (λ es s on. record { shows = s.shows; down = s.back; up = on })
 
-  edit_step : (n : ℕ) (slow : SlowSite) (wanted : Edit) → suc n ≤ MOST_BACKS → is_ok (edit slow wanted) ≡ true
-      → board (after_edit slow wanted).held ≡ at (suc n) → IsAt n 0 slow → IsAt (suc n) 0 (after_edit slow wanted)
-  unfolding after_edit
-  edit_step n slow wanted few ok shows h =
-      let accepted = accepted_as (edit slow wanted) ok in
-      let e = accepted.0 in
-      let b = edit-becomes slow wanted e accepted.1 in
-      let there = subst (λ r. board (with_back slow r with_edit).held ≡ at (suc n)) accepted.1 shows in
-      let leads = sym (next-board slow b.change e b.next ∙ ap (apply e.stamp e.op) h.shows) ∙ there in
-      let s = steps slow b.change e (at n) (at (suc n)) (pasts n) slow.backs.undos b.next
-      (omega (arith, few, pasts-length n)) h.shows leads h.down in
-      subst (λ r. IsAt (suc n) 0 (with_back slow r with_edit)) (sym accepted.1)
+  -- behind a gesture of at least one event
+  made_step : (n : ℕ) (slow : SlowSite) (es : List Event) → suc n ≤ MOST_BACKS → are_some es ≡ true → AreOwn slow es
+      → board (with_events slow es).held ≡ at (suc n) → IsAt n 0 slow → IsAt (suc n) 0 (with_made slow es with_gesture)
+  unfolding backs_of
+  made_step n slow [] few some own shows h = cc
+  made_step n slow (e ∷ es) few some own shows h =
+      let s = steps slow (e ∷ es) (at n) (at (suc n)) (pasts n) slow.backs.undos own (omega (arith, few, pasts-length n))
+      h.shows shows h.down in
+      subst (λ backs. IsAt (suc n) 0 (record (with_events slow (e ∷ es)) { backs = backs }))
+      (sym (gesture_kept (backs_of (with_event slow e) es) (back_of slow e) slow.backs))
       (record { shows = s.shows; down = s.back; up = tt })
 
--- ---- edits in a row, and turns in a row
+  gesture_step : (n : ℕ) (slow : SlowSite) (asked : List Asked) → suc n ≤ MOST_BACKS
+      → are_some (made slow asked) ≡ true → board (after_gesture slow asked).held ≡ at (suc n) → IsAt n 0 slow
+      → IsAt (suc n) 0 (after_gesture slow asked)
+  unfolding after_gesture
+  gesture_step n slow asked few some shows h =
+      made_step n slow (made slow asked) few some (made-own slow asked) shows h
 
--- the site after the first so many edits
-abbrev site_after : ℕ → SlowSite → List Edit → SlowSite
+-- ---- gestures in a row, and turns in a row
+
+-- the site after the first so many gestures
+abbrev site_after : ℕ → SlowSite → List (List Asked) → SlowSite
 site_after zero slow wanted = slow
 site_after (suc n) slow [] = slow
-site_after (suc n) slow (w ∷ ws) = site_after n (after_edit slow w) ws
+site_after (suc n) slow (w ∷ ws) = site_after n (after_gesture slow w) ws
 
 -- where a test passes, and what is behind it comes to something
 passes : (b : Bool) (x : Option SlowSite) (u : SlowSite) → cond b x None ≡ Some u → (b ≡ true) × (x ≡ Some u)
 passes true x u e = (refl, e)
 passes false x u e = cc
 
-edits_take : (n : ℕ) (wanted : List Edit) (t u : SlowSite) → edits t wanted ≡ Some u
-    → edits t (take n wanted) ≡ Some (site_after n t wanted)
-unfolding edits
-edits_take zero [] t u e = refl
-edits_take zero (w ∷ ws) t u e = refl
-edits_take (suc n) [] t u e = refl
-edits_take (suc n) (w ∷ ws) t u e =
-    let parts = passes (is_ok (edit t w)) (edits (after_edit t w) ws) u e in
-    rw (parts.0) (edits_take n ws (after_edit t w) u parts.1)
+gestures_take : (n : ℕ) (wanted : List (List Asked)) (t u : SlowSite) → gestures t wanted ≡ Some u
+    → gestures t (take n wanted) ≡ Some (site_after n t wanted)
+unfolding gestures
+gestures_take zero [] t u e = refl
+gestures_take zero (w ∷ ws) t u e = refl
+gestures_take (suc n) [] t u e = refl
+gestures_take (suc n) (w ∷ ws) t u e =
+    let parts = passes (are_some (made t w)) (gestures (after_gesture t w) ws) u e in
+    rw (parts.0) (gestures_take n ws (after_gesture t w) u parts.1)
 
 module _ (at : ℕ → Board) where
-  edits_done : (wanted : List Edit) (n k : ℕ) (t u : SlowSite) → n + length wanted ≡ k → k ≤ MOST_BACKS
-      → ((i : ℕ) → board (site_after i t wanted).held ≡ at (n + i)) → edits t wanted ≡ Some u → IsAt at n 0 t
+  gestures_done : (wanted : List (List Asked)) (n k : ℕ) (t u : SlowSite) → n + length wanted ≡ k → k ≤ MOST_BACKS
+      → ((i : ℕ) → board (site_after i t wanted).held ≡ at (n + i)) → gestures t wanted ≡ Some u → IsAt at n 0 t
       → IsAt at k 0 u
-  unfolding edits
-  edits_done [] n k t u s l shown e h =
+  unfolding gestures
+  gestures_done [] n k t u s l shown e h =
       let same : t ≡ u = cc in
       let many : n ≡ k = omega (arith, s) in
       subst (λ i. IsAt at i 0 u) many (subst (IsAt at n 0) same h)
-  edits_done (w ∷ ws) n k t u s l shown e h =
-      let parts = passes (is_ok (edit t w)) (edits (after_edit t w) ws) u e in
+  gestures_done (w ∷ ws) n k t u s l shown e h =
+      let parts = passes (are_some (made t w)) (gestures (after_gesture t w) ws) u e in
       let next : n + 1 ≡ suc n = omega arith in
-      edits_done ws (suc n) k (after_edit t w) u (omega (arith, s)) l (λ i. shown (suc i) ∙ ap at (omega arith)) parts.1
-      (edit_step at n t w (omega (arith, s, l)) parts.0 (shown 1 ∙ ap at next) h)
+      gestures_done ws (suc n) k (after_gesture t w) u (omega (arith, s)) l (λ i. shown (suc i) ∙ ap at (omega arith)) parts.1
+      (gesture_step at n t w (omega (arith, s, l)) parts.0 (shown 1 ∙ ap at next) h)
 
   -- where the turns end
   record Ends (k total : ℕ) (v : SlowSite) : Type 0 where
@@ -193,28 +229,28 @@ module _ (at : ℕ → Board) where
       turns_done row (suc n) m k total (after_turn u Redo) v (omega (arith, s)) l parts.1 d
       (redo_step at n m u (omega (arith, s, l)) parts.0 h)
 
--- the board after the first so many of these edits
-abbrev boards : SlowSite → List Edit → ℕ → Board
+-- the board after the first so many of these gestures
+abbrev boards : SlowSite → List (List Asked) → ℕ → Board
 boards t wanted n = board (site_after n t wanted).held
 
-ended : (t u v : SlowSite) (wanted : List Edit) (row : List Turn) (k : ℕ) → edits t wanted ≡ Some u
+ended : (t u v : SlowSite) (wanted : List (List Asked)) (row : List Turn) (k : ℕ) → gestures t wanted ≡ Some u
     → length wanted ≤ MOST_BACKS → turns u row ≡ Some v → done_after row (length wanted) 0 ≡ Some k
     → Ends (boards t wanted) k (length wanted) v
 ended t u v wanted row k e few turned done =
     let at = boards t wanted in
     turns_done at row (length wanted) 0 k (length wanted) u v (omega arith) few turned done
-    (edits_done at wanted 0 (length wanted) t u (omega arith) few (λ i. ap at (omega arith)) e
+    (gestures_done at wanted 0 (length wanted) t u (omega arith) few (λ i. ap at (omega arith)) e
     (record { shows = refl; down = tt; up = tt }))
 
 -- ---- what is shown
 
-pub shown_again : (t u v : SlowSite) (wanted : List Edit) (row : List Turn) (n : ℕ) → edits t wanted ≡ Some u
+pub shown_again : (t u v : SlowSite) (wanted : List (List Asked)) (row : List Turn) (n : ℕ) → gestures t wanted ≡ Some u
     → length wanted ≤ MOST_BACKS → turns u row ≡ Some v → done_after row (length wanted) 0 ≡ Some n
-    → (w : SlowSite) × (edits t (take n wanted) ≡ Some w) × (text (picture v.held) ≡ text (picture w.held))
+    → (w : SlowSite) × (gestures t (take n wanted) ≡ Some w) × (text (picture v.held) ≡ text (picture w.held))
 shown_again t u v wanted row n e few turned done =
     let w = site_after n t wanted in
     let end = ended t u v wanted row n e few turned done in
-    (w, edits_take n wanted t u e, ap text (sym (stacking v.held) ∙ ap listed end.is.shows ∙ stacking w.held))
+    (w, gestures_take n wanted t u e, ap text (sym (stacking v.held) ∙ ap listed end.is.shows ∙ stacking w.held))
 
 redos_count : (i n m : ℕ) → i ≤ m → done_after (replicate i Redo) n m ≡ Some (n + i)
 redos_count zero n m l = ap Some (omega arith)
@@ -233,34 +269,38 @@ in_a_row k j i l h = undos_count j i k 0 l (omega (arith, h))
 
 -- ---- refusals
 
-none_due : (slow : SlowSite) (ops : List Op) → turn_by slow ops ≡ Err NothingBack → ops ≡ []
+none_due : (slow : SlowSite) (all : List (List Op)) → turn_by slow all ≡ Err NothingBack → all ≡ []
 none_due slow [] e = refl
-none_due slow (op ∷ ops) e = by (edit_by slow.me (clock slow) (length (own slow)) (Ok op)) e
+none_due slow (ops ∷ more) e =
+    by (nat_lt greatest_stamp_clock (clock slow + length ops)) (nat_lt most_own_events (length (own slow) + length ops)) e
   where
-    by : (r : Result Event EditRefusal) → or_refused r ≡ Err NothingBack → op ∷ ops ≡ []
-    by (Ok x) k = cc
-    by (Err why) k = cc
+    by : (a b : Bool) → cond a (Err (Refused ClockEnd)) (cond b (Err (Refused SessionFull)) (Ok (done slow ops))) ≡ Err NothingBack
+        → ops ∷ more ≡ []
+    by true b k = cc
+    by false true k = cc
+    by false false k = cc
 
--- where an edit is done there is one to take back, and where one is taken back there is one to do again
-pub something_to_do : (t u v : SlowSite) (wanted : List Edit) (row : List Turn) (k j : ℕ) → edits t wanted ≡ Some u
-    → length wanted ≤ MOST_BACKS → turns u row ≡ Some v → done_after row (length wanted) 0 ≡ Some k
-    → length wanted ≡ k + j → (turn v Undo ≡ Err NothingBack → k ≡ 0) × (turn v Redo ≡ Err NothingBack → j ≡ 0)
+-- where a gesture is done there is one to take back, and where one is taken back there is one to do again
+pub something_to_do : (t u v : SlowSite) (wanted : List (List Asked)) (row : List Turn) (k j : ℕ)
+    → gestures t wanted ≡ Some u → length wanted ≤ MOST_BACKS → turns u row ≡ Some v
+    → done_after row (length wanted) 0 ≡ Some k → length wanted ≡ k + j
+    → (turn v Undo ≡ Err NothingBack → k ≡ 0) × (turn v Redo ≡ Err NothingBack → j ≡ 0)
 unfolding turn
 something_to_do t u v wanted row k j e few turned done s =
     let end = ended t u v wanted row k e few turned done in
     let same : end.back ≡ j = omega (arith, end.all, s) in (
-      λ none. down k (subst (LeadsTo (at k) (pasts at k)) (none_due v _ none) end.is.down),
-      λ none. sym same ∙ up end.back (subst (LeadsTo (at k) (futures at k end.back)) (none_due v _ none) end.is.up),
+      λ none. down k (subst (LeadTo (at k) (pasts at k)) (none_due v _ none) end.is.down),
+      λ none. sym same ∙ up end.back (subst (LeadTo (at k) (futures at k end.back)) (none_due v _ none) end.is.up),
     )
   where
     at : ℕ → Board
     at = boards t wanted
 
-    down : (n : ℕ) → LeadsTo (at n) (pasts at n) [] → n ≡ 0
+    down : (n : ℕ) → LeadTo (at n) (pasts at n) [] → n ≡ 0
     down zero h = refl
     down (suc n) h = absurd h
 
-    up : (m : ℕ) → LeadsTo (at k) (futures at k m) [] → m ≡ 0
+    up : (m : ℕ) → LeadTo (at k) (futures at k m) [] → m ≡ 0
     up zero h = refl
     up (suc m) h = absurd h
 
@@ -268,14 +308,14 @@ pub is_met : (slow : SlowSite) (which : Turn) (why : BackRefusal) → turn slow 
 unfolding turn
 is_met slow which why e = by (due which slow.backs) e
   where
-    refused : (op : Op) (a b : Bool)
-        → or_refused (cond a (Err ClockEnd) (cond b (Err SessionFull)
-        (event_of slow.me (clock slow) (length (own slow)) (Ok op)))) ≡ Err why → IsMet why
-    refused op true b k = let same : Refused ClockEnd ≡ why = cc in subst IsMet same tt
-    refused op false true k = let same : Refused SessionFull ≡ why = cc in subst IsMet same tt
-    refused op false false k = cc
+    refused : (ops : List Op) (a b : Bool)
+        → cond a (Err (Refused ClockEnd)) (cond b (Err (Refused SessionFull)) (Ok (done slow ops))) ≡ Err why → IsMet why
+    refused ops true b k = let same : Refused ClockEnd ≡ why = cc in subst IsMet same tt
+    refused ops false true k = let same : Refused SessionFull ≡ why = cc in subst IsMet same tt
+    refused ops false false k = cc
 
-    by : (ops : List Op) → turn_by slow ops ≡ Err why → IsMet why
+    by : (all : List (List Op)) → turn_by slow all ≡ Err why → IsMet why
     by [] k = let same : NothingBack ≡ why = cc in subst IsMet same tt
-    by (op ∷ ops) k =
-        refused op (nat_le greatest_stamp_clock (clock slow)) (nat_le most_own_events (length (own slow))) k
+    by (ops ∷ more) k =
+        refused ops (nat_lt greatest_stamp_clock (clock slow + length ops))
+        (nat_lt most_own_events (length (own slow) + length ops)) k

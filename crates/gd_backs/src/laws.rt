@@ -1,5 +1,5 @@
 //! What holds of backs, and of undos and redos: contracts of functions that do nothing.
-ghost use Rattle.std.specs.Prelude.{◌≡◌, ◌≤◌, ◌+◌, ◌-◌, ◌++◌, ℕ, List, length, replicate, take, None, Some, Err, ◌∷◌, [], IsTrue};
+ghost use Rattle.std.specs.Prelude.{◌≡◌, ◌≤◌, ◌+◌, ◌-◌, ◌++◌, ℕ, List, length, replicate, take, None, Some, Ok, Err, ◌∷◌, [], IsTrue};
 ghost use Rattle.std.specs.List.{AllByRecursion};
 ghost use Rattle.gd_base.specs.Stamps.{Stamp, IsStamp, is_before};
 ghost use Rattle.gd_base.specs.declared.ranges.TheConstants.{MOST_BACKS};
@@ -16,8 +16,9 @@ ghost use Rattle.gd_model.specs.Forms.{form};
 ghost use Rattle.gd_model.specs.declared.form.Form.{Form};
 ghost use Rattle.gd_reference.specs.DrawingText.{text};
 ghost use Rattle.gd_reference.specs.SlowSite.{SlowSite};
-ghost use Rattle.gd_reference.specs.TakeBack.{BackRefusal, NothingBack, turn};
-ghost use Rattle.gd_backs.specs.Turns.{edits, turns, done_after, IsMet};
+ghost use Rattle.gd_reference.specs.Judging.{edit};
+ghost use Rattle.gd_reference.specs.TakeBack.{Asked, BackRefusal, NothingBack, after_edit, after_gesture, backs_of, events_in, made, turn};
+ghost use Rattle.gd_backs.specs.Turns.{gestures, turns, done_after, IsMet};
 ghost use Rattle.gd_backs.specs.Worked.{at_clock, grouped, ungrouped_back, disbanded_back, nested};
 
 /// Each form is an operation, at any stamp.
@@ -42,20 +43,37 @@ pub fn each_back_is_sound()
         → IsOp t (back s op (board held)) }
 {}
 
-/// Where a site, whatever it holds, accepts at most 1,024 edits, and then undos and redos in any order, and nothing else happens in
-/// between, it shows what it showed after those of the edits that are done then: behind so many undos and then so many redos, the
-/// first of them. An undo or a redo is refused only where there is nothing to do, by the greatest clock, and by the number of the
-/// site's events.
-pub fn undos_and_redos_show_what_the_edits_showed()
-    ensures text { (t u v : SlowSite) (wanted : List Edit) (row : List Turn) (n : ℕ)
-        → edits t wanted ≡ Some u → length wanted ≤ MOST_BACKS
+/// So is each operation that takes sound events of a site back, at any stamp later than these and than what it holds.
+pub fn each_back_of_a_gesture_is_sound()
+    ensures { (slow : SlowSite) (es : List Event) (t : Stamp)
+        → AllByRecursion (IsSoundBefore t) slow.held → AllByRecursion (IsSoundBefore t) es
+        → AllByRecursion (IsOp t) (backs_of slow es) }
+{}
+
+/// An edit is a gesture of one, and a gesture that makes no event changes nothing: so it isn't kept, and no undo takes it back.
+pub fn an_edit_is_a_gesture_of_one()
+    ensures site { (slow : SlowSite) (wanted : Edit)
+        → after_edit slow wanted ≡ after_gesture slow (Ok wanted ∷ []) }
+    ensures events { (slow : SlowSite) (wanted : Edit)
+        → events_in (edit slow wanted) ≡ made slow (Ok wanted ∷ []) }
+    ensures none { (slow : SlowSite) (asked : List Asked) → made slow asked ≡ []
+        → after_gesture slow asked ≡ slow }
+{}
+
+/// Where a site, whatever it holds, makes at most 1,024 gestures of an event or more each, and then undos and redos in any order,
+/// and nothing else happens in between, it shows what it showed after those of the gestures that are done then: behind so many
+/// undos and then so many redos, the first of them. An undo or a redo is refused only where there is nothing to do, by the greatest
+/// clock, and by the number of the site's events.
+pub fn undos_and_redos_show_what_the_gestures_showed()
+    ensures text { (t u v : SlowSite) (wanted : List (List Asked)) (row : List Turn) (n : ℕ)
+        → gestures t wanted ≡ Some u → length wanted ≤ MOST_BACKS
         → turns u row ≡ Some v → done_after row (length wanted) 0 ≡ Some n
-        → (w : SlowSite) × (edits t (take n wanted) ≡ Some w)
+        → (w : SlowSite) × (gestures t (take n wanted) ≡ Some w)
         × (text (picture v.held) ≡ text (picture w.held)) }
     ensures in_a_row { (k j i : ℕ) → j ≤ k → i ≤ j
         → done_after (replicate j Undo ++ replicate i Redo) k 0 ≡ Some ((k - j) + i) }
-    ensures something_to_do { (t u v : SlowSite) (wanted : List Edit) (row : List Turn) (k j : ℕ)
-        → edits t wanted ≡ Some u → length wanted ≤ MOST_BACKS
+    ensures something_to_do { (t u v : SlowSite) (wanted : List (List Asked)) (row : List Turn) (k j : ℕ)
+        → gestures t wanted ≡ Some u → length wanted ≤ MOST_BACKS
         → turns u row ≡ Some v → done_after row (length wanted) 0 ≡ Some k
         → length wanted ≡ k + j
         → (turn v Undo ≡ Err NothingBack → k ≡ 0) × (turn v Redo ≡ Err NothingBack → j ≡ 0) }

@@ -1,4 +1,4 @@
-//! What holds of taking edits back, over the definitions alone.
+//! What holds of taking gestures back, over the definitions alone.
 #![tactic(auto)]
 
 pub mod laws;

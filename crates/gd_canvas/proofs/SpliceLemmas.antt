@@ -1,9 +1,8 @@
 -- What two events find, the one in front of the other that covers it.
-use Rattle.std.proofs.Common.{◌≡◌, ◌≤◌, not, Bool, true, false, cond, ◌&&◌, List, [], ◌∷◌, length, Option, None, Some, refl, sym, ap, subst, ◌∙◌, arith}
+use Rattle.std.proofs.Common.{◌≡◌, ◌≤◌, ℕ, not, Bool, true, false, cond, ◌&&◌, List, [], ◌∷◌, length, Option, None, Some, refl, sym, ap, subst, ◌∙◌, arith}
 use Rattle.std.specs.Prelude.{is_some, option_and_then, option_map, unwrap_or}
 use Rattle.gd_base.specs.Stamps.{Stamp, is_same}
 use Rattle.gd_base.proofs.StampLemmas.{is_same-true}
-use Rattle.gd_model.specs.declared.content.Part.{Part}
 use Rattle.gd_model.specs.declared.form.Form.{Form}
 use Rattle.gd_model.specs.declared.form.Form.TheVariants.{Sets, Puts, Takes}
 use Rattle.gd_base.specs.declared.object.Object.{Object}
@@ -116,7 +115,7 @@ second_holds : (s t : Bool) → (s && t) ≡ true → t ≡ true
 second_holds true t e = e
 second_holds false t e = cc
 
-pub part_covers : (id : Stamp) (p : Part) (g : Form) → is_set_by id p g ≡ true → sets_part p g ≡ true
+pub part_covers : (id : Stamp) (p : ℕ) (g : Form) → is_set_by id p g ≡ true → sets_part p g ≡ true
 part_covers id p (Sets j c) e = second_holds (is_same id j) (is_same_part p (part_of c)) e
 part_covers id p (Puts j o ts) e = e
 part_covers id p (Takes j ts) e = e

@@ -7,7 +7,7 @@ use Rattle.std.proofs.lemmas.List.{length-map}
 use Rattle.gd_base.specs.Stamps.{Stamp, is_same}
 use Rattle.gd_base.specs.declared.ties.Tie.{Tie}
 use Rattle.gd_events.specs.Ops.{Op}
-use Rattle.gd_model.specs.declared.content.Part.TheVariants as part
+use Rattle.gd_model.specs.declared.content.TheConstants.{LINK}
 use Rattle.gd_model.specs.declared.form.Form.{Form}
 use Rattle.gd_model.specs.declared.form.Form.TheVariants.{Sets, Puts, Takes}
 use Rattle.gd_model.specs.Contents.{Content}
@@ -37,19 +37,19 @@ touch_count op stamp = omega (arith, ap length (touches-parts stamp op), length-
 pub first_at : (stamp : Stamp) (op : Op) → Some (touch_of stamp op) ≡ slice_get (touches stamp op) 0
 first_at stamp op = ap (λ us. slice_get us 0) (sym (touches-parts stamp op))
 
-link_at : (ts : List Tie) (j : ℕ) → slice_get (map link_touch ts) j ≡ option_map (λ (id : Stamp). (id, part.Link)) (id_at ts j)
+link_at : (ts : List Tie) (j : ℕ) → slice_get (map link_touch ts) j ≡ option_map (λ (id : Stamp). (id, LINK)) (id_at ts j)
 link_at [] j = refl
 link_at (t ∷ ts) zero = refl
 link_at (t ∷ ts) (suc j) = link_at ts j
 
 pub later_at : (stamp : Stamp) (op : Op) (place : ℕ) → 0 < place
-    → slice_get (touches stamp op) place ≡ option_map (λ (id : Stamp). (id, part.Link)) (tied_at stamp op (place - 1))
+    → slice_get (touches stamp op) place ≡ option_map (λ (id : Stamp). (id, LINK)) (tied_at stamp op (place - 1))
 later_at stamp op zero later = absurd (omega arith)
 later_at stamp op (suc j) later =
     let here : suc j - 1 ≡ j = omega arith in
     ap (λ us. slice_get us (suc j)) (touches-parts stamp op)
     ∙ link_at (ties_of (form stamp op)) j
-    ∙ ap (λ n. option_map (λ (id : Stamp). (id, part.Link)) (tied_at stamp op n)) (sym here)
+    ∙ ap (λ n. option_map (λ (id : Stamp). (id, LINK)) (tied_at stamp op n)) (sym here)
 
 -- ---- tests of all
 

@@ -12,7 +12,7 @@ use crate::contents;
 use crate::kept::Kept;
 use crate::tied::id_at;
 use gd_base::Stamp;
-use gd_model::Part;
+use gd_model::{LINK, WHOLE};
 
 /// The id that the operation puts or takes at that stamp, which has to have a slot.
 pub fn slot_needed(stamp: Stamp, kept: &Kept) -> Option<Stamp>
@@ -40,7 +40,7 @@ pub fn object_of(stamp: Stamp, kept: &Kept) -> Stamp
 
 /// The part of that object that it touches, at any stamp.
 #[tactic(auto, using(crate::proofs::KeptLemmas::one_part))]
-pub fn part_of(kept: &Kept) -> Part
+pub fn part_of(kept: &Kept) -> u8
     ensures { (stamp : StampValue) → result ≡ (touch_of stamp (op_of kept.now)).1 }
 {
     match kept {
@@ -49,7 +49,7 @@ pub fn part_of(kept: &Kept) -> Part
         | Kept::Delete { .. }
         | Kept::Group(_)
         | Kept::Restore { .. }
-        | Kept::Disband { .. } => Part::Whole,
+        | Kept::Disband { .. } => WHOLE,
     }
 }
 
@@ -86,14 +86,14 @@ pub fn touch_count(stamp: Stamp, kept: &Kept) -> usize
 }
 
 /// Its touch at that place. None past the last one.
-pub fn touch_at(stamp: Stamp, kept: &Kept, place: usize) -> Option<(Stamp, Part)>
+pub fn touch_at(stamp: Stamp, kept: &Kept, place: usize) -> Option<(Stamp, u8)>
     ensures { result ≡ slice_get (touches stamp (op_of kept.now)) place }
 {
     if place == 0 {
         return Some((object_of(stamp, kept), part_of(kept)));
     }
     match tied_at(stamp, kept, place - 1) {
-        Some(id) => Some((id, Part::Link)),
+        Some(id) => Some((id, LINK)),
         None => None,
     }
 }

@@ -5,7 +5,8 @@ use Rattle.gd_dialogue.specs.Keeping.{HoldsLog, IsLogFrom, KeepsLogs, LogStays}
 use Rattle.gd_effects.proofs.Crashing.{no_head_both, no_head_front}
 use Rattle.gd_effects.specs.Crashes.{Adds, AddsTorn, IsReadWith, Stands}
 use Rattle.gd_effects.specs.Done.{DidTornRecord, DidUntil, Does, HasNoHead, Journals}
-use Rattle.gd_effects.specs.Effects.{Effect, Print, recorded, records}
+use Rattle.gd_effects.specs.Effects.{Effect, Print, gestures, records}
+use Rattle.gd_effects.specs.Gestures.{events_of}
 use Rattle.gd_effects.specs.Outside.{IsTold, Outside}
 use Rattle.gd_events.specs.Events.{Event}
 use Rattle.gd_grammar.specs.Drawings.{drawings, log}
@@ -51,25 +52,26 @@ module _ {header : Header} {held : List Event} {old : SeenJournal} (stands : Sta
         read = read ∙ ap (λ (found : Header × List Event). Ok (found.0, found.1 ++ more)) same ∙ ap (λ es. Ok (h, es)) (append_assoc first holds.contents.more more);
       }
 
-  stays_added : {new : SeenJournal} (added : List Event) → Adds drawings header held added old new → LogStays h first old new
+  stays_added : {new : SeenJournal} (added : List (List Event)) → Adds drawings header held added old new → LogStays h first old new
   stays_added {new} added adds = record {
     holds = record {
-      contents = read_on (told new.contents) added adds.stands.contents.read;
-      images = λ image is. read_on image added (adds.stands.images image is).read;
+      contents = read_on (told new.contents) (events_of added) adds.stands.contents.read;
+      images = λ image is. read_on image (events_of added) (adds.stands.images image is).read;
     };
-    moments = leaves_as old.disk new.disk (IsReadWith drawings header held added) (IsLogFrom h first) (λ image r. read_on image r.front r.read) adds.moments;
+    moments = leaves_as old.disk new.disk (IsReadWith drawings header held added) (IsLogFrom h first) (λ image r. read_on image (events_of r.front) r.read) adds.moments;
   }
 
-  read_torn : (surely perhaps : List Event) (bytes : List ℕ) → IsReadWith drawings header (held ++ surely) perhaps bytes → IsLogFrom h first bytes
-  read_torn surely perhaps bytes r = read_on bytes (surely ++ r.front) (r.read ∙ ap (λ es. Ok (header, es)) (append_assoc held surely r.front))
+  read_torn : (surely perhaps : List (List Event)) (bytes : List ℕ) → IsReadWith drawings header (held ++ events_of surely) perhaps bytes → IsLogFrom h first bytes
+  read_torn surely perhaps bytes r =
+      read_on bytes (events_of surely ++ events_of r.front) (r.read ∙ ap (λ es. Ok (header, es)) (append_assoc held (events_of surely) (events_of r.front)))
 
-  stays_torn : {new : SeenJournal} (surely perhaps : List Event) → AddsTorn drawings header held surely perhaps old new → LogStays h first old new
+  stays_torn : {new : SeenJournal} (surely perhaps : List (List Event)) → AddsTorn drawings header held surely perhaps old new → LogStays h first old new
   stays_torn {new} surely perhaps adds = record {
     holds = record {
       contents = read_torn surely perhaps (told new.contents) adds.contents;
       images = λ image is. read_torn surely perhaps image (adds.images image is);
     };
-    moments = leaves_as old.disk new.disk (IsReadWith drawings header held (surely ++ perhaps)) (IsLogFrom h first) (λ image r. read_on image r.front r.read) adds.moments;
+    moments = leaves_as old.disk new.disk (IsReadWith drawings header held (surely ++ perhaps)) (IsLogFrom h first) (λ image r. read_on image (events_of r.front) r.read) adds.moments;
   }
 
 -- ---- by the effects of a call
@@ -80,7 +82,7 @@ module _ {header : Header} {held : List Event} {old : SeenJournal} (stands : IsS
     was = did.was;
     stays = λ t h first holds.
         let stood = stands (did.was t) in
-        stays_added stood holds (recorded xs) (did.crash t none header held stood);
+        stays_added stood holds (gestures xs) (did.crash t none header held stood);
   }
 
 module _ {header : Header} {held : List Event} (a b : Outside) (stands : IsSome a.journal.contents → Stands drawings header held a.journal) where
@@ -91,7 +93,7 @@ module _ {header : Header} {held : List Event} (a b : Outside) (stands : IsSome 
         let stood = stands (did.was t) in
         let front : HasNoHead (did.front ++ did.next ∷ []) = no_head_front (did.front ++ did.next ∷ []) did.back
         (subst HasNoHead (did.split ∙ sym (append_assoc did.front (did.next ∷ []) did.back)) none) in
-        stays_torn stood holds (recorded did.front) (records did.next) (did.crash t front header held stood);
+        stays_torn stood holds (gestures did.front) (records did.next) (did.crash t front header held stood);
   }
 
   keeps_until : (e : End) (xs : List Effect) → HasNoHead xs → DidUntil e a xs b → KeepsLogs a.journal b.journal

@@ -1,7 +1,7 @@
 -- What sound events before a stamp leave: the numbers of an object are in their ranges, and its id, rank and link are
 -- before that stamp. It is so of the form of each such event, and of the board, field by field.
 use Rattle.std.proofs.Common.{◌≡◌, ◌≤◌, Bool, true, false, cond, not, ◌&&◌, List, [], ◌∷◌, length, map, Option, None, Some, refl, sym, ap, ◌∙◌, subst, arith}
-use Rattle.std.specs.Prelude.{ℤ, is_some, option_map, IfSome, if◌then◌else◌}
+use Rattle.std.specs.Prelude.{ℕ, ℤ, pos, is_some, option_map, IfSome, if◌then◌else◌}
 use Rattle.std.specs.List.{AllByRecursion as Every, filter, list_all}
 use Rattle.std.specs.FinMap as map_of
 use Rattle.std.specs.Str.{is_utf8, chars}
@@ -21,6 +21,7 @@ use Rattle.gd_base.specs.declared.member.Member.{Member}
 use Rattle.gd_base.specs.declared.object.Link.{Link}
 use Rattle.gd_base.specs.declared.object.Object.{Object}
 use Rattle.gd_base.specs.declared.op.Op.TheVariants.{Create, Delete, Set, Group, Restore, Disband}
+use Rattle.gd_base.specs.declared.shape.Shape.{Shape}
 use Rattle.gd_base.specs.declared.ranges.TheConstants.{MOST_MEMBERS}
 use Rattle.gd_base.specs.declared.ties.Tie.{Tie}
 use Rattle.gd_base.proofs.Insertions.{Every-all_inserted}
@@ -34,10 +35,11 @@ use Rattle.gd_model.specs.Board.{Board, board_with, apply, apply_all, board}
 use Rattle.gd_model.specs.Contents.{Content}
 use Rattle.gd_model.specs.Drawing.{Drawing, find, first_tie, picture}
 use Rattle.gd_model.specs.Forms.{rank_at, tie_of, member_ties, form}
-use Rattle.gd_model.specs.Objects.{new_group, fits, put, set, tied_by}
+use Rattle.gd_model.specs.Objects.{new_shape, new_group, is_same_part, part_of, fits, put, old, set, with_link, tied_by}
 use Rattle.gd_model.specs.Undoing.{Lookup}
 use Rattle.gd_model.specs.declared.form.Form.{Form}
 use Rattle.gd_model.specs.declared.form.Form.TheVariants.{Sets, Puts, Takes}
+use Rattle.gd_drawing.proofs.ContentLaws.{put_link, old_tied, old_put, old_elsewhere}
 use Rattle.gd_drawing.proofs.InOrder.{stacking}
 use Rattle.gd_drawing.proofs.Listed.{find-listed}
 use Rattle.gd_drawing.proofs.Lookups.{after, get-board_with}
@@ -69,6 +71,31 @@ pub record AreFieldsBefore (t id : Stamp) (o : Object) : Type 0 where
   pub label : IsContentBefore t (ToText o.label)
   pub rank : IsContentBefore t (ToRank o.rank)
   pub link : IsLinkBefore t id o.link
+
+-- what stands in each part of it
+pub each_before : (t id : Stamp) (o : Object) → AreFieldsBefore t id o → (c : Content) → IsContentBefore t (old c o)
+each_before t id o h (ToPlace x y) = h.place
+each_before t id o h (ToSize a b) = h.size
+each_before t id o h (ToStroke colour) = h.stroke
+each_before t id o h (ToFill fill) = h.fill
+each_before t id o h (ToWidth width) = h.width
+each_before t id o h (ToText label) = h.label
+each_before t id o h (ToFlag flag) = refl
+each_before t id o h (ToRank rank) = h.rank
+
+fields_from : (t id : Stamp) (o : Object) → ((c : Content) → IsContentBefore t (old c o)) → IsLinkBefore t id o.link
+    → AreFieldsBefore t id o
+fields_from t id o each link =
+    record {
+      place = each (ToPlace (pos 0) (pos 0));
+      size = each (ToSize (pos 0) (pos 0));
+      stroke = each (ToStroke 0);
+      fill = each (ToFill None);
+      width = each (ToWidth 0);
+      label = each (ToText []);
+      rank = each (ToRank o.rank);
+      link = link;
+    }
 
 abbrev pub IsTieBefore : Stamp → Tie → Type 0
 IsTieBefore t tie = IsIdBefore t tie.id × IsLinkBefore t tie.id tie.link
@@ -182,16 +209,11 @@ no_ties t = record { few = omega arith; each = tt; rising = refl }
 content_before : (s t : Stamp) (c : Done) → IsStamp s → is_before s t ≡ true → IsTypedBy IsHeight c
     → is_content c ≡ true → is_content_before s c ≡ true
     → IsContentBefore t (content_map (λ label. label) (rank_at s) c)
-content_before s t (ToPlace x y) is l typed range before = range
-content_before s t (ToSize w h) is l typed range before = range
-content_before s t (ToStroke colour) is l typed range before = range
-content_before s t (ToFill fill) is l typed range before = range
-content_before s t (ToWidth width) is l typed range before = range
 content_before s t (ToText label) is l typed range before = typed
-content_before s t (ToFlag flag) is l typed range before = refl
 content_before s t (ToRank (To Bottom)) is l typed range before = (is, l)
 content_before s t (ToRank (To Top)) is l typed range before = (is, l)
 content_before s t (ToRank (At rank)) is l typed range before = (typed, is_before-trans (given_at rank) s t before l)
+content_before s t content is l typed range before = range
 
 each_tie : (s t : Stamp) (ties : List Tie) → is_before s t ≡ true → Every (λ x. IsStamp x.id × IsLinked x.link) ties
     → are_ties_in_range ties ≡ true → are_ties_before s ties ≡ true → Every (IsTieBefore t) ties
@@ -252,35 +274,28 @@ members_before s t ms is l few y h k rising =
     })
 
 new_group_before : (s t : Stamp) → IsStamp s → is_before s t ≡ true → AreFieldsBefore t s (new_group s)
-new_group_before s t is l =
-    record {
-      place = refl;
-      size = refl;
-      stroke = refl;
-      fill = refl;
-      width = refl;
-      label = no_label;
-      rank = (is, l);
-      link = no_link t s;
-    }
+new_group_before s t is l = fields_from t s (new_group s) each (no_link t s)
+  where
+    each : (c : Content) → IsContentBefore t (old c (new_group s))
+    each (ToText label) = no_label
+    each (ToRank rank) = (is, l)
+    each content = refl
+
+new_shape_before : (s t : Stamp) (kind : Shape) (x y w h : ℤ) (label : List ℕ) → IsStamp s → is_before s t ≡ true
+    → IsLabel label → is_box_in_range x y w h ≡ true → AreFieldsBefore t s (new_shape s kind x y w h label)
+new_shape_before s t kind x y w h label is l typed range = fields_from t s (new_shape s kind x y w h label) each (no_link t s)
+  where
+    each : (c : Content) → IsContentBefore t (old c (new_shape s kind x y w h label))
+    each (ToPlace a b) = (box_parts x y w h range).0
+    each (ToSize a b) = (box_parts x y w h range).1
+    each (ToText text) = typed
+    each (ToRank rank) = (is, l)
+    each content = refl
 
 form_by : (s t : Stamp) (op : Op) → IsStamp s → is_before s t ≡ true → IsWellTyped op → is_in_range op ≡ true
     → names_before s op ≡ true → has_rising_ids op ≡ true → IsFormBefore t (form s op)
 form_by s t (Create kind x y w h label) is l typed range before rising =
-    let box = box_parts x y w h range in (
-      (is, l),
-      record {
-        place = box.0;
-        size = box.1;
-        stroke = refl;
-        fill = refl;
-        width = refl;
-        label = typed;
-        rank = (is, l);
-        link = no_link t s;
-      },
-      no_ties t,
-    )
+    ((is, l), new_shape_before s t kind x y w h label is l typed range, no_ties t)
 form_by s t (Delete id) is l typed range before rising = ((typed, is_before-trans id s t before l), no_ties t)
 form_by s t (Set id c) is l typed range before rising =
     let both = and_parts (is_before id s) (is_content_before s c) before in
@@ -318,29 +333,22 @@ IsLookupBefore t g = (id : Stamp) → IsEntryBefore t id (g id)
 abbrev pub IsBoardBefore : Stamp → Board → Type 0
 IsBoardBefore t b = IsLookupBefore t (map_of.get b)
 
-fields_from : (t id : Stamp) (o : Object) → IsContentBefore t (ToPlace o.x o.y) → IsContentBefore t (ToSize o.w o.h)
-    → IsContentBefore t (ToStroke o.stroke) → IsContentBefore t (ToFill o.fill) → IsContentBefore t (ToWidth o.width)
-    → IsContentBefore t (ToText o.label) → IsContentBefore t (ToRank o.rank) → IsLinkBefore t id o.link
-    → AreFieldsBefore t id o
-fields_from t id o p s c f w l r k =
-    record { place = p; size = s; stroke = c; fill = f; width = w; label = l; rank = r; link = k }
-
 put_before : (t id : Stamp) (c : Content) (o : Object) → IsContentBefore t c → AreFieldsBefore t id o
     → AreFieldsBefore t id (put c o)
-put_before t id (ToPlace x y) o c h = fields_from t id _ c h.size h.stroke h.fill h.width h.label h.rank h.link
-put_before t id (ToSize a b) o c h = fields_from t id _ h.place c h.stroke h.fill h.width h.label h.rank h.link
-put_before t id (ToStroke a) o c h = fields_from t id _ h.place h.size c h.fill h.width h.label h.rank h.link
-put_before t id (ToFill a) o c h = fields_from t id _ h.place h.size h.stroke c h.width h.label h.rank h.link
-put_before t id (ToWidth a) o c h = fields_from t id _ h.place h.size h.stroke h.fill c h.label h.rank h.link
-put_before t id (ToText a) o c h = fields_from t id _ h.place h.size h.stroke h.fill h.width c h.rank h.link
-put_before t id (ToFlag a) o c h = fields_from t id _ h.place h.size h.stroke h.fill h.width h.label h.rank h.link
-put_before t id (ToRank a) o c h = fields_from t id _ h.place h.size h.stroke h.fill h.width h.label c h.link
+put_before t id c o new h =
+    fields_from t id (put c o) (λ d. by_test d (is_same_part (part_of d) (part_of c)) refl)
+    (subst (IsLinkBefore t id) (sym (put_link c o)) h.link)
+  where
+    by_test : (d : Content) (same : Bool) → is_same_part (part_of d) (part_of c) ≡ same → IsContentBefore t (old d (put c o))
+    by_test d true e = subst (IsContentBefore t) (sym (old_put d c o e)) new
+    by_test d false e = subst (IsContentBefore t) (sym (old_elsewhere d c o e)) (each_before t id o h d)
 
 tied_before : (t id : Stamp) (given : Option (Option Link)) (o : Object) → IfSome given (IsLinkBefore t id)
     → AreFieldsBefore t id o → AreFieldsBefore t id (tied_by given o)
 tied_before t id None o g h = h
 tied_before t id (Some link) o g h =
-    fields_from t id (tied_by (Some link) o) h.place h.size h.stroke h.fill h.width h.label h.rank g
+    fields_from t id (with_link link o)
+    (λ c. subst (IsContentBefore t) (sym (old_tied c link o)) (each_before t id o h c)) g
 
 first_before : (t : Stamp) (ties : List Tie) (q : Stamp) → Every (IsTieBefore t) ties
     → IfSome (first_tie ties q) (IsLinkBefore t q)

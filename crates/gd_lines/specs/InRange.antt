@@ -38,6 +38,8 @@ abbrev pub IsAsked : Command → Type 0
 IsAsked command.Blank = ⊥
 IsAsked command.Poll = ⊥
 IsAsked command.Quit = ⊥
+IsAsked command.Begin = ⊥
+IsAsked command.End = ⊥
 IsAsked other = Unit {0}
 
 abbrev pub IsScriptLine : ScriptLine → Type 0

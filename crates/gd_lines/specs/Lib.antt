@@ -8,5 +8,6 @@ pub mod Lines
 pub mod ScriptLines
 pub mod InRange
 pub mod Text
+pub mod OpText
 pub mod Replies
 pub mod Refusals

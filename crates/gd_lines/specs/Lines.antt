@@ -47,7 +47,12 @@ asked_rows =
     ∷ edit_rows
 
 unfoldable pub command_rows : List (Row Command)
-command_rows = alone (codes "poll") command.Poll ∷ alone (codes "quit") command.Quit ∷ asked_rows
+command_rows =
+    alone (codes "begin") command.Begin
+    ∷ alone (codes "end") command.End
+    ∷ alone (codes "poll") command.Poll
+    ∷ alone (codes "quit") command.Quit
+    ∷ asked_rows
 
 -- the command of a line, which may have a CR at its end
 unfoldable pub read : List ℕ → Result Command LineFault

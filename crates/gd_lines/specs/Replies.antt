@@ -10,6 +10,8 @@ use Rattle.gd_base.specs.declared.fault.WireWhy.TheVariants as wire
 use Rattle.gd_base.specs.declared.fault.WireFault.{WireFault}
 use Rattle.gd_base.specs.declared.note.Note.{Note}
 use Rattle.gd_base.specs.declared.site_status.SiteStatus.{SiteStatus}
+use Rattle.gd_events.specs.Ops.{Op}
+use Rattle.gd_lines.specs.OpText.{op_text, spaced}
 use Rattle.gd_lines.specs.declared.reply.Reply.{Reply}
 use Rattle.gd_lines.specs.declared.reply.Reply.TheVariants.{Ready, Done, Refused, Item, End, Status, Noted, Who, Applied, Dropped, Reworked, Backdated, BadFrame, NotTaken, LongFrame, Polled, LinkFault, Mail, Delivered, BadLog, Usage, LineLimit, OtherJournal, BadView, Arrivals, SiteLine, Churned, Same}
 use Rattle.gd_lines.specs.Text.{id_text, parent_text, item_line, end_line, bad_log_line, bad_view_line}
@@ -36,6 +38,9 @@ refusal_word why.NothingBack = codes "NothingBack"
 refusal_word why.NoteEnd = codes "NoteEnd"
 refusal_word why.NoSite = codes "NoSite"
 refusal_word why.NoMail = codes "NoMail"
+refusal_word why.NoGesture = codes "NoGesture"
+refusal_word why.InGesture = codes "InGesture"
+refusal_word why.GestureFull = codes "GestureFull"
 
 -- why bytes are no frame
 abbrev pub wire_word : WireWhy → List ℕ
@@ -83,15 +88,17 @@ who_line site note =
     codes "who " ++ decimal site ++ codes " " ++ name_text note.name
     ++ codes " focus " ++ parent_text note.focus ++ codes "\n"
 
-unfoldable pub applied_line : Stamp → List ℕ
-applied_line id = codes "echo " ++ id_text id ++ codes " applied\n"
+-- what came of an event of another site, and its operation
+unfoldable pub applied_line : Stamp → Op → List ℕ
+applied_line id op = codes "echo " ++ id_text id ++ codes " applied" ++ spaced (op_text op) ++ codes "\n"
 
-unfoldable pub dropped_line : Stamp → Stamp → List ℕ
-dropped_line id by = codes "echo " ++ id_text id ++ codes " dropped by " ++ id_text by ++ codes "\n"
+unfoldable pub dropped_line : Stamp → Stamp → Op → List ℕ
+dropped_line id by op =
+    codes "echo " ++ id_text id ++ codes " dropped by " ++ id_text by ++ spaced (op_text op) ++ codes "\n"
 
-unfoldable pub reworked_line : Stamp → ℕ → List ℕ
-reworked_line id count =
-    codes "echo " ++ id_text id ++ codes " reworked " ++ decimal count ++ codes "\n"
+unfoldable pub reworked_line : Stamp → ℕ → Op → List ℕ
+reworked_line id count op =
+    codes "echo " ++ id_text id ++ codes " reworked " ++ decimal count ++ spaced (op_text op) ++ codes "\n"
 
 -- the event's clock, and the sure clock
 unfoldable pub backdated_line : Stamp → ℕ → ℕ → List ℕ
@@ -164,9 +171,9 @@ reply_text (End count) = end_line count
 reply_text (Status status) = status_line status
 reply_text (Noted number) = noted_line number
 reply_text (Who site note) = who_line site note
-reply_text (Applied id) = applied_line id
-reply_text (Dropped id by) = dropped_line id by
-reply_text (Reworked id count) = reworked_line id count
+reply_text (Applied id op) = applied_line id op
+reply_text (Dropped id by op) = dropped_line id by op
+reply_text (Reworked id count op) = reworked_line id count op
 reply_text (Backdated id clock sure) = backdated_line id clock sure
 reply_text (BadFrame fault) = bad_frame_line fault
 reply_text (NotTaken fault) = not_taken_line fault

@@ -5,9 +5,9 @@ use Rattle.gd_base.specs.Stamps.{Stamp}
 use Rattle.gd_effects.specs.Crashes.{Adds, AddsTorn, Stands}
 use Rattle.gd_events.specs.Events.{EventValue}
 use Rattle.gd_grammar.specs.Closing.{gate_place}
-use Rattle.gd_grammar.specs.Kinds.{LogKind, FitsIn}
+use Rattle.gd_grammar.specs.Kinds.{LogKind, FitsIn, spelling}
 use Rattle.gd_grammar.specs.HeaderBytes.{Header, IsHeader}
-use Rattle.gd_grammar.specs.LogBytes.{LogMisread, left_of, turn_fault}
+use Rattle.gd_grammar.specs.LogBytes.{LogMisread, gated_bytes, left_of, turn_fault}
 use Rattle.gd_grammar.specs.Versions.{has_version}
 use Rattle.gd_outside.specs.Seen.{SeenJournal}
 
@@ -38,12 +38,18 @@ abbrev pub IsStanding : {O : Type 0} → LogKind O → ℕ → SeenJournal → T
 IsStanding {O} kind place journal =
     (h : Header) × (events : List (EventValue O)) × Stands kind h events journal × (place ≡ gate_place kind events)
 
--- The event was added to whatever log of this kind stood in the journal before, where it obeys that log's rules.
-abbrev pub AddsEvent : {O : Type 0} → (Stamp → O → Type 0) → LogKind O → EventValue O → SeenJournal → SeenJournal → Type 0
-AddsEvent {O} IsOp kind e old new = (h : Header) (events : List (EventValue O))
-    → IsRuled IsOp kind h (events ++ e ∷ []) → Stands kind h events old → Adds kind h events (e ∷ []) old new
+-- These events, one or more, were added together to whatever log of this kind stood in the journal before, where they obey that
+-- log's rules.
+abbrev pub AddsEvents : {O : Type 0} → (Stamp → O → Type 0) → LogKind O → List (EventValue O) → SeenJournal → SeenJournal → Type 0
+AddsEvents {O} IsOp kind es old new = (h : Header) (events : List (EventValue O))
+    → IsRuled IsOp kind h (events ++ es) → Stands kind h events old → Adds kind h events (es ∷ []) old new
 
--- The same, but it may have been added or not.
-abbrev pub MayAddEvent : {O : Type 0} → (Stamp → O → Type 0) → LogKind O → EventValue O → SeenJournal → SeenJournal → Type 0
-MayAddEvent {O} IsOp kind e old new = (h : Header) (events : List (EventValue O))
-    → IsRuled IsOp kind h (events ++ e ∷ []) → Stands kind h events old → AddsTorn kind h events [] (e ∷ []) old new
+-- The same, but they may have been added, all of them, or not.
+abbrev pub MayAddEvents : {O : Type 0} → (Stamp → O → Type 0) → LogKind O → List (EventValue O) → SeenJournal → SeenJournal → Type 0
+MayAddEvents {O} IsOp kind es old new = (h : Header) (events : List (EventValue O))
+    → IsRuled IsOp kind h (events ++ es) → Stands kind h events old → AddsTorn kind h events [] (es ∷ []) old new
+
+-- The piece that is put behind the closing gate of a log: the first event, the others, each behind an open gate, and a closed
+-- gate. Once that closing gate is opened, all of them are events of the log.
+abbrev pub IsPiece : {O : Type 0} → LogKind O → EventValue O → List (EventValue O) → List ℕ → Type 0
+IsPiece kind e es piece = piece ≡ (spelling kind e ++ gated_bytes kind es) ++ 0 ∷ []

@@ -12,7 +12,7 @@ mod turns;
 mod writer;
 
 pub use log::{ReadError, WholeLog, read_log, read_log_of, read_whole_of};
-pub use pieces::{CLOSED, gated_of};
+pub use pieces::{CLOSED, Records, gated_of};
 pub use reader::{KindReader, LogReader};
 pub use stopped::{LogFault, Stopped};
-pub use writer::{KindWriter, LogWriter};
+pub use writer::{AppendFault, KindWriter, LogWriter};

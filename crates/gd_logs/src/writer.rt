@@ -1,30 +1,43 @@
 //! Writing a log.
 
-ghost use Rattle.std.specs.Prelude.{◌≡◌, ◌+◌, ◌^◌, ◌<◌, ◌≤◌, [], ◌∷◌, ◌++◌, length};
-ghost use Rattle.std.specs.Prelude.{IfOk, IsErr, IsSome, OnOk, OnErr};
+ghost use Rattle.std.specs.Prelude.{◌≡◌, ◌+◌, ◌*◌, ◌^◌, ◌<◌, ◌≤◌, [], ◌∷◌, ◌++◌, length, List};
+ghost use Rattle.std.specs.Prelude.{Err, IfOk, IsErr, IsSome, OnOk, OnErr};
+ghost use Rattle.gd_events.specs.Events.{EventValue};
 ghost use Rattle.gd_effects.specs.Crashes.{Stands};
 ghost use Rattle.gd_grammar.specs.Closing.{gate_place};
 ghost use Rattle.gd_grammar.specs.HeaderBytes.{IsHeader};
 ghost use Rattle.gd_grammar.specs.Kinds.{spelling};
-ghost use Rattle.gd_grammar.specs.LogBytes.{gate, logged};
+ghost use Rattle.gd_grammar.specs.LogBytes.{gate, gated_bytes, logged};
 ghost use Rattle.gd_outside.specs.Called.{JournalCalled};
-ghost use Rattle.gd_outside.specs.Disk.{Kept, Written, goes_on};
+ghost use Rattle.gd_outside.specs.Disk.{Kept, Written, clock, goes_on};
 ghost use Rattle.gd_outside.specs.Journals.{put_at, MayWrite};
 ghost use Rattle.gd_outside.specs.Told.{told, Stays};
 ghost use Rattle.gd_logs.specs.declared.pieces.TheConstants.{RECORD};
-ghost use Rattle.gd_logs.specs.Written.{AddsEvent, IsStanding, MayAddEvent};
+ghost use Rattle.gd_logs.specs.Written.{AddsEvents, IsPiece, IsStanding, MayAddEvents};
 
-use crate::pieces::{GATE, head_of, record_of};
+use crate::pieces::{GATE, Records, behind_gate, head_of, record_of};
 use gd_events::Event;
 use gd_grammar::HEADER_BYTES;
 use gd_outside::{Failed, Journal};
 use gd_wire::{Drawings, LogHeader, LogKind};
 use std::marker::{Model, PhantomData};
+use thiserror::Error;
+
+/// Why events weren't added.
+#[derive(Clone, Copy, Debug, PartialEq, Eq, Error)]
+pub enum AppendFault {
+    #[error("out of memory")]
+    Memory,
+    /// A call on the journal failed.
+    #[error("the journal failed")]
+    Journal,
+}
 
 /// Writes a log of a drawing.
 pub type LogWriter = KindWriter<Drawings>;
 
-/// Writes a log of some kind into a journal, one event after another, in the kind's newest version. Contracts see the place of the log's closing gate.
+/// Writes a log of some kind into a journal, one event after another or several together, in the kind's newest version. Contracts see
+/// the place of the log's closing gate.
 #[derive(Drop)]
 pub struct KindWriter<K: LogKind> {
     place: u64,
@@ -80,8 +93,7 @@ impl<K: LogKind> KindWriter<K> {
         }
     }
 
-    /// Adds an event to the log: first its bytes and a closed gate behind the closing one, which is opened then. What stood
-    /// behind the closing gate is written over, or stays behind the new one.
+    /// Adds an event to the log.
     ///
     /// Fails only where the journal's count of faults rises. A log that obeyed the rules then reads as before, or with
     /// the new event, and the place is as it was. So reads what a crash leaves at any moment of the call.
@@ -96,21 +108,94 @@ impl<K: LogKind> KindWriter<K> {
         ensures added { OnOk result (IsSome (J.seen journal.new).contents
             → told (J.seen journal.new).contents
             ≡ put_at (told (J.seen journal.old).contents) self.old
-            (gate ∷ spelling K.kind event.now ++ 0 ∷ [])) }
+            (gated_bytes K.kind (event.now ∷ []) ++ 0 ∷ [])) }
         ensures adds { OnOk result (IsSome (J.seen journal.new).contents
-            → AddsEvent K.Op.IsOp K.kind event.now (J.seen journal.old) (J.seen journal.new)) }
+            → AddsEvents K.Op.IsOp K.kind (event.now ∷ []) (J.seen journal.old) (J.seen journal.new)) }
         ensures torn { OnErr result (IsSome (J.seen journal.new).contents
-            → MayAddEvent K.Op.IsOp K.kind event.now (J.seen journal.old) (J.seen journal.new)) }
+            → MayAddEvents K.Op.IsOp K.kind (event.now ∷ []) (J.seen journal.old) (J.seen journal.new)) }
         ensures place { OnOk result (self.new ≡ self.old + 1 + length (spelling K.kind event.now)) }
         ensures few { OnOk result (self.new ≤ self.old + RECORD) }
         ensures err { OnErr result (self.new ≡ self.old) }
+        ensures calls { OnOk result (IsSome (J.seen journal.new).contents
+            → clock (J.seen journal.new).disk ≡ clock (J.seen journal.old).disk + 4) }
         ensures name { Stays (J.seen journal.old).name (J.seen journal.new).name }
         ensures called { JournalCalled (J.seen journal.old) (J.seen journal.new) (IsErr result) }
     {
         let record = record_of::<K>(event);
-        put(journal, self.place + 1, record.as_slice())?;
+        self.put_behind(journal, record.as_slice())
+    }
+
+    /// Adds several events to the log, behind one gate: first all of their bytes, the gates between them open, and a closed gate,
+    /// behind the closing one, and a sync; and then that one is opened, and a sync. What stood behind the closing gate is written
+    /// over, or stays behind the new one.
+    ///
+    /// `Memory` where memory ran out, and then nothing was done. `Journal` where a call on the journal failed, which is only
+    /// where its count of faults rises. A log that obeyed the rules then reads as before, or with all of the new events, and the
+    /// place is as it was. So reads what a crash leaves at any moment of the call.
+    pub fn append_all<J: Journal>(
+        &mut self,
+        journal: &mut J,
+        records: Records<K>,
+    ) -> Result<(), AppendFault>
+        requires room { self.old ≤ 2 ^ 62 }
+        requires some { 1 ≤ length records }
+        requires log { IsSome (J.seen journal.old).contents
+            → IsStanding K.kind self.old (J.seen journal.old) }
+        ensures added { OnOk result (IsSome (J.seen journal.new).contents
+            → (events : List (EventValue K.Op)) → records ≡ gated_bytes K.kind events
+            → told (J.seen journal.new).contents
+            ≡ put_at (told (J.seen journal.old).contents) self.old
+            (gated_bytes K.kind events ++ 0 ∷ [])) }
+        ensures adds { OnOk result (IsSome (J.seen journal.new).contents
+            → (events : List (EventValue K.Op)) → records ≡ gated_bytes K.kind events
+            → AddsEvents K.Op.IsOp K.kind events (J.seen journal.old) (J.seen journal.new)) }
+        ensures torn { result ≡ Err AppendFault.Journal → IsSome (J.seen journal.new).contents
+            → (events : List (EventValue K.Op)) → records ≡ gated_bytes K.kind events
+            → MayAddEvents K.Op.IsOp K.kind events (J.seen journal.old) (J.seen journal.new) }
+        ensures memory { result ≡ Err AppendFault.Memory → J.seen journal.new ≡ J.seen journal.old }
+        ensures place { OnOk result (self.new ≡ self.old + length records) }
+        ensures err { OnErr result (self.new ≡ self.old) }
+        ensures calls { OnOk result (IsSome (J.seen journal.new).contents
+            → clock (J.seen journal.new).disk ≡ clock (J.seen journal.old).disk + 4) }
+        ensures name { Stays (J.seen journal.old).name (J.seen journal.new).name }
+        ensures called { JournalCalled (J.seen journal.old) (J.seen journal.new)
+            (result ≡ Err AppendFault.Journal) }
+    {
+        let Ok(bytes) = records.closed() else {
+            return Err(AppendFault::Memory);
+        };
+        match self.put_behind(journal, behind_gate(bytes.as_slice())) {
+            Ok(()) => Ok(()),
+            Err(_) => Err(AppendFault::Journal),
+        }
+    }
+
+    /// Puts a piece of events behind the log's closing gate, which is opened then.
+    fn put_behind<J: Journal>(&mut self, journal: &mut J, piece: &[u8]) -> Result<(), Failed>
+        requires room { self.old ≤ 2 ^ 62 }
+        requires log { IsSome (J.seen journal.old).contents
+            → IsStanding K.kind self.old (J.seen journal.old) }
+        ensures added { OnOk result (IsSome (J.seen journal.new).contents
+            → (e : EventValue K.Op) (es : List (EventValue K.Op)) → IsPiece K.kind e es piece.now
+            → told (J.seen journal.new).contents
+            ≡ put_at (told (J.seen journal.old).contents) self.old
+            (gated_bytes K.kind (e ∷ es) ++ 0 ∷ [])) }
+        ensures adds { OnOk result (IsSome (J.seen journal.new).contents
+            → (e : EventValue K.Op) (es : List (EventValue K.Op)) → IsPiece K.kind e es piece.now
+            → AddsEvents K.Op.IsOp K.kind (e ∷ es) (J.seen journal.old) (J.seen journal.new)) }
+        ensures torn { OnErr result (IsSome (J.seen journal.new).contents
+            → (e : EventValue K.Op) (es : List (EventValue K.Op)) → IsPiece K.kind e es piece.now
+            → MayAddEvents K.Op.IsOp K.kind (e ∷ es) (J.seen journal.old) (J.seen journal.new)) }
+        ensures place { OnOk result (self.new ≡ self.old + length piece.now) }
+        ensures err { OnErr result (self.new ≡ self.old) }
+        ensures calls { OnOk result (IsSome (J.seen journal.new).contents
+            → clock (J.seen journal.new).disk ≡ clock (J.seen journal.old).disk + 4) }
+        ensures name { Stays (J.seen journal.old).name (J.seen journal.new).name }
+        ensures called { JournalCalled (J.seen journal.old) (J.seen journal.new) (IsErr result) }
+    {
+        put(journal, self.place + 1, piece)?;
         put(journal, self.place, &[GATE])?;
-        self.place += record.len() as u64;
+        self.place += piece.len() as u64;
         Ok(())
     }
 

@@ -1,48 +1,36 @@
 -- The logs in a node's journal are kept, whatever the input and the link tell; and what it holds then.
-use Rattle.std.proofs.Common.{ℕ, List, [], ◌∷◌, Option, Some, None, refl, sym, ◌∙◌, ap, append-nil}
+use Rattle.std.proofs.Common.{ℕ, List, [], ◌∷◌, ◌++◌, map, refl, sym, ◌∙◌, ap, append-nil}
 use Rattle.std.specs.Prelude.{IsSome, Ok, Result}
-use Rattle.gd_base.specs.declared.offer.Offer.{Offer}
-use Rattle.gd_base.specs.declared.offer.Offer.TheVariants.{Next}
-use Rattle.gd_base.specs.declared.refusal.FrameFault.{FrameFault}
 use Rattle.gd_dialogue.proofs.Keeping.{keeps_done}
 use Rattle.gd_dialogue.specs.Keeping.{HoldsLog, IsLogFrom, KeepsLogs}
-use Rattle.gd_effects.proofs.Crashing.{no_head_both}
 use Rattle.gd_effects.proofs.RunEnds.{idle_link, idle_source}
 use Rattle.gd_effects.specs.Crashes.{Stands}
 use Rattle.gd_effects.specs.Done.{Does, HasNoHead}
-use Rattle.gd_effects.specs.Effects.{Effect}
+use Rattle.gd_effects.specs.Effects.{Effect, Print}
 use Rattle.gd_effects.specs.Outside.{outside}
 use Rattle.gd_events.specs.Events.{Event}
 use Rattle.gd_grammar.specs.Closing.{Closes}
 use Rattle.gd_grammar.specs.Drawings.{drawings}
-use Rattle.gd_grammar.specs.FrameBytes.{Frame}
 use Rattle.gd_grammar.specs.HeaderBytes.{Header}
+use Rattle.gd_lines.specs.Replies.{reply_text}
+use Rattle.gd_lines.specs.declared.reply.Reply.{Reply}
 use Rattle.gd_node.specs.Serving.{Holds}
 use Rattle.gd_outside.specs.Seen.{SeenSink, SeenJournal}
 use Rattle.gd_outside.specs.Told.{told}
 use Rattle.gd_outside.specs.declared.end.End.{End}
-use Rattle.gd_reference.specs.Offers.{arrived, offer, refusal}
-use Rattle.gd_reference.specs.SiteEffects.{of_event, of_events, of_frame, of_offer, unless_refused_of}
-use Rattle.gd_reference.specs.SlowSite.{SlowSite}
+use Rattle.gd_reference.specs.Said.{all_said}
+use Rattle.gd_reference.specs.SiteEffects.{recording}
 
--- ---- a frame begins no journal
+-- ---- what begins no journal
 
-no_head_offer : (slow : SlowSite) (e : Event) (o : Offer) → HasNoHead (of_offer slow e o)
-no_head_offer slow e Next = tt
-no_head_offer slow e o = tt
+no_head_said : (lines : List (List ℕ)) → HasNoHead (map Print lines)
+no_head_said [] = tt
+no_head_said (line ∷ lines) = no_head_said lines
 
-no_head_events : (slow : SlowSite) (es : List Event) → HasNoHead (of_events slow es)
-unfolding of_events
-no_head_events slow [] = tt
-no_head_events slow (e ∷ es) =
-    no_head_both (of_event slow e) (of_events (arrived slow e) es) (no_head_offer slow e (offer slow e)) (no_head_events (arrived slow e) es)
-
-pub no_head_frame : (slow : SlowSite) (f : Frame) → HasNoHead (of_frame slow f)
-no_head_frame slow f = go (refusal slow f)
-  where
-    go : (why : Option FrameFault) → HasNoHead (unless_refused_of slow f why)
-    go None = no_head_events slow f.events
-    go (Some why) = tt
+-- what is recorded and said together
+pub no_head_noted : (place : ℕ) (es : List Event) (replies : List Reply) → HasNoHead (recording place es ++ all_said replies)
+no_head_noted place [] replies = no_head_said (map reply_text replies)
+no_head_noted place (e ∷ es) replies = no_head_said (map reply_text replies)
 
 -- ---- what is kept
 

@@ -1,5 +1,6 @@
 //! The log in a node's journal.
 
+ghost use Rattle.std.specs.List.{flat_map};
 ghost use Rattle.std.specs.Prelude.{◌≡◌, ℕ, ◌≤◌, [], ◌∷◌, ◌++◌, Err, List, IfOk, OnErr, OnOk, IsSome, length};
 ghost use Rattle.gd_base.specs.declared.ranges.TheConstants.{SESSION_EVENTS};
 ghost use Rattle.gd_base.specs.declared.version.Version.TheVariants as version;
@@ -11,18 +12,22 @@ ghost use Rattle.gd_events.specs.Sound.{IsOp};
 ghost use Rattle.gd_grammar.specs.Closing.{gate_place};
 ghost use Rattle.gd_grammar.specs.Drawings.{drawings};
 ghost use Rattle.gd_grammar.specs.HeaderBytes.{Header, header_bytes};
+ghost use Rattle.gd_grammar.specs.LogBytes.{gated_bytes};
+ghost use Rattle.gd_lines.specs.Replies.{reply_text};
+ghost use Rattle.gd_lines.specs.declared.reply.Reply.{Reply as ReplyValue};
 ghost use Rattle.gd_logs.specs.Written.{IsRuled};
 ghost use Rattle.gd_node.specs.Calls.{Writes};
 ghost use Rattle.gd_node.specs.Meeting.{HasLog};
 ghost use Rattle.gd_outside.specs.Seen.{SeenSource, SeenLink};
 ghost use Rattle.gd_outside.specs.Told.{told, Stays};
-ghost use Rattle.gd_reference.specs.Said.{says};
+ghost use Rattle.gd_reference.specs.Said.{all_said, says};
+ghost use Rattle.gd_reference.specs.SiteEffects.{recording};
 
-use gd_answers::say;
+use gd_answers::{Said, say};
 use gd_events::Event;
-use gd_logs::LogWriter;
+use gd_logs::{AppendFault, LogWriter, Records};
 use gd_outside::{End, Journal, Sink};
-use gd_wire::LogHeader;
+use gd_wire::{Drawings, LogHeader};
 use gd_words::Reply;
 
 /// Begins a journal of that name with the log of this header. `JournalFault` where a call on the journal failed; no other
@@ -46,7 +51,7 @@ pub(crate) fn start_log<J: Journal>(
     }
 }
 
-/// Adds an event to the log. `JournalFault` where a call on the journal failed; no other end comes.
+/// Adds an event to the log. It takes no memory for that. `JournalFault` where a call on the journal failed; no other end comes.
 pub(crate) fn record<J: Journal>(
     log: &mut LogWriter,
     journal: &mut J,
@@ -57,7 +62,7 @@ pub(crate) fn record<J: Journal>(
     ensures does { (header : Header) (events : List EventValue)
         → IsRuled IsOp drawings header (events ++ event.now ∷ [])
         → HasLog header events log.old (J.seen journal.old)
-        → Writes (J.seen journal.old) (Record (gate_place drawings events) event.now ∷ [])
+        → Writes (J.seen journal.old) (Record (gate_place drawings events) (event.now ∷ []) ∷ [])
         result (J.seen journal.new) }
     ensures log { OnOk result ((header : Header) (events : List EventValue)
         → IsRuled IsOp drawings header (events ++ event.now ∷ [])
@@ -68,6 +73,36 @@ pub(crate) fn record<J: Journal>(
     match log.append(journal, event) {
         Ok(()) => Ok(()),
         Err(_) => Err(End::JournalFault),
+    }
+}
+
+/// Adds several events to the log, behind one gate, if there are any. `NoMemory` where memory ran out, and then nothing was
+/// done; `JournalFault` where a call on the journal failed; no other end comes.
+fn record_all<J: Journal>(
+    log: &mut LogWriter,
+    journal: &mut J,
+    records: Records<Drawings>,
+) -> Result<(), End>
+    requires { (header : Header) × (events : List EventValue)
+        × (length events ≤ SESSION_EVENTS) × HasLog header events log.old (J.seen journal.old) }
+    ensures does { (header : Header) (events es : List EventValue)
+        → records ≡ gated_bytes drawings es → IsRuled IsOp drawings header (events ++ es)
+        → HasLog header events log.old (J.seen journal.old)
+        → Writes (J.seen journal.old) (recording (gate_place drawings events) es)
+        result (J.seen journal.new) }
+    ensures log { OnOk result ((header : Header) (events es : List EventValue)
+        → records ≡ gated_bytes drawings es → IsRuled IsOp drawings header (events ++ es)
+        → HasLog header events log.old (J.seen journal.old)
+        → HasLog header (events ++ es) log.new (J.seen journal.new)) }
+    ensures name { Stays (J.seen journal.old).name (J.seen journal.new).name }
+{
+    if records.is_empty() {
+        return Ok(());
+    }
+    match log.append_all(journal, records) {
+        Ok(()) => Ok(()),
+        Err(AppendFault::Memory) => Err(End::NoMemory),
+        Err(AppendFault::Journal) => Err(End::JournalFault),
     }
 }
 
@@ -86,7 +121,7 @@ pub(crate) fn record_and_say<K: Sink, J: Journal>(
         → HasLog header events log.old (J.seen journal.old)
         → (input : SeenSource) (link : SeenLink) (steps : ℕ) → Does result
         (outside input (K.seen output.old) (J.seen journal.old) link steps)
-        (Record (gate_place drawings events) event.now ∷ says reply.now ∷ [])
+        (Record (gate_place drawings events) (event.now ∷ []) ∷ says reply.now ∷ [])
         (outside input (K.seen output.new) (J.seen journal.new) link steps) }
     ensures log { OnOk result ((header : Header) (events : List EventValue)
         → IsRuled IsOp drawings header (events ++ event.now ∷ [])
@@ -96,4 +131,32 @@ pub(crate) fn record_and_say<K: Sink, J: Journal>(
 {
     record(log, journal, event)?;
     say(reply, output)
+}
+
+/// Adds several events to the log, behind one gate, if there are any, and then prints what is said.
+pub(crate) fn record_all_and_say<K: Sink, J: Journal>(
+    log: &mut LogWriter,
+    records: Records<Drawings>,
+    said: &Said,
+    output: &mut K,
+    journal: &mut J,
+) -> Result<(), End>
+    requires { (header : Header) × (events : List EventValue)
+        × (length events ≤ SESSION_EVENTS) × HasLog header events log.old (J.seen journal.old) }
+    ensures does { (header : Header) (events es : List EventValue) (replies : List ReplyValue)
+        → records ≡ gated_bytes drawings es → said.now ≡ flat_map reply_text replies
+        → IsRuled IsOp drawings header (events ++ es)
+        → HasLog header events log.old (J.seen journal.old)
+        → (input : SeenSource) (link : SeenLink) (steps : ℕ) → Does result
+        (outside input (K.seen output.old) (J.seen journal.old) link steps)
+        (recording (gate_place drawings events) es ++ all_said replies)
+        (outside input (K.seen output.new) (J.seen journal.new) link steps) }
+    ensures log { OnOk result ((header : Header) (events es : List EventValue)
+        → records ≡ gated_bytes drawings es → IsRuled IsOp drawings header (events ++ es)
+        → HasLog header events log.old (J.seen journal.old)
+        → HasLog header (events ++ es) log.new (J.seen journal.new)) }
+    ensures name { Stays (J.seen journal.old).name (J.seen journal.new).name }
+{
+    record_all(log, journal, records)?;
+    said.print(output)
 }

@@ -1,8 +1,8 @@
 -- Undo and redo by what the drawing finds. What takes an event back is read off a board, which is a map: no
 -- definition sees into that, so nothing that an undo does computes. The drawing of the same events finds the same at
--- each id, and computes. So the site after an edit, an undo or a redo is defined here once more, by the drawing, with
+-- each id, and computes. So the site after a gesture, an undo or a redo is defined here once more, by the drawing, with
 -- each run that has such; and each is the same.
-use Rattle.std.proofs.Common.{◌≡◌, ℕ, List, [], ◌∷◌, Result, Ok, Err, refl, sym, ap, ◌∙◌}
+use Rattle.std.proofs.Common.{◌≡◌, ℕ, List, [], ◌∷◌, Result, Ok, Err, refl, sym, ap, ap₂, ◌∙◌}
 use Rattle.std.specs.Prelude.{⊤, ◌+◌, ◌++◌, ◌/◌, length, fold, Option, None, Some, unwrap_or, if◌then◌else◌}
 use Rattle.gd_base.specs.Sites.{is_site}
 use Rattle.gd_base.specs.Stamps.{Stamp}
@@ -21,12 +21,12 @@ use Rattle.gd_model.specs.Drawing.{Drawing, find, picture}
 use Rattle.gd_model.specs.Forms.{form}
 use Rattle.gd_model.specs.Undoing.{Lookup, before_by}
 use Rattle.gd_outside.specs.Seen.{Entry}
-use Rattle.gd_reference.specs.Backs.{Backs, with_edit, with_turn}
+use Rattle.gd_reference.specs.Backs.{Backs, with_gesture, with_turn}
 use Rattle.gd_reference.specs.Dialogues.{Manner, answered, state_after}
 use Rattle.gd_reference.specs.Judging.{edit, with_event}
-use Rattle.gd_reference.specs.NodeRun.{HeardLine, ReadLine, after_command, answers, node_manner}
+use Rattle.gd_reference.specs.NodeRun.{HeardLine, NodeState, ReadLine, after_command, after_line_alone, after_line_of, after_line_within, answers, at_rest, in_gesture, node_manner, site_after, with_waiting}
 use Rattle.gd_reference.specs.SlowSite.{SlowSite}
-use Rattle.gd_reference.specs.TakeBack.{after_edit, after_turn, turn, with_back}
+use Rattle.gd_reference.specs.TakeBack.{Asked, BackRefusal, after_edit, after_gesture, after_turn, backs_of, events_in, made, turn, with_events, with_made, with_turned}
 use Rattle.gd_reference.specs.World.{Line, Edits, Focuses, Names, Prints, Turns, Step, At, Deliver, Restart, Send, Unfinished, Editing, Nothing, Taking, Turning, World, after_from, after_line, after_unfinished, happens, restarted, start, with_site}
 use Rattle.gd_worlds.specs.Churn.{Churning, churned, ids_made, new_churning, rounded, step, stepped, times, with_drawn, with_idle, with_line, with_reply}
 use Rattle.gd_worlds.specs.Rehearsal.{HeardScript, ReadScript, after_script, rehearsal_effects, rehearsal_manner, script_replies, script_work, told_by}
@@ -43,31 +43,56 @@ back-drawn stamp op held =
     ap (λ (look : Lookup). op_of (unwrap_or (before_by (form stamp op) look) (form stamp op)))
     (λ i. λ id. sym (find-picture held id) i)
 
-unfoldable pub with_drawn_back : {Why : Type 0} → SlowSite → Result Event Why → (Op → Backs → Backs) → SlowSite
-with_drawn_back slow (Ok e) keep =
-    record (with_event slow e) { backs = keep (back_drawn e.stamp e.op (picture slow.held)) slow.backs }
-with_drawn_back slow (Err why) keep = slow
+unfoldable pub backs_drawn : SlowSite → List Event → List Op
+backs_drawn slow [] = []
+backs_drawn slow (e ∷ es) = backs_drawn (with_event slow e) es ++ back_drawn e.stamp e.op (picture slow.held) ∷ []
 
-with-back : {Why : Type 0} (slow : SlowSite) (r : Result Event Why) (keep : Op → Backs → Backs)
-    → with_back slow r keep ≡ with_drawn_back slow r keep
-unfolding with_drawn_back
-with-back slow (Ok e) keep =
-    ap (λ (b : Op). record (with_event slow e) { backs = keep b slow.backs }) (back-drawn e.stamp e.op slow.held)
-with-back slow (Err why) keep = refl
+backs-drawn : (slow : SlowSite) (es : List Event) → backs_of slow es ≡ backs_drawn slow es
+unfolding backs_of backs_drawn
+backs-drawn slow [] = refl
+backs-drawn slow (e ∷ es) =
+    ap₂ (λ (ops : List Op) (op : Op). ops ++ op ∷ []) (backs-drawn (with_event slow e) es)
+    (back-drawn e.stamp e.op slow.held)
+
+unfoldable pub made_drawn : SlowSite → List Event → (List Op → Backs → Backs) → SlowSite
+made_drawn slow es keep = record (with_events slow es) { backs = keep (backs_drawn slow es) slow.backs }
+
+made-drawn : (slow : SlowSite) (es : List Event) (keep : List Op → Backs → Backs)
+    → with_made slow es keep ≡ made_drawn slow es keep
+unfolding made_drawn
+made-drawn slow es keep =
+    ap (λ (ops : List Op). record (with_events slow es) { backs = keep ops slow.backs }) (backs-drawn slow es)
 
 unfoldable pub edit_drawn : SlowSite → Edit → SlowSite
-edit_drawn slow wanted = with_drawn_back slow (edit slow wanted) with_edit
+edit_drawn slow wanted = made_drawn slow (events_in (edit slow wanted)) with_gesture
 
 pub edit-drawn : (slow : SlowSite) (wanted : Edit) → after_edit slow wanted ≡ edit_drawn slow wanted
 unfolding after_edit edit_drawn
-edit-drawn slow wanted = with-back slow (edit slow wanted) with_edit
+edit-drawn slow wanted = made-drawn slow (events_in (edit slow wanted)) with_gesture
+
+unfoldable pub gesture_drawn : SlowSite → List Asked → SlowSite
+gesture_drawn slow asked = made_drawn slow (made slow asked) with_gesture
+
+gesture-drawn : (slow : SlowSite) (asked : List Asked) → after_gesture slow asked ≡ gesture_drawn slow asked
+unfolding after_gesture gesture_drawn
+gesture-drawn slow asked = made-drawn slow (made slow asked) with_gesture
+
+unfoldable pub turn_drawn_by : SlowSite → Turn → Result (List Event) BackRefusal → SlowSite
+turn_drawn_by slow which (Ok es) = made_drawn slow es (with_turn which)
+turn_drawn_by slow which (Err why) = slow
+
+turn-drawn-by : (slow : SlowSite) (which : Turn) (r : Result (List Event) BackRefusal)
+    → with_turned slow which r ≡ turn_drawn_by slow which r
+unfolding turn_drawn_by
+turn-drawn-by slow which (Ok es) = made-drawn slow es (with_turn which)
+turn-drawn-by slow which (Err why) = refl
 
 unfoldable pub turn_drawn : SlowSite → Turn → SlowSite
-turn_drawn slow which = with_drawn_back slow (turn slow which) (with_turn which)
+turn_drawn slow which = turn_drawn_by slow which (turn slow which)
 
 pub turn-drawn : (slow : SlowSite) (which : Turn) → after_turn slow which ≡ turn_drawn slow which
 unfolding after_turn turn_drawn
-turn-drawn slow which = with-back slow (turn slow which) (with_turn which)
+turn-drawn slow which = turn-drawn-by slow which (turn slow which)
 
 unfoldable pub line_drawn : SlowSite → Line → SlowSite
 line_drawn slow (Edits wanted) = edit_drawn slow wanted
@@ -96,6 +121,8 @@ command_drawn slow entries (Ok command.Status) = slow
 command_drawn slow entries (Ok (command.Focus focus)) = after_line slow (Focuses focus)
 command_drawn slow entries (Ok (command.Name name)) = after_line slow (Names name)
 command_drawn slow entries (Ok command.Who) = slow
+command_drawn slow entries (Ok command.Begin) = slow
+command_drawn slow entries (Ok command.End) = slow
 command_drawn slow entries (Ok command.Quit) = slow
 command_drawn slow entries (Err fault) = slow
 
@@ -111,31 +138,63 @@ command-drawn slow entries (Ok command.Status) = refl
 command-drawn slow entries (Ok (command.Focus focus)) = refl
 command-drawn slow entries (Ok (command.Name name)) = refl
 command-drawn slow entries (Ok command.Who) = refl
+command-drawn slow entries (Ok command.Begin) = refl
+command-drawn slow entries (Ok command.End) = refl
 command-drawn slow entries (Ok command.Quit) = refl
 command-drawn slow entries (Err fault) = refl
 
-unfoldable pub node_drawn : Manner ReadLine SlowSite
-node_drawn = record node_manner { state = command_drawn }
+unfoldable pub alone_drawn : SlowSite → List Entry → ReadLine → NodeState
+alone_drawn slow entries (Ok command.Begin) = in_gesture slow []
+alone_drawn slow entries line = at_rest (command_drawn slow entries line)
+
+alone-drawn : (slow : SlowSite) (entries : List Entry) (line : ReadLine)
+    → after_line_alone slow entries line ≡ alone_drawn slow entries line
+unfolding alone_drawn
+alone-drawn slow entries (Ok command.Begin) = refl
+alone-drawn slow entries line = ap at_rest (command-drawn slow entries line)
+
+unfoldable pub within_drawn : SlowSite → List Asked → ReadLine → NodeState
+within_drawn slow asked (Ok command.End) = at_rest (gesture_drawn slow asked)
+within_drawn slow asked line = in_gesture slow (with_waiting asked line)
+
+within-drawn : (slow : SlowSite) (asked : List Asked) (line : ReadLine)
+    → after_line_within slow asked line ≡ within_drawn slow asked line
+unfolding within_drawn
+within-drawn slow asked (Ok command.End) = ap at_rest (gesture-drawn slow asked)
+within-drawn slow asked line = refl
+
+unfoldable pub state_drawn : SlowSite → Option (List Asked) → List Entry → ReadLine → NodeState
+state_drawn slow None entries line = alone_drawn slow entries line
+state_drawn slow (Some asked) entries line = within_drawn slow asked line
+
+state-drawn : (slow : SlowSite) (waiting : Option (List Asked)) (entries : List Entry) (line : ReadLine)
+    → after_line_of slow waiting entries line ≡ state_drawn slow waiting entries line
+unfolding state_drawn
+state-drawn slow None entries line = alone-drawn slow entries line
+state-drawn slow (Some asked) entries line = within-drawn slow asked line
+
+unfoldable pub node_drawn : Manner ReadLine NodeState
+node_drawn = record node_manner { state = λ state entries line. state_drawn state.site state.waiting entries line }
 
 manner-drawn : node_manner ≡ node_drawn
 unfolding node_drawn
-manner-drawn = λ i. record node_manner { state = λ slow entries line. command-drawn slow entries line i }
+manner-drawn =
+    λ i. record node_manner { state = λ state entries line. state-drawn state.site state.waiting entries line i }
 
 -- what a node's lines do, and the site behind them, of a site alone without entries
 unfoldable pub answers_drawn : SlowSite → List HeardLine → List Effect
-answers_drawn slow lines = answered node_drawn slow [] lines
+answers_drawn slow lines = answered node_drawn (at_rest slow) [] lines
 
 pub answers-drawn : (slow : SlowSite) (lines : List HeardLine) → answers slow [] lines ≡ answers_drawn slow lines
 unfolding answers_drawn
-answers-drawn slow lines = ap (λ (m : Manner ReadLine SlowSite). answered m slow [] lines) manner-drawn
+answers-drawn slow lines = ap (λ (m : Manner ReadLine NodeState). answered m (at_rest slow) [] lines) manner-drawn
 
 unfoldable pub site_drawn : SlowSite → List HeardLine → SlowSite
-site_drawn slow lines = state_after node_drawn slow [] lines
+site_drawn slow lines = (state_after node_drawn (at_rest slow) [] lines).site
 
-pub site-drawn : (slow : SlowSite) (lines : List HeardLine)
-    → state_after node_manner slow [] lines ≡ site_drawn slow lines
+pub site-drawn : (slow : SlowSite) (lines : List HeardLine) → site_after slow [] lines ≡ site_drawn slow lines
 unfolding site_drawn
-site-drawn slow lines = ap (λ (m : Manner ReadLine SlowSite). state_after m slow [] lines) manner-drawn
+site-drawn slow lines = ap (λ (m : Manner ReadLine NodeState). (state_after m (at_rest slow) [] lines).site) manner-drawn
 
 -- ---- a world
 
@@ -263,5 +322,5 @@ all-churned seed steps = λ i. times (4 + steps / 8) rounded (times steps (λ c.
 -- ---- what computes
 
 unfoldable pub drawn_compute : ⊤
-unfolding back_drawn with_drawn_back edit_drawn turn_drawn line_drawn command_drawn node_drawn answers_drawn site_drawn unfinished_drawn step_drawn world_drawn script_drawn rehearsal_drawn rehearsed_drawn line_churned drawn_churned step_churned all_churned
+unfolding back_drawn backs_drawn made_drawn edit_drawn gesture_drawn turn_drawn_by turn_drawn line_drawn command_drawn alone_drawn within_drawn state_drawn node_drawn answers_drawn site_drawn unfinished_drawn step_drawn world_drawn script_drawn rehearsal_drawn rehearsed_drawn line_churned drawn_churned step_churned all_churned
 drawn_compute = tt

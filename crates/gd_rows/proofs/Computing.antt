@@ -25,6 +25,7 @@ use Rattle.gd_json.specs.Values.{put_field}
 use Rattle.gd_lines.specs.Edits as edits
 use Rattle.gd_lines.specs.LineWords.{behind, count_from, without_cr, word}
 use Rattle.gd_lines.specs.Lines as lines
+use Rattle.gd_lines.specs.OpText as ops
 use Rattle.gd_lines.specs.Reading.{then_at}
 use Rattle.gd_lines.specs.Replies.{applied_line, arrivals_line, backdated_line, bad_frame_line, churned_line, delivered_line, done_line, dropped_line, link_fault_line, mail_line, noted_line, polled_line, ready_line, refused_line, reworked_line, site_line, status_line, status_text, who_line}
 use Rattle.gd_lines.specs.Rows.{by_name}
@@ -43,9 +44,9 @@ use Rattle.gd_reference.specs.NodeRun.{node_lines, of_received, received, who_be
 use Rattle.gd_reference.specs.Offers.{all_arrived, frame_for, offered, offers, refusal, take_frame}
 use Rattle.gd_reference.specs.PerSite.{least_of_others, put}
 use Rattle.gd_reference.specs.Rejoin.{found}
-use Rattle.gd_reference.specs.SiteEffects.{events_replies, of_events, tries_behind}
+use Rattle.gd_reference.specs.SiteEffects.{asked_replies, events_replies, taken, tries_behind, works_of}
 use Rattle.gd_reference.specs.SlowSite.{greatest_clock, made_by, resumed}
-use Rattle.gd_reference.specs.TakeBack.{after_edit, after_turn, turn}
+use Rattle.gd_reference.specs.TakeBack.{after_edit, after_gesture, after_turn, backs_of, done, made, turn, with_events}
 use Rattle.gd_arrivals.specs.Tally.{tally_from}
 use Rattle.gd_reference.specs.World.{after_from, after_line, happens, with_site}
 use Rattle.gd_snapshots.specs.SnapshotBytes as snapshots
@@ -65,12 +66,12 @@ bytes_compute = tt
 
 -- lines that are typed, and lines that are printed
 unfoldable pub lines_compute : ⊤
-unfolding chars is_utf8 encode_utf8 digits behind count_from without_cr word then_at by_name edits.colour_at edits.create_words edits.delete_words edits.edit_rows edits.fill_at edits.fill_words edits.group_words edits.id_at edits.ids_at edits.kind_at edits.label_at edits.natural_at edits.place_at edits.place_words edits.set_words edits.size_at edits.size_words edits.stroke_words edits.text_words edits.width_at edits.width_words lines.asked_rows lines.command_rows lines.focus_at lines.focus_words lines.name_at lines.name_words lines.read event_json link_json rank_json tie_json item_json member_json put_field at_words deliver_words mail_at read_script script_rows send_words site_at applied_line arrivals_line backdated_line bad_frame_line done_line dropped_line link_fault_line noted_line polled_line ready_line refused_line reworked_line status_line status_text who_line bad_log_line bad_view_line colour_text colours_text end_line head_text hex_digit high_digits id_text item_line look_text nibble size_text width_text colour digit fill focus id kind label name natural_in number number_in numeral
+unfolding chars is_utf8 encode_utf8 digits ops.command_text ops.member_text ops.state_text ops.tie_text ops.two_text ops.whole_text behind count_from without_cr word then_at by_name edits.colour_at edits.create_words edits.delete_words edits.edit_rows edits.fill_at edits.fill_words edits.group_words edits.id_at edits.ids_at edits.kind_at edits.label_at edits.natural_at edits.place_at edits.place_words edits.set_words edits.size_at edits.size_words edits.stroke_words edits.text_words edits.width_at edits.width_words lines.asked_rows lines.command_rows lines.focus_at lines.focus_words lines.name_at lines.name_words lines.read event_json link_json rank_json tie_json item_json member_json put_field at_words deliver_words mail_at read_script script_rows send_words site_at applied_line arrivals_line backdated_line bad_frame_line done_line dropped_line link_fault_line noted_line polled_line ready_line refused_line reworked_line status_line status_text who_line bad_log_line bad_view_line colour_text colours_text end_line head_text hex_digit high_digits id_text item_line look_text nibble size_text width_text colour digit fill focus id kind label name natural_in number number_in numeral
 lines_compute = tt
 
 -- drawings, sites, worlds and runs
 unfoldable pub sites_compute : ⊤
-unfolding stamp_cmp level_cmp rank_cmp inserted_by covers independent splice are_apart by_id edit judged targets heard lines_of whole_lines answered end_of_lines state_after node_lines of_received received who_behind all_arrived frame_for offered offers refusal take_frame least_of_others put events_replies of_events tries_behind greatest_clock made_by resumed found tally_from after_edit after_turn turn apply back after_from after_line happens with_site
+unfolding stamp_cmp level_cmp rank_cmp inserted_by covers independent splice are_apart by_id edit judged targets heard lines_of whole_lines answered end_of_lines state_after node_lines of_received received who_behind all_arrived frame_for offered offers refusal take_frame least_of_others put asked_replies events_replies taken works_of tries_behind greatest_clock made_by resumed found tally_from after_edit after_gesture after_turn backs_of done made turn with_events apply back after_from after_line happens with_site
 sites_compute = tt
 
 -- rehearsals and churn

@@ -4,6 +4,7 @@ pub mod WorkedWorlds
 pub mod WorkedEdits
 pub mod WorkedNodes
 pub mod WorkedBacks
+pub mod WorkedGestures
 pub mod WorkedInputs
 pub mod WorkedRehearsals
 pub mod WorkedChurns

@@ -49,9 +49,13 @@ behind lines = site_after (new_site 1 1 7) [] lines
 abbrev pub prints : List HeardLine → List ℕ
 prints lines = printed (alone [] lines)
 
--- what there is to take back and to do again, the newest first
+-- what there is to take back and to do again, the newest gesture first
+abbrev pub gestures_of : List (List Op) → List (List Op) → Backs
+gestures_of undos redos = record { undos = undos; redos = redos }
+
+-- the same where each gesture is one edit
 abbrev pub backs_of : List Op → List Op → Backs
-backs_of undos redos = record { undos = undos; redos = redos }
+backs_of undos redos = gestures_of (map (λ op. op ∷ []) undos) (map (λ op. op ∷ []) redos)
 
 abbrev pub place_of : ℕ → ℕ → ℕ → ℕ → Op
 place_of clock site x y = op.Set (at_stamp clock site) (ToPlace (pos x) (pos y))
@@ -84,11 +88,12 @@ all_again = all_back ++ turns 3 Redo
 
 abbrev pub all_back_printed : List ℕ
 all_back_printed =
-    codes "ready 1 of 1\nok 1.1\nok 2.1\nok 3.1\nok 4.1\nrefused: NothingBack\nend 0\nheld 4 kept 0 line 4 clock 4\n"
+    codes "ready 1 of 1\nok 1.1\nok 2.1\nok 3.1\nend 1\nok 4.1\nend 1\nrefused: NothingBack\nend 0\nheld 4 kept 0 line 4 clock 4\n"
 
 abbrev pub all_again_printed : List ℕ
 all_again_printed =
-    codes "ready 1 of 1\nok 1.1\nok 2.1\nok 3.1\nok 4.1\nrefused: NothingBack\nok 5.1\nok 6.1\nrefused: NothingBack\n"
+    codes "ready 1 of 1\nok 1.1\nok 2.1\nok 3.1\nend 1\nok 4.1\nend 1\nrefused: NothingBack\n"
+    ++ codes "ok 5.1\nend 1\nok 6.1\nend 1\nrefused: NothingBack\n"
     ++ square_line "1.1" "-" "50 60"
     ++ codes "end 1\n"
 
@@ -134,7 +139,7 @@ forgotten = forgetting ++ turns 1 Redo ++ turns 3 Undo
 
 abbrev pub forgotten_printed : List ℕ
 forgotten_printed =
-    codes "ready 1 of 1\nok 1.1\nok 2.1\nok 3.1\nok 4.1\nrefused: NothingBack\nok 5.1\nok 6.1\n"
+    codes "ready 1 of 1\nok 1.1\nok 2.1\nok 3.1\nend 1\nok 4.1\nrefused: NothingBack\nok 5.1\nend 1\nok 6.1\nend 1\n"
     ++ codes "refused: NothingBack\nend 0\n"
 
 -- an edit that is refused forgets nothing
@@ -143,7 +148,7 @@ refusing = made_and_moved ++ turns 1 Undo ++ edits (move_to 9 9 0 0 ∷ []) ++ t
 
 abbrev pub refusing_printed : List ℕ
 refusing_printed =
-    codes "ready 1 of 1\nok 1.1\nok 2.1\nok 3.1\nrefused: NoObject\nok 4.1\n"
+    codes "ready 1 of 1\nok 1.1\nok 2.1\nok 3.1\nend 1\nrefused: NoObject\nok 4.1\nend 1\n"
     ++ square_line "1.1" "-" "50 60"
     ++ codes "end 1\n"
 
@@ -525,18 +530,18 @@ put_back = event 4 1 4 (op.Restore (at_stamp 1 1) (record (rect_of 1 1) { x = po
 -- The fill comes behind that.
 abbrev pub told_to_one : List Reply
 told_to_one =
-    reply.Dropped (at_stamp 2 2) (at_stamp 3 1)
-    ∷ reply.Reworked (at_stamp 3 2) 1
-    ∷ reply.Applied (at_stamp 4 2)
+    reply.Dropped (at_stamp 2 2) (at_stamp 3 1) late_move.op
+    ∷ reply.Reworked (at_stamp 3 2) 1 late_stroke.op
+    ∷ reply.Applied (at_stamp 4 2) late_fill.op
     ∷ []
 
 -- At site 2 its own move covers the other, the delete is put before the stroke and the fill, and the restore before
 -- the fill.
 abbrev pub told_to_two : List Reply
 told_to_two =
-    reply.Dropped (at_stamp 2 1) (at_stamp 2 2)
-    ∷ reply.Reworked (at_stamp 3 1) 2
-    ∷ reply.Reworked (at_stamp 4 1) 1
+    reply.Dropped (at_stamp 2 1) (at_stamp 2 2) (place_of 1 1 5 5)
+    ∷ reply.Reworked (at_stamp 3 1) 2 (op.Delete (at_stamp 1 1))
+    ∷ reply.Reworked (at_stamp 4 1) 1 put_back.op
     ∷ []
 
 abbrev pub restored : List Step
@@ -583,13 +588,18 @@ last_site =
       backs = backs_of (op.Delete (at_stamp 281474976710654 1) ∷ []) [];
     }
 
+-- one whose undo would be so many events
+abbrev pub owing : ℕ → SlowSite → SlowSite
+owing count slow = record slow { backs = gestures_of (replicate count (op.Delete (at_stamp 1 1)) ∷ []) [] }
+
 -- ---- how many are kept
 
-abbrev pub one : Op
-one = op.Delete (at_stamp 1 1)
+-- gestures, of one event and of two
+abbrev pub one : List Op
+one = op.Delete (at_stamp 1 1) ∷ []
 
-abbrev pub two : Op
-two = op.Delete (at_stamp 2 1)
+abbrev pub two : List Op
+two = op.Delete (at_stamp 3 1) ∷ op.Delete (at_stamp 2 1) ∷ []
 
-abbrev pub three : Op
-three = op.Delete (at_stamp 3 1)
+abbrev pub three : List Op
+three = op.Delete (at_stamp 4 1) ∷ []

@@ -11,6 +11,7 @@ use Rattle.gd_base.specs.declared.content.Side.TheVariants.{Top}
 use Rattle.gd_base.specs.declared.op.Op.TheVariants as op
 use Rattle.gd_base.specs.declared.refusal.Refusal.TheVariants.{NoObject}
 use Rattle.gd_base.specs.declared.shape.Shape.TheVariants.{Rect}
+use Rattle.gd_events.specs.Ops.{Op}
 use Rattle.gd_lines.specs.Edits.{Edit}
 use Rattle.gd_lines.specs.declared.command.Command.TheVariants as command
 use Rattle.gd_lines.specs.declared.command.Turn.{Turn}
@@ -184,6 +185,9 @@ eight_printed =
 
 -- ---- counts
 
+abbrev pub deletion : Op
+deletion = op.Delete (at_stamp 1 1)
+
 -- so many answers of each kind, and one that doesn't count
 abbrev pub counted_replies : List Reply
 counted_replies =
@@ -191,10 +195,10 @@ counted_replies =
     ∷ replicate 2 (reply.Refused NoObject)
     ++ replicate 3 (reply.Mail 1)
     ++ replicate 4 (reply.Delivered 1)
-    ++ replicate 5 (reply.Applied (at_stamp 1 1))
-    ++ replicate 6 (reply.Dropped (at_stamp 1 1) (at_stamp 2 1))
-    ++ reply.Reworked (at_stamp 1 1) 3
-    ∷ reply.Reworked (at_stamp 1 1) 5
+    ++ replicate 5 (reply.Applied (at_stamp 2 1) deletion)
+    ++ replicate 6 (reply.Dropped (at_stamp 2 1) (at_stamp 3 1) deletion)
+    ++ reply.Reworked (at_stamp 2 1) 3 deletion
+    ∷ reply.Reworked (at_stamp 2 1) 5 deletion
     ∷ reply.End 9
     ∷ []
 
@@ -216,7 +220,7 @@ making =
     ∷ (script.At 1 (command.Edit (op.Group (at_stamp 1 1 ∷ at_stamp 2 1 ∷ []))), reply.Done (at_stamp 3 1) ∷ [], at_stamp 3 1 ∷ [])
     ∷ (script.At 1 (command.Edit (new_rect (pos 0))), reply.Refused NoObject ∷ [], [])
     ∷ (script.At 1 (command.Edit (move_to 1 1 5 5)), reply.Done (at_stamp 2 1) ∷ [], [])
-    ∷ (script.At 1 (command.Turn Redo), reply.Done (at_stamp 4 1) ∷ [], [])
+    ∷ (script.At 1 (command.Turn Redo), reply.Done (at_stamp 4 1) ∷ reply.End 1 ∷ [], [])
     ∷ []
 
 -- one site alone has made a rect

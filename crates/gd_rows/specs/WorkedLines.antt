@@ -1,9 +1,16 @@
 -- Worked rows of typed lines: what each is read as.
-use Rattle.std.specs.Prelude.{ℕ, List, [], ◌∷◌, ◌++◌, codes, Some, None, Result, Ok, Err}
-use Rattle.gd_base.specs.declared.content.Content.TheVariants.{ToText, ToRank}
-use Rattle.gd_base.specs.declared.content.Side.TheVariants.{Bottom}
+use Rattle.std.specs.Prelude.{ℕ, pos, negsuc, true, false, List, [], ◌∷◌, ◌++◌, codes, Some, None, Result, Ok, Err}
+use Rattle.gd_base.specs.Stamps.{Stamp}
+use Rattle.gd_base.specs.declared.content.Content.TheVariants.{ToPlace, ToSize, ToStroke, ToFill, ToWidth, ToText, ToFlag, ToRank}
+use Rattle.gd_base.specs.declared.content.Height.TheVariants.{To, At}
+use Rattle.gd_base.specs.declared.content.Side.TheVariants.{Bottom, Top}
 use Rattle.gd_base.specs.declared.note.Note.{Note}
+use Rattle.gd_base.specs.declared.object.Object.{Object}
 use Rattle.gd_base.specs.declared.op.Op.TheVariants as op
+use Rattle.gd_base.specs.declared.rank.Rank.TheVariants.{Low, High}
+use Rattle.gd_base.specs.declared.shape.Shape.TheVariants.{Rect, Ellipse}
+use Rattle.gd_base.specs.declared.ties.Tie.{Tie}
+use Rattle.gd_events.specs.Ops.{Op}
 use Rattle.gd_base.specs.declared.refusal.LineFault.{LineFault}
 use Rattle.gd_base.specs.declared.refusal.LineFault.TheVariants as fault
 use Rattle.gd_lines.specs.declared.command.Command.{Command}
@@ -11,7 +18,10 @@ use Rattle.gd_lines.specs.declared.command.Command.TheVariants as command
 use Rattle.gd_lines.specs.declared.command.Turn.TheVariants.{Undo, Redo}
 use Rattle.gd_lines.specs.declared.command.ScriptLine.{ScriptLine}
 use Rattle.gd_lines.specs.declared.command.ScriptLine.TheVariants as script
-use Rattle.gd_rows.specs.Worked.{at_stamp}
+use Rattle.gd_lines.specs.declared.reply.Reply.{Reply}
+use Rattle.gd_lines.specs.declared.reply.Reply.TheVariants as reply
+use Rattle.gd_model.specs.Objects.{new_group, new_shape}
+use Rattle.gd_rows.specs.Worked.{at_stamp, member}
 
 -- lines with a label and without, with spaces in front, and with a CR at the end
 abbrev pub read_lines : List (List ℕ × Command)
@@ -22,6 +32,8 @@ read_lines =
     ∷ (codes "lower 1.1", command.Edit (op.Set (at_stamp 1 1) (ToRank Bottom)))
     ∷ (codes "undo", command.Turn Undo)
     ∷ (codes " redo ", command.Turn Redo)
+    ∷ (codes "begin", command.Begin)
+    ∷ (codes " end " ++ 13 ∷ [], command.End)
     ∷ (codes "focus -", command.Focus None)
     ∷ (codes "  " ++ 13 ∷ [], command.Blank)
     ∷ []
@@ -32,6 +44,9 @@ faulty_lines =
     ∷ (codes "move x y", fault.WrongCount)
     ∷ (codes "undo 1", fault.WrongCount)
     ∷ (codes "redo 1", fault.WrongCount)
+    ∷ (codes "begin 1", fault.WrongCount)
+    ∷ (codes "end 1", fault.WrongCount)
+    ∷ (codes "End", fault.UnknownCommand)
     ∷ (codes "Redo", fault.UnknownCommand)
     ∷ (codes "create rect 0 0 1 ", fault.WrongCount)
     ∷ (codes "create Rect x 0 1 1", fault.BadKind)
@@ -50,6 +65,8 @@ script_lines =
     ∷ (codes "deliver -0", Ok (script.Deliver 0))
     ∷ (codes "at x paint", Err fault.UnknownCommand)
     ∷ (codes "at 1 poll", Err fault.UnknownCommand)
+    ∷ (codes "at 1 begin", Err fault.UnknownCommand)
+    ∷ (codes "at 1 end", Err fault.UnknownCommand)
     ∷ (codes "at x show 1", Err fault.WrongCount)
     ∷ (codes "at x move a b c", Err fault.BadNumber)
     ∷ []
@@ -60,3 +77,72 @@ ada = record { number = 2; name = Some (codes "Ada"); focus = Some (at_stamp 1 1
 
 abbrev pub nobody : Note
 nobody = record { number = 1; name = None; focus = None }
+
+-- ---- echoes
+
+-- of an event that was applied
+abbrev pub applied : Op → Reply
+applied op = reply.Applied (at_stamp 9 1) op
+
+-- of an object of site 1
+abbrev pub one : Stamp
+one = at_stamp 1 1
+
+-- a shape as it was: with a fill, a width and a label, and lowered
+abbrev pub old_shape : Object
+old_shape =
+    record (new_shape (at_stamp 1 2) Rect (pos 1) (pos 2) (negsuc 2) (pos 4) (codes "Hi")) {
+      fill = Some 0x00FF00;
+      width = 7;
+      rank = Low (at_stamp 14 2);
+    }
+
+-- a dissolved group in a group
+abbrev pub old_group : Object
+old_group =
+    record (new_group (at_stamp 3 1)) {
+      x = pos 5;
+      y = negsuc 6;
+      link = Some (record { parent = at_stamp 4 1; dx = pos 1; dy = pos 2 });
+      dissolved = true;
+    }
+
+-- ties to no group, and to one with a shift
+abbrev pub ties : List Tie
+ties =
+    record { id = at_stamp 1 1; link = None }
+    ∷ record { id = at_stamp 2 1; link = Some (record { parent = at_stamp 4 1; dx = pos 5; dy = pos 5 }) }
+    ∷ []
+
+abbrev pub echoes : List (Reply × List ℕ)
+echoes =
+    (reply.Applied (at_stamp 4 1) (op.Set one (ToPlace (pos 5) (pos 5))), codes "echo 4.1 applied move 1.1 5 5\n")
+    ∷ (reply.Dropped (at_stamp 7 1) (at_stamp 9 2) (op.Set one (ToText (codes "Hi"))), codes "echo 7.1 dropped by 9.2 text 1.1 Hi\n")
+    ∷ (
+      reply.Reworked (at_stamp 8 1) 3 (op.Group (member 1 1 (pos 0) (pos 0) ∷ member 2 1 (pos 5) (pos 5) ∷ [])),
+      codes "echo 8.1 reworked 3 group 1.1 0 0 2.1 5 5\n",
+    )
+    ∷ (applied (op.Disband (at_stamp 3 1) ties), codes "echo 9.1 applied disband 3.1 tie 1.1 in - tie 2.1 in 4.1 5 5\n")
+    ∷ (
+      reply.Applied (at_stamp 16 2) (op.Restore (at_stamp 1 2) old_shape []),
+      codes "echo 16.2 applied restore 1.2 rect 1 2 -3 4 000000 00FF00 7 in - low 14.2 text Hi\n",
+    )
+    ∷ (
+      applied (op.Restore (at_stamp 3 1) old_group ties),
+      codes "echo 9.1 applied restore 3.1 group 5 -7 0 0 000000 none 1 in 4.1 1 2 dissolved high 3.1 tie 1.1 in - tie 2.1 in 4.1 5 5\n",
+    )
+    ∷ (applied (op.Create Rect (pos 0) (negsuc 0) (pos 10) (pos 10) []), codes "echo 9.1 applied create rect 0 -1 10 10\n")
+    ∷ (applied (op.Create Ellipse (pos 0) (pos 0) (pos 1) (pos 1) (codes " a ")), codes "echo 9.1 applied create ellipse 0 0 1 1  a \n")
+    ∷ (applied (op.Delete one), codes "echo 9.1 applied delete 1.1\n")
+    ∷ (applied (op.Set one (ToSize (negsuc 0) (pos 2))), codes "echo 9.1 applied resize 1.1 -1 2\n")
+    ∷ (applied (op.Set one (ToStroke 0x00AB0C)), codes "echo 9.1 applied stroke 1.1 00AB0C\n")
+    ∷ (applied (op.Set one (ToFill (Some 0xFF8000))), codes "echo 9.1 applied fill 1.1 FF8000\n")
+    ∷ (applied (op.Set one (ToFill None)), codes "echo 9.1 applied fill 1.1 none\n")
+    ∷ (applied (op.Set one (ToWidth 64)), codes "echo 9.1 applied width 1.1 64\n")
+    ∷ (applied (op.Set one (ToText [])), codes "echo 9.1 applied text 1.1\n")
+    ∷ (applied (op.Set one (ToFlag true)), codes "echo 9.1 applied ungroup 1.1\n")
+    ∷ (applied (op.Set one (ToFlag false)), codes "echo 9.1 applied reopen 1.1\n")
+    ∷ (applied (op.Set one (ToRank (To Top))), codes "echo 9.1 applied raise 1.1\n")
+    ∷ (applied (op.Set one (ToRank (To Bottom))), codes "echo 9.1 applied lower 1.1\n")
+    ∷ (applied (op.Set one (ToRank (At (High (at_stamp 5 2))))), codes "echo 9.1 applied rerank 1.1 high 5.2\n")
+    ∷ []

@@ -32,7 +32,7 @@ abbrev pub created_effects : List Effect
 created_effects =
     Head second_header
     ∷ Print (codes "ready 2 of 3\n")
-    ∷ Work 1 ∷ Record 11 record_event ∷ Print (codes "ok 1.2\n")
+    ∷ Work 1 ∷ Record 11 (record_event ∷ []) ∷ Print (codes "ok 1.2\n")
     ∷ Try 1 (frame_row_to 1) ∷ Try 3 (frame_row_to 3)
     ∷ []
 
@@ -82,10 +82,10 @@ turned_lines =
 abbrev pub turned_effects : List Effect
 turned_effects =
     created_effects
-    ++ Work 1 ∷ Record 40 delete_event ∷ Print (codes "ok 2.2\n")
+    ++ Work 1 ∷ Record 40 (delete_event ∷ []) ∷ Print (codes "ok 2.2\n") ∷ Print (codes "end 1\n")
     ∷ Try 1 (undone_row_to 1) ∷ Try 3 (undone_row_to 3)
     ∷ Print (codes "refused: NothingBack\n")
-    ∷ Work 1 ∷ Record 58 restore_event ∷ Print (codes "ok 3.2\n")
+    ∷ Work 1 ∷ Record 58 (restore_event ∷ []) ∷ Print (codes "ok 3.2\n") ∷ Print (codes "end 1\n")
     ∷ Try 1 (redone_row_to 1) ∷ Try 3 (redone_row_to 3)
     ∷ Print (codes "refused: NothingBack\n")
     ∷ []
@@ -140,8 +140,8 @@ repeat_effects =
     Head header_three_bytes
     ∷ Print (codes "ready 1 of 2\n")
     ∷ Work 1
-    ∷ Record 11 record_event
-    ∷ Print (codes "echo 1.2 applied\n")
+    ∷ Record 11 (record_event ∷ [])
+    ∷ Print (codes "echo 1.2 applied create rect 0 0 10 10\n")
     ∷ Try 2 answer_row
     ∷ Print (codes "polled 3\n")
     ∷ []
@@ -171,14 +171,17 @@ listening entries lines = node_effects 1 2 7 entries lines
 
 abbrev pub ahead_printed : List ℕ
 ahead_printed =
-    codes "ready 1 of 2\necho 1.2 applied\necho 2.2 applied\necho 3.2 applied\necho 4.2 applied\npolled 3\nheld 4 kept 0 line 4 clock 4\n"
+    codes "ready 1 of 2\necho 1.2 applied create rect 0 0 10 10\necho 2.2 applied move 1.2 1 1\necho 3.2 applied move 1.2 2 2\n"
+    ++ codes "echo 4.2 applied move 1.2 3 3\npolled 3\nheld 4 kept 0 line 4 clock 4\n"
 
 abbrev pub sure_printed : List ℕ
 sure_printed =
-    codes "ready 1 of 2\necho 1.2 applied\necho 2.2 applied\nevent 9.2 refused: Backdated 9 9\npolled 2\nheld 2 kept 0 line 2 clock 2\n"
+    codes "ready 1 of 2\necho 1.2 applied create rect 0 0 10 10\necho 2.2 applied move 1.2 1 1\n"
+    ++ codes "event 9.2 refused: Backdated 9 9\npolled 2\nheld 2 kept 0 line 2 clock 2\n"
 
 abbrev pub failing_printed : List ℕ
-failing_printed = codes "ready 1 of 2\necho 1.2 applied\nlink fault after 2\necho 2.2 applied\npolled 1\n"
+failing_printed =
+    codes "ready 1 of 2\necho 1.2 applied create rect 0 0 10 10\nlink fault after 2\necho 2.2 applied move 1.2 1 1\npolled 1\n"
 
 -- what is no frame: no byte, another session, and one byte too many
 abbrev pub refused_entries : List Entry

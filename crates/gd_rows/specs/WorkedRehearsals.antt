@@ -47,12 +47,12 @@ abbrev pub covered : List Row
 covered =
     row "at 1 create rect 0 0 10 10" "ok 1.1"
     ∷ row "send 1 2" "mail 1"
-    ∷ row "deliver 1" "echo 1.1 applied\ndelivered 1"
+    ∷ row "deliver 1" "echo 1.1 applied create rect 0 0 10 10\ndelivered 1"
     ∷ row "at 1 move 1.1 50 50" "ok 2.1"
     ∷ row "at 1 move 1.1 60 60" "ok 3.1"
     ∷ row "at 2 move 1.1 90 90" "ok 2.2"
     ∷ row "send 2 1" "mail 2"
-    ∷ row "deliver 2" "echo 2.2 dropped by 3.1\ndelivered 2"
+    ∷ row "deliver 2" "echo 2.2 dropped by 3.1 move 1.1 90 90\ndelivered 2"
     ∷ row_of "at 1 show"
     ("rect 1.1 in - at 60 60 size 10 10 stroke 000000 fill none width 1"
     ∷ "end 1"
@@ -73,13 +73,13 @@ lowered =
     row "at 1 create rect 0 0 10 10" "ok 1.1"
     ∷ row "at 1 create ellipse 0 0 20 20" "ok 2.1"
     ∷ row "send 1 2" "mail 1"
-    ∷ row "deliver 1" "echo 1.1 applied\necho 2.1 applied\ndelivered 1"
+    ∷ row "deliver 1" "echo 1.1 applied create rect 0 0 10 10\necho 2.1 applied create ellipse 0 0 20 20\ndelivered 1"
     ∷ row "at 1 raise 1.1" "ok 3.1"
     ∷ row "at 2 lower 1.1" "ok 3.2"
     ∷ row "send 1 2" "mail 2"
-    ∷ row "deliver 2" "echo 3.1 dropped by 3.2\ndelivered 2"
+    ∷ row "deliver 2" "echo 3.1 dropped by 3.2 raise 1.1\ndelivered 2"
     ∷ row "send 2 1" "mail 3"
-    ∷ row "deliver 3" "echo 3.2 applied\ndelivered 3"
+    ∷ row "deliver 3" "echo 3.2 applied lower 1.1\ndelivered 3"
     ∷ row_of "at 1 show" bottom
     ∷ row_of "at 2 show" bottom
     ∷ []
@@ -91,13 +91,13 @@ reworked =
     ∷ row "at 1 create rect 20 0 10 10" "ok 2.1"
     ∷ row "at 2 create rect 40 0 10 10" "ok 1.2"
     ∷ row "send 1 2" "mail 1"
-    ∷ row "deliver 1" "echo 1.1 applied\necho 2.1 applied\ndelivered 1"
+    ∷ row "deliver 1" "echo 1.1 applied create rect 0 0 10 10\necho 2.1 applied create rect 20 0 10 10\ndelivered 1"
     ∷ row "at 2 group 2.1 1.2" "ok 3.2"
     ∷ row "at 1 raise 1.1" "ok 3.1"
     ∷ row "at 1 group 1.1 2.1" "ok 4.1"
     ∷ row "at 1 move 4.1 5 5" "ok 5.1"
     ∷ row "send 2 1" "mail 2"
-    ∷ row "deliver 2" "echo 1.2 applied\necho 3.2 reworked 2\ndelivered 2"
+    ∷ row "deliver 2" "echo 1.2 applied create rect 40 0 10 10\necho 3.2 reworked 2 group 1.2 0 0 2.1 0 0\ndelivered 2"
     ∷ []
 
 -- the same as effects: the steps of a line come before what is printed of it, and nothing is recorded or tried
@@ -107,13 +107,17 @@ reworked_effects =
     ∷ Work 1 ∷ Print (codes "ok 2.1\n")
     ∷ Work 1 ∷ Print (codes "ok 1.2\n")
     ∷ Print (codes "mail 1\n")
-    ∷ Work 1 ∷ Work 1 ∷ Print (codes "echo 1.1 applied\n") ∷ Print (codes "echo 2.1 applied\n") ∷ Print (codes "delivered 1\n")
+    ∷ Work 1 ∷ Work 1
+    ∷ Print (codes "echo 1.1 applied create rect 0 0 10 10\n") ∷ Print (codes "echo 2.1 applied create rect 20 0 10 10\n")
+    ∷ Print (codes "delivered 1\n")
     ∷ Work 1 ∷ Print (codes "ok 3.2\n")
     ∷ Work 1 ∷ Print (codes "ok 3.1\n")
     ∷ Work 1 ∷ Print (codes "ok 4.1\n")
     ∷ Work 1 ∷ Print (codes "ok 5.1\n")
     ∷ Print (codes "mail 2\n")
-    ∷ Work 1 ∷ Work 5 ∷ Print (codes "echo 1.2 applied\n") ∷ Print (codes "echo 3.2 reworked 2\n") ∷ Print (codes "delivered 2\n")
+    ∷ Work 1 ∷ Work 5
+    ∷ Print (codes "echo 1.2 applied create rect 40 0 10 10\n") ∷ Print (codes "echo 3.2 reworked 2 group 1.2 0 0 2.1 0 0\n")
+    ∷ Print (codes "delivered 2\n")
     ∷ []
 
 abbrev pub reworked_shown : List Row
@@ -145,19 +149,19 @@ regrouped =
     ∷ row "at 1 create rect 20 0 10 10" "ok 2.1"
     ∷ row "at 1 group 1.1 2.1" "ok 3.1"
     ∷ row "send 1 2" "mail 1"
-    ∷ row "deliver 1" "echo 1.1 applied\necho 2.1 applied\necho 3.1 applied\ndelivered 1"
+    ∷ row "deliver 1" "echo 1.1 applied create rect 0 0 10 10\necho 2.1 applied create rect 20 0 10 10\necho 3.1 applied group 1.1 0 0 2.1 0 0\ndelivered 1"
     ∷ row "at 1 move 3.1 5 7" "ok 4.1"
     ∷ row "at 2 ungroup 3.1" "ok 4.2"
     ∷ row "send 1 2" "mail 2"
-    ∷ row "deliver 2" "echo 4.1 applied\ndelivered 2"
+    ∷ row "deliver 2" "echo 4.1 applied move 3.1 5 7\ndelivered 2"
     ∷ row "send 2 1" "mail 3"
-    ∷ row "deliver 3" "echo 4.2 applied\ndelivered 3"
+    ∷ row "deliver 3" "echo 4.2 applied ungroup 3.1\ndelivered 3"
     ∷ row "at 1 group 1.1 2.1" "ok 5.1"
     ∷ row "at 2 group 1.1 2.1" "ok 5.2"
     ∷ row "send 1 2" "mail 4"
-    ∷ row "deliver 4" "echo 5.1 reworked 1\ndelivered 4"
+    ∷ row "deliver 4" "echo 5.1 reworked 1 group 1.1 5 7 2.1 5 7\ndelivered 4"
     ∷ row "send 2 1" "mail 5"
-    ∷ row "deliver 5" "echo 5.2 applied\ndelivered 5"
+    ∷ row "deliver 5" "echo 5.2 applied group 1.1 5 7 2.1 5 7\ndelivered 5"
     ∷ row_of "at 1 show" regrouped_text
     ∷ row_of "at 2 show" regrouped_text
     ∷ []
@@ -214,14 +218,14 @@ too_far =
     ∷ "end 3"
     ∷ [])
     ∷ row "at 1 move 2.1 5 5" "ok 6.1"
-    ∷ row "at 1 undo" "ok 7.1"
+    ∷ row "at 1 undo" "ok 7.1\nend 1"
     ∷ row_of "at 1 show"
     ("group 3.1 in - at 1000000000 0"
     ∷ "rect 1.1 in 3.1 at 5 5 size 10 10 stroke 000000 fill none width 1"
     ∷ "rect 2.1 in 3.1 at 1000000020 0 size 10 10 stroke 000000 fill none width 1"
     ∷ "end 3"
     ∷ [])
-    ∷ row "at 1 redo" "ok 8.1"
+    ∷ row "at 1 redo" "ok 8.1\nend 1"
     ∷ row_of "at 1 show"
     ("group 3.1 in - at 1000000000 0"
     ∷ "rect 1.1 in 3.1 at 5 5 size 10 10 stroke 000000 fill none width 1"
@@ -234,12 +238,12 @@ abbrev pub taken_back : List Row
 taken_back =
     row "at 1 create rect 0 0 10 10" "ok 1.1"
     ∷ row "at 1 move 1.1 50 60" "ok 2.1"
-    ∷ row "at 1 undo" "ok 3.1"
-    ∷ row "at 1 undo" "ok 4.1"
+    ∷ row "at 1 undo" "ok 3.1\nend 1"
+    ∷ row "at 1 undo" "ok 4.1\nend 1"
     ∷ row "at 1 undo" "refused: NothingBack"
     ∷ row "at 1 show" "end 0"
-    ∷ row "at 1 redo" "ok 5.1"
-    ∷ row "at 1 redo" "ok 6.1"
+    ∷ row "at 1 redo" "ok 5.1\nend 1"
+    ∷ row "at 1 redo" "ok 6.1\nend 1"
     ∷ row "at 1 redo" "refused: NothingBack"
     ∷ row_of "at 1 show"
     ("rect 1.1 in - at 50 60 size 10 10 stroke 000000 fill none width 1"
@@ -256,18 +260,18 @@ abbrev pub taken_between : List Row
 taken_between =
     row "at 1 create rect 0 0 10 10" "ok 1.1"
     ∷ row "send 1 2" "mail 1"
-    ∷ row "deliver 1" "echo 1.1 applied\ndelivered 1"
+    ∷ row "deliver 1" "echo 1.1 applied create rect 0 0 10 10\ndelivered 1"
     ∷ row "at 1 delete 1.1" "ok 2.1"
     ∷ row "at 2 move 1.1 50 60" "ok 2.2"
-    ∷ row "at 1 undo" "ok 3.1"
+    ∷ row "at 1 undo" "ok 3.1\nend 1"
     ∷ row "send 2 1" "mail 2"
-    ∷ row "deliver 2" "echo 2.2 reworked 1\ndelivered 2"
+    ∷ row "deliver 2" "echo 2.2 reworked 1 move 1.1 50 60\ndelivered 2"
     ∷ row "send 1 2" "mail 3"
-    ∷ row "deliver 3" "echo 2.1 reworked 1\necho 3.1 applied\ndelivered 3"
+    ∷ row "deliver 3" "echo 2.1 reworked 1 delete 1.1\necho 3.1 applied restore 1.1 rect 0 0 10 10 000000 none 1 in - high 1.1\ndelivered 3"
     ∷ row_of "at 1 show" put_back
     ∷ row_of "at 2 show" put_back
-    ∷ row "at 2 undo" "ok 4.2"
-    ∷ row "at 2 redo" "ok 5.2"
+    ∷ row "at 2 undo" "ok 4.2\nend 1"
+    ∷ row "at 2 redo" "ok 5.2\nend 1"
     ∷ row_of "at 2 show" put_back
     ∷ row "at 2 redo" "refused: NothingBack"
     ∷ []
@@ -289,8 +293,8 @@ used =
     ∷ row "at 1 create ellipse 200 0 80 80 End" "ok 2.1"
     ∷ row "at 2 create text 50 120 40 10 Draft" "ok 1.2"
     ∷ row "send 1 2\nsend 1 3\nsend 2 3" "mail 1\nmail 2\nmail 3"
-    ∷ row "deliver 1" "echo 1.1 applied\necho 2.1 applied\ndelivered 1"
-    ∷ row "deliver 2" "echo 1.1 applied\necho 2.1 applied\ndelivered 2"
+    ∷ row "deliver 1" "echo 1.1 applied create rect 0 0 100 50 Start\necho 2.1 applied create ellipse 200 0 80 80 End\ndelivered 1"
+    ∷ row "deliver 2" "echo 1.1 applied create rect 0 0 100 50 Start\necho 2.1 applied create ellipse 200 0 80 80 End\ndelivered 2"
     ∷ row "deliver 2" "delivered 2"
     ∷ row "at 3 move 2.1 300 0" "ok 3.3"
     ∷ row "at 2 fill 1.1 FFCC00" "ok 3.2"
@@ -302,17 +306,17 @@ used =
     ∷ row "at 3 stroke 2.1 0000ff" "ok 5.3"
     ∷ row "at 2 move 4.2 10 10" "ok 5.2"
     ∷ row "send 3 1" "mail 4"
-    ∷ row "deliver 4" "echo 3.3 applied\necho 4.3 reworked 1\necho 5.3 applied\ndelivered 4"
+    ∷ row "deliver 4" "echo 3.3 applied move 2.1 300 0\necho 4.3 reworked 1 delete 1.1\necho 5.3 applied stroke 2.1 0000FF\ndelivered 4"
     ∷ row "send 2 1" "mail 5"
-    ∷ row "deliver 5" "echo 1.2 applied\necho 3.2 dropped by 4.3\necho 4.2 reworked 2\necho 5.2 applied\ndelivered 5"
+    ∷ row "deliver 5" "echo 1.2 applied create text 50 120 40 10 Draft\necho 3.2 dropped by 4.3 fill 1.1 FFCC00\necho 4.2 reworked 2 group 1.1 0 0 1.2 0 0\necho 5.2 applied move 4.2 10 10\ndelivered 5"
     ∷ row "send 1 2" "mail 6"
-    ∷ row "deliver 6" "echo 3.1 applied\necho 4.1 applied\necho 5.1 applied\ndelivered 6"
+    ∷ row "deliver 6" "echo 3.1 applied move 2.1 200 40\necho 4.1 applied text 1.1 Begin\necho 5.1 applied raise 1.1\ndelivered 6"
     ∷ row "send 3 2" "mail 7"
-    ∷ row "deliver 7" "echo 3.3 applied\necho 4.3 reworked 1\necho 5.3 applied\ndelivered 7"
+    ∷ row "deliver 7" "echo 3.3 applied move 2.1 300 0\necho 4.3 reworked 1 delete 1.1\necho 5.3 applied stroke 2.1 0000FF\ndelivered 7"
     ∷ row "send 2 3" "mail 8"
-    ∷ row "deliver 8" "echo 1.2 applied\necho 3.2 dropped by 4.3\necho 4.2 reworked 1\necho 5.2 applied\ndelivered 8"
+    ∷ row "deliver 8" "echo 1.2 applied create text 50 120 40 10 Draft\necho 3.2 dropped by 4.3 fill 1.1 FFCC00\necho 4.2 reworked 1 group 1.1 0 0 1.2 0 0\necho 5.2 applied move 4.2 10 10\ndelivered 8"
     ∷ row "send 1 3" "mail 9"
-    ∷ row "deliver 9" "echo 3.1 dropped by 3.3\necho 4.1 dropped by 4.3\necho 5.1 applied\ndelivered 9"
+    ∷ row "deliver 9" "echo 3.1 dropped by 3.3 move 2.1 200 40\necho 4.1 dropped by 4.3 text 1.1 Begin\necho 5.1 applied raise 1.1\ndelivered 9"
     ∷ row "at 1 status\nat 2 status\nat 3 status" "held 12 kept 0 line 5 clock 5\nheld 12 kept 0 line 5 clock 5\nheld 12 kept 0 line 5 clock 5"
     ∷ row_of "at 1 show" settled
     ∷ row_of "at 2 show" settled
@@ -331,6 +335,8 @@ refused_in_world =
     ∷ row "at 3 create rect 0 0 10 10" "refused: NoSite"
     ∷ row "deliver 1" "refused: NoMail"
     ∷ row "at 1 poll" "refused: UnknownCommand"
+    ∷ row "at 1 begin" "refused: UnknownCommand"
+    ∷ row "at 1 end" "refused: UnknownCommand"
     ∷ row "at 3 paint" "refused: UnknownCommand"
     ∷ row "send 1 17" "refused: BadNumber"
     ∷ row "at 1 create rect 0 0 10 10" "ok 1.1"
@@ -349,7 +355,7 @@ delivered_late =
     ∷ row "send 1 2" "mail 1"
     ∷ row "at 1 move 1.1 5 5" "ok 2.1"
     ∷ row "send 1 2" "mail 2"
-    ∷ row "deliver 2" "echo 1.1 applied\necho 2.1 applied\ndelivered 2"
+    ∷ row "deliver 2" "echo 1.1 applied create rect 0 0 10 10\necho 2.1 applied move 1.1 5 5\ndelivered 2"
     ∷ row "deliver 1" "delivered 1"
     ∷ row "deliver 2" "delivered 2"
     ∷ row "at 2 status" "held 2 kept 0 line 2 clock 2"

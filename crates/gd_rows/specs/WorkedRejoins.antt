@@ -130,7 +130,7 @@ abbrev pub edit_effects : List Effect
 edit_effects =
     works_of (1 ∷ 1 ∷ [])
     ++ Print (codes "ready 1 of 2\n")
-    ∷ Work 1 ∷ Record 69 edit_event ∷ Print (codes "ok 2.1\n")
+    ∷ Work 1 ∷ Record 69 (edit_event ∷ []) ∷ Print (codes "ok 2.1\n")
     ∷ Try 2 edit_frame
     ∷ []
 
@@ -168,7 +168,7 @@ undos_input = codes "undo\nredo\ncreate rect 0 0 10 10\nundo\nundo\nredo\nredo\n
 
 abbrev pub undos_printed : List ℕ
 undos_printed =
-    codes "ready 1 of 2\nrefused: NothingBack\nrefused: NothingBack\nok 2.1\nok 3.1\nrefused: NothingBack\n"
-    ++ codes "ok 4.1\nrefused: NothingBack\n"
+    codes "ready 1 of 2\nrefused: NothingBack\nrefused: NothingBack\nok 2.1\nok 3.1\nend 1\n"
+    ++ codes "refused: NothingBack\nok 4.1\nend 1\nrefused: NothingBack\n"
     ++ codes "rect 1.1 in - at 0 0 size 10 10 stroke 000000 fill none width 1\n"
     ++ codes "rect 2.1 in - at 0 0 size 10 10 stroke 000000 fill none width 1\nend 2\n"

@@ -22,7 +22,7 @@ abbrev pub changed : ℕ → ℕ → List ℕ
 changed at value = item (set moving_frame at value)
 
 abbrev pub moved_effects : List Effect
-moved_effects = Work 1 ∷ Print (codes "echo 2.2 applied\n") ∷ []
+moved_effects = Work 1 ∷ Print (codes "echo 2.2 applied move 1.1 7 8\n") ∷ []
 
 -- ---- runs
 
@@ -93,7 +93,7 @@ late_frame =
 
 -- a step for each kept event, and none for the late one
 abbrev pub late_effects : List Effect
-late_effects = Work 1 ∷ Work 1 ∷ Work 0 ∷ Print (codes "echo 5.2 dropped by 6.1\n") ∷ []
+late_effects = Work 1 ∷ Work 1 ∷ Work 0 ∷ Print (codes "echo 5.2 dropped by 6.1 move 1.1 9 9\n") ∷ []
 
 -- ---- a read that fails behind these bytes
 

@@ -81,7 +81,7 @@ cover_frame =
 
 -- its record lies behind the header, a create of 29 bytes with its gate, and two moves of 26
 abbrev pub cover_effects : List Effect
-cover_effects = Work 0 ∷ Record 92 covered_move ∷ Print (codes "echo 2.2 dropped by 3.1\n") ∷ []
+cover_effects = Work 0 ∷ Record 92 (covered_move ∷ []) ∷ Print (codes "echo 2.2 dropped by 3.1 move 1.1 90 90\n") ∷ []
 
 abbrev pub cover_text : List (List ℕ)
 cover_text = codes "rect 1.1 in - at 60 60 size 10 10 stroke 000000 fill none width 1\n" ∷ codes "end 1\n" ∷ []
@@ -204,15 +204,14 @@ closure_frame =
     }
 
 -- The create bears on nothing behind it. The group takes a member that the group 4.1 took, so that one and its move are
--- redone. With their gates the records in front have 29, 29, 18, 42 and 26 bytes, and that of the create has 29.
+-- redone. Both are recorded behind one gate: with their gates the records in front have 29, 29, 18, 42 and 26 bytes.
 abbrev pub closure_effects : List Effect
 closure_effects =
     Work 1
-    ∷ Record 155 other_create
-    ∷ Print (codes "echo 1.2 applied\n")
     ∷ Work 5
-    ∷ Record 184 late_group
-    ∷ Print (codes "echo 3.2 reworked 2\n")
+    ∷ Record 155 (other_create ∷ late_group ∷ [])
+    ∷ Print (codes "echo 1.2 applied create rect 40 0 10 10\n")
+    ∷ Print (codes "echo 3.2 reworked 2 group 1.2 0 0 2.1 0 0\n")
     ∷ []
 
 abbrev pub closure_text : List (List ℕ)

@@ -1,7 +1,7 @@
 //! Undo and redo, computed on worked rows.
 #![tactic(auto, unfolding(crate::proofs::Computing::computing, crate::specs::WorkedBacks::turned))]
 
-ghost use Rattle.std.specs.Prelude.{◌≡◌, ◌∷◌, ◌++◌, [], ◌-◌, Ok, Err, Some, codes, replicate, slice_get, take};
+ghost use Rattle.std.specs.Prelude.{◌≡◌, ◌∷◌, ◌++◌, [], ◌-◌, IsOk, Ok, Err, Some, codes, replicate, slice_get, take};
 ghost use Rattle.std.specs.List.{AllByRecursion};
 ghost use Rattle.gd_base.specs.declared.op.Op.TheVariants as op;
 ghost use Rattle.gd_base.specs.declared.refusal.EditRefusal.TheVariants as why;
@@ -10,17 +10,15 @@ ghost use Rattle.gd_lines.specs.declared.command.Command.TheVariants as command;
 ghost use Rattle.gd_lines.specs.declared.command.Turn.TheVariants.{Undo, Redo};
 ghost use Rattle.gd_lines.specs.declared.reply.Reply.TheVariants as reply;
 ghost use Rattle.gd_model.specs.Drawing.{picture};
-ghost use Rattle.gd_reference.specs.Backs.{kept, no_backs, with_edit, with_turn};
+ghost use Rattle.gd_reference.specs.Backs.{kept, no_backs, with_gesture, with_turn};
 ghost use Rattle.gd_reference.specs.DrawingText.{text};
-ghost use Rattle.gd_reference.specs.Judging.{edit_by};
 ghost use Rattle.gd_reference.specs.Offers.{offers};
-ghost use Rattle.gd_reference.specs.SiteEffects.{events_replies, turn_reply};
+ghost use Rattle.gd_reference.specs.SiteEffects.{events_replies, turn_replies};
 ghost use Rattle.gd_reference.specs.SlowSite.{new_site};
-ghost use Rattle.gd_reference.specs.TakeBack.{NothingBack, Refused, after_edit, after_turn, or_refused, turn};
+ghost use Rattle.gd_reference.specs.TakeBack.{NothingBack, Refused, after_edit, after_turn, turn};
 ghost use Rattle.gd_rows.specs.Worked.{at_stamp, event, square_line};
-ghost use Rattle.gd_rows.specs.WorkedEdits.{raised};
 ghost use Rattle.gd_rows.specs.WorkedNodes.{asked};
-ghost use Rattle.gd_rows.specs.WorkedBacks.{all_again, all_again_held, all_again_printed, all_back, all_back_held, all_back_printed, backs_of, behind, dressed, dressed_backs, dressed_text, far, far_shown, forgetting, forgotten, forgotten_printed, gone_site, gone_turns, kept_on_the_way, last_site, late_fill, late_move, late_stroke, lost_backs, made_and_taken, moved_backs, nested, nested_backs, nested_shown, one, place_of, prints, put_back, refusing, refusing_printed, regrouped, regrouped_again, regrouped_backs, regrouped_shown, restored, restored_backs, restored_text, restoring, set_and_taken, site_behind, stopping, stopping_again, three, told_to_one, told_to_two, turned, turns, two, unacceptable, undone_steps};
+ghost use Rattle.gd_rows.specs.WorkedBacks.{all_again, all_again_held, all_again_printed, all_back, all_back_held, all_back_printed, backs_of, behind, dressed, dressed_backs, dressed_text, far, far_shown, forgetting, forgotten, forgotten_printed, gestures_of, gone_site, gone_turns, kept_on_the_way, last_site, late_fill, late_move, late_stroke, lost_backs, made_and_moved, made_and_taken, moved_backs, nested, nested_backs, nested_shown, one, owing, place_of, prints, put_back, refusing, refusing_printed, regrouped, regrouped_again, regrouped_backs, regrouped_shown, restored, restored_backs, restored_text, restoring, set_and_taken, site_behind, stopping, stopping_again, three, told_to_one, told_to_two, turned, turns, two, unacceptable, undone_steps};
 
 /// Two edits are taken back, the second first, and then nothing is left; then they are done again, the first first.
 /// Each undo and each redo is an event.
@@ -91,17 +89,19 @@ pub fn an_undo_shows_what_was_out_of_the_range()
     ensures { text (picture (behind (far ++ turns 1 Undo)).held) ≡ far_shown }
 {}
 
-/// The backs of 1,024 edits are kept, and with the next one the oldest goes. So it is with what can be done again.
+/// The backs of 1,024 gestures are kept, and with the next one the oldest goes. So it is with what can be done again.
 pub fn the_oldest_back_goes()
     ensures room { kept one (replicate 1022 two ++ three ∷ []) ≡ one ∷ replicate 1022 two
         ++ three ∷ [] }
     ensures full { kept one (replicate 1023 two ++ three ∷ []) ≡ one ∷ replicate 1023 two }
-    ensures edit { with_edit one (backs_of (replicate 1024 two) (three ∷ []))
-        ≡ backs_of (one ∷ replicate 1023 two) [] }
-    ensures undo { with_turn Undo one (backs_of (two ∷ three ∷ []) (replicate 1024 two))
-        ≡ backs_of (three ∷ []) (one ∷ replicate 1023 two) }
-    ensures redo { with_turn Redo one (backs_of (replicate 1024 two) (two ∷ three ∷ []))
-        ≡ backs_of (one ∷ replicate 1023 two) (three ∷ []) }
+    ensures gesture { with_gesture one (gestures_of (replicate 1024 two) (three ∷ []))
+        ≡ gestures_of (one ∷ replicate 1023 two) [] }
+    ensures nothing { with_gesture [] (gestures_of (replicate 1024 two) (three ∷ []))
+        ≡ gestures_of (replicate 1024 two) (three ∷ []) }
+    ensures undo { with_turn Undo one (gestures_of (two ∷ three ∷ []) (replicate 1024 two))
+        ≡ gestures_of (three ∷ []) (one ∷ replicate 1023 two) }
+    ensures redo { with_turn Redo one (gestures_of (replicate 1024 two) (two ∷ three ∷ []))
+        ≡ gestures_of (one ∷ replicate 1023 two) (three ∷ []) }
 {}
 
 /// A refused edit, a refused undo and a refused redo change nothing.
@@ -112,17 +112,22 @@ pub fn what_is_refused_changes_nothing()
     ensures clock_end { after_turn (after_turn last_site Undo) Redo ≡ after_turn last_site Undo }
 {}
 
-/// Where nothing is left, that comes first, then the greatest clock, and then the number of the site's events.
+/// Where nothing is left, that comes first, then the greatest clock, and then the number of the site's events. There has to be
+/// room for all events of the gesture.
 pub fn each_refusal_of_an_undo_and_a_redo()
     ensures nothing { turn (new_site 1 1 7) Undo ≡ Err NothingBack }
     ensures nothing_again { turn (new_site 1 1 7) Redo ≡ Err NothingBack }
-    ensures last_clock { turn last_site Undo ≡ Ok (event 281474976710655 1 2 (op.Delete (at_stamp 281474976710654 1))) }
+    ensures last_clock { turn last_site Undo ≡ Ok (event 281474976710655 1 2 (op.Delete (at_stamp 281474976710654 1))
+        ∷ []) }
     ensures clock_end { turn (after_turn last_site Undo) Redo ≡ Err (Refused why.ClockEnd) }
     ensures nothing_first { turn (after_turn last_site Undo) Undo ≡ Err NothingBack }
-    ensures last_number { or_refused (edit_by 1 70000 65534 (Ok raised)) ≡ Ok (event 70001 1 65535 raised) }
-    ensures session_full { or_refused (edit_by 1 70000 65535 (Ok raised)) ≡ Err (Refused why.SessionFull) }
-    ensures nothing_said { turn_reply (Err NothingBack) ≡ reply.Refused refusal.NothingBack }
-    ensures clock_said { turn_reply (Err (Refused why.ClockEnd)) ≡ reply.Refused refusal.ClockEnd }
+    ensures two_clocks { turn (owing 2 last_site) Undo ≡ Err (Refused why.ClockEnd) }
+    ensures last_number { IsOk (turn (owing 65535 (new_site 1 1 7)) Undo) }
+    ensures session_full { turn (owing 65536 (new_site 1 1 7)) Undo ≡ Err (Refused why.SessionFull) }
+    ensures session_filled { turn (owing 65535 (behind made_and_moved)) Undo ≡ Err (Refused why.SessionFull) }
+    ensures clock_first { turn (owing 65536 last_site) Undo ≡ Err (Refused why.ClockEnd) }
+    ensures nothing_said { turn_replies (Err NothingBack) ≡ reply.Refused refusal.NothingBack ∷ [] }
+    ensures clock_said { turn_replies (Err (Refused why.ClockEnd)) ≡ reply.Refused refusal.ClockEnd ∷ [] }
 {}
 
 /// An undo reaches other sites as any edit does. What comes from them leaves what can be taken back, and a restart
@@ -144,7 +149,7 @@ pub fn an_undo_is_an_edit()
 /// Where another site deleted the object meanwhile, an undo is accepted and changes nothing.
 pub fn an_undo_of_what_another_deleted()
     ensures kept { gone_site.backs ≡ moved_backs }
-    ensures undo { turn gone_site Undo ≡ Ok (event 3 1 3 (place_of 1 1 0 0)) }
+    ensures undo { turn gone_site Undo ≡ Ok (event 3 1 3 (place_of 1 1 0 0) ∷ []) }
     ensures backs { AllByRecursion (λ r. (turned gone_site r.0).backs ≡ r.1) gone_turns }
     ensures shown { AllByRecursion (λ r. text (picture (turned gone_site r.0).held) ≡ codes "end 0\n"
         ∷ []) gone_turns }

@@ -5,9 +5,9 @@ ghost use Rattle.std.specs.Prelude.{◌≡◌, Ok, Err, Some, None, codes};
 ghost use Rattle.std.specs.List.{AllByRecursion};
 ghost use Rattle.gd_lines.specs.Lines.{read};
 ghost use Rattle.gd_lines.specs.ScriptLines.{read_script};
-ghost use Rattle.gd_lines.specs.Replies.{status_line, who_line, backdated_line};
+ghost use Rattle.gd_lines.specs.Replies.{reply_text, status_line, who_line, backdated_line};
 ghost use Rattle.gd_rows.specs.Worked.{at_stamp};
-ghost use Rattle.gd_rows.specs.WorkedLines.{ada, nobody, read_lines, faulty_lines, script_lines};
+ghost use Rattle.gd_rows.specs.WorkedLines.{ada, echoes, nobody, read_lines, faulty_lines, script_lines};
 
 /// A label is everything behind one space, and one CR at the end is taken off.
 pub fn lines_are_read()
@@ -22,6 +22,11 @@ pub fn the_first_fault_of_a_line_is_given()
 /// The faults of a rehearsal's line go over the whole line.
 pub fn lines_of_a_rehearsal_are_read()
     ensures { AllByRecursion (λ r. read_script r.0 ≡ r.1) script_lines }
+{}
+
+/// An echo ends with the operation of its event.
+pub fn echoes_are_printed()
+    ensures { AllByRecursion (λ r. reply_text r.0 ≡ r.1) echoes }
 {}
 
 /// Replies are printed with their numbers, ids and names.

@@ -15,7 +15,7 @@ ghost use Rattle.gd_base.specs.Notes.{no_note};
 ghost use Rattle.gd_reference.specs.SlowSite.{line, outbox, left_outbox, status, own};
 ghost use Rattle.gd_reference.specs.World.{Names, after_line};
 ghost use Rattle.gd_rows.specs.Worked.{at_stamp, event};
-ghost use Rattle.gd_rows.specs.WorkedWorlds.{site_status, cover_site, cover_world, cover_held, cover_frame, cover_effects, cover_text, lowering_site, raising_site, lower_world, raise_frame, covering_frame, lower_text, closure_site, closure_world, closure_held, closure_frame, closure_effects, closure_text, noted_world, noted_note, answered_world, lost_world, stored_world, taken_world, turned_world, focused_world, listener_of_note, named, listener, ahead_create, ahead_move, ahead_first, ahead_gap, ahead_rest, refused_heads, sure_frame, sure_raise, sure_late_frame, two_held, lower_frame, noting_frame, ahead_one, ahead_none, ahead_all, sure_site, over_acknowledged, first_rect, noted_site};
+ghost use Rattle.gd_rows.specs.WorkedWorlds.{site_status, cover_site, cover_world, cover_held, cover_frame, cover_effects, cover_text, covered_move, covered_raise, covering_lower, late_group, other_create, lowering_site, raising_site, lower_world, raise_frame, covering_frame, lower_text, closure_site, closure_world, closure_held, closure_frame, closure_effects, closure_text, noted_world, noted_note, answered_world, lost_world, stored_world, taken_world, turned_world, focused_world, listener_of_note, named, listener, ahead_create, ahead_move, ahead_first, ahead_gap, ahead_rest, refused_heads, sure_frame, sure_raise, sure_late_frame, two_held, lower_frame, noting_frame, ahead_one, ahead_none, ahead_all, sure_site, over_acknowledged, first_rect, noted_site};
 
 /// A move that arrives late, and that a later one covers, is held like any other. It is printed as dropped, and shows nothing.
 pub fn a_covered_move_is_held()
@@ -23,7 +23,7 @@ pub fn a_covered_move_is_held()
     ensures mail { slice_get cover_world.mail 1 ≡ Some cover_frame }
     ensures effects { of_frame cover_site cover_frame ≡ cover_effects }
     ensures said { frame_replies cover_site cover_frame
-        ≡ reply.Dropped (at_stamp 2 2) (at_stamp 3 1) ∷ [] }
+        ≡ reply.Dropped (at_stamp 2 2) (at_stamp 3 1) covered_move.op ∷ [] }
     ensures status { status (cover_world.at 1) ≡ site_status 4 1 2 3 }
     ensures shown { text (picture (cover_world.at 1).held) ≡ cover_text }
 {}
@@ -33,10 +33,10 @@ pub fn a_covered_move_is_held()
 pub fn a_raise_that_a_lower_covers()
     ensures mail { slice_get lower_world.mail 1 ≡ Some raise_frame }
     ensures dropped { frame_replies lowering_site raise_frame
-        ≡ reply.Dropped (at_stamp 3 1) (at_stamp 3 2) ∷ [] }
+        ≡ reply.Dropped (at_stamp 3 1) (at_stamp 3 2) covered_raise.op ∷ [] }
     ensures back { slice_get lower_world.mail 2 ≡ Some covering_frame }
     ensures applied { frame_replies raising_site covering_frame
-        ≡ reply.Applied (at_stamp 3 2) ∷ [] }
+        ≡ reply.Applied (at_stamp 3 2) covering_lower.op ∷ [] }
     ensures shown { AllByRecursion (λ site. text (picture (lower_world.at site).held) ≡ lower_text)
         (1 ∷ 2 ∷ []) }
 {}
@@ -48,7 +48,8 @@ pub fn two_groups_at_once()
     ensures mail { slice_get closure_world.mail 1 ≡ Some closure_frame }
     ensures effects { of_frame closure_site closure_frame ≡ closure_effects }
     ensures said { frame_replies closure_site closure_frame
-        ≡ reply.Applied (at_stamp 1 2) ∷ reply.Reworked (at_stamp 3 2) 2 ∷ [] }
+        ≡ reply.Applied (at_stamp 1 2) other_create.op
+        ∷ reply.Reworked (at_stamp 3 2) 2 late_group.op ∷ [] }
     ensures shown { text (picture (closure_world.at 1).held) ≡ closure_text }
 {}
 

@@ -167,18 +167,6 @@ end-width : (bytes : List ℕ) → AtEnd (width_at bytes)
 unfolding width_at
 end-width bytes = end-then _ _ (end-word bytes) (λ word. end-ranged _ _ bytes word.1)
 
-end-place : Ends place_at
-unfolding place_at
-end-place = end-next (end-signed place_limit) (λ x. end-next (end-signed place_limit) (λ y. end-pure _))
-
-end-size : Ends size_at
-unfolding size_at
-end-size = end-next (end-signed size_limit) (λ w. end-next (end-signed size_limit) (λ h. end-pure _))
-
-end-look : Ends look_at
-unfolding look_at
-end-look = end-tags look_rows (end-next end-colour (λ colour. end-pure _) & end-next end-fill (λ fill. end-pure _) & end-next end-width (λ width. end-pure _) & tt)
-
 end-text : (v : version.Version) → Ends (label_at v)
 unfolding label_at
 end-text v = end-label (most_label_in v)
@@ -271,7 +259,7 @@ unfolding disband_at
 end-disband stamp = end-next (end-id stamp) (λ id. end-next (end-all-ties 1 stamp) (λ ties. end-pure _))
 
 end-op : (v : version.Version) (stamp : Stamp) → Ends (op_at v stamp)
-unfolding op_at
+unfolding op_at place_at size_at look_at
 end-op v stamp = end-tags-within _ (op_rows v stamp) (
     end-create v
     & end-next (end-id stamp) (λ id. end-pure _)
@@ -279,9 +267,9 @@ end-op v stamp = end-tags-within _ (op_rows v stamp) (
     & end-group stamp
     & end-restore stamp
     & end-disband stamp
-    & end-set stamp _ end-place
-    & end-set stamp _ end-size
-    & end-set stamp _ end-look
+    & end-set stamp _ (end-next (end-signed place_limit) (λ x. end-next (end-signed place_limit) (λ y. end-pure _)))
+    & end-set stamp _ (end-next (end-signed size_limit) (λ w. end-next (end-signed size_limit) (λ h. end-pure _)))
+    & end-set stamp _ (end-tags look_rows (end-next end-colour (λ colour. end-pure _) & end-next end-fill (λ fill. end-pure _) & end-next end-width (λ width. end-pure _) & tt))
     & end-set stamp _ (end-pure _)
     & end-set stamp _ (end-pure _)
     & end-set stamp _ (end-pure _)

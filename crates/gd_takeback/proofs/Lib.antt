@@ -1,3 +1,5 @@
 pub mod Newest
-pub mod Answering
+pub mod Doing
+pub mod Passing
 pub mod Standing
+pub mod Lines

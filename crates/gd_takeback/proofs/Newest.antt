@@ -1,5 +1,5 @@
 -- A list of operations whose newest is the last, seen from the newest on.
-use Rattle.std.proofs.Common.{◌≡◌, ℕ, suc, ◌<◌, List, [], ◌∷◌, ◌++◌, length, map, take, drop, sym, ap, ◌∙◌, arith}
+use Rattle.std.proofs.Common.{◌≡◌, ℕ, suc, ◌<◌, List, [], ◌∷◌, ◌++◌, length, map, take, drop, refl, sym, ap, ◌∙◌, arith}
 use Rattle.std.proofs.lemmas.List.{length-map, length-reverse, map-append, reverse-append, take_all, take_at}
 use Rattle.std.specs.Prelude.{reverse}
 
@@ -25,3 +25,8 @@ module _ {X Y : Type 0} (f : X → Y) where
       sym
       (ap (take n) (reverse-append (f x ∷ []) (map f xs))
       ∙ take_at (seen xs) (f x ∷ []) n (omega (arith, full, length-seen xs)))
+
+  -- nothing is seen where there is nothing
+  pub seen-none : (xs : List X) → length xs ≡ 0 → seen xs ≡ []
+  seen-none [] none = refl
+  seen-none (x ∷ xs) none = cc

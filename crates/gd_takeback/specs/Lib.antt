@@ -1,3 +1,5 @@
+pub mod Seen
 pub mod Lists
+pub mod Making
 pub mod Answers
 pub mod Standing

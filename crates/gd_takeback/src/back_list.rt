@@ -1,97 +1,98 @@
-//! The operations that take edits back, or do them again.
-ghost use Rattle.std.specs.Prelude.{◌≡◌, ◌≤◌, ◌-◌, [], drop, slice_get, OnOk};
+//! What takes gestures back, or does them again.
+ghost use Rattle.std.specs.Prelude.{◌≡◌, ◌≤◌, ◌-◌, ◌∷◌, [], drop, OnOk, MatchOption};
 ghost use Rattle.std.specs.VecDeque.{deque_len, deque_capacity};
 ghost use Rattle.gd_reference.specs.Backs.{kept};
-ghost use Rattle.gd_events.specs.Packed.{unpacked};
+ghost use Rattle.gd_takeback.specs.Seen.{newest_first, count_of};
 
 use gd_base::MOST_BACKS;
-use gd_events::{Op, PackedOp, unpack};
+use gd_events::PackedOp;
 use std::alloc::{AllocError, Global};
 use std::collections::VecDeque;
 use std::marker::Model;
 
-/// Operations, the newest first, at most 1,024, each in the memory that it needs. Contracts see them, and beside them for how many
-/// more there is room.
+/// What takes gestures back, the newest first, at most 1,024, each in the memory that it needs. Contracts see it, and beside it for
+/// how many more there is room.
 #[derive(Drop)]
 pub(crate) struct BackList {
-    /// The newest last.
-    ops: VecDeque<PackedOp>,
+    /// The newest last, and of each gesture what takes its last event back last.
+    gestures: VecDeque<Vec<PackedOp>>,
 }
 
 impl Model for BackList {
     ghost use Rattle.std.specs.Prelude.{◌≤◌, ◌-◌, length, map, reverse};
     ghost use Rattle.std.specs.VecDeque.{deque_len, deque_capacity};
     ghost use Rattle.gd_base.specs.declared.ranges.TheConstants.{MOST_BACKS};
-    ghost use Rattle.gd_events.specs.Packed.{unpacked};
     ghost use Rattle.gd_takeback.specs.Lists.{BackListValue};
+    ghost use Rattle.gd_takeback.specs.Seen.{newest_first};
 
     ghost Value = { BackListValue };
 
     ghost view = { λ l. record {
-      ops = reverse (map unpacked l.ops.items);
-      spare = deque_capacity l.ops - deque_len l.ops;
+      gestures = reverse (map newest_first l.gestures.items);
+      spare = deque_capacity l.gestures - deque_len l.gestures;
     } };
 
-    ghost invariant = { λ l. length l.ops.items ≤ MOST_BACKS };
+    ghost invariant = { λ l. length l.gestures.items ≤ MOST_BACKS };
 }
 
 impl BackList {
-    /// No operations. It takes no memory.
+    /// Nothing. It takes no memory.
     pub(crate) fn new(alloc: Global) -> BackList
-        ensures { result.ops ≡ [] }
+        ensures { result.gestures ≡ [] }
     {
         BackList {
-            ops: VecDeque::new(alloc),
+            gestures: VecDeque::new(alloc),
         }
     }
 
-    /// Makes room for one more. `AllocError` where memory ran out. The operations stay in any case.
+    /// Makes room for one more. `AllocError` where memory ran out. What is there stays in any case.
     pub(crate) fn reserve(&mut self) -> Result<(), AllocError>
-        ensures ops { self.new.ops ≡ self.old.ops }
+        ensures gestures { self.new.gestures ≡ self.old.gestures }
         ensures room { OnOk result (1 ≤ self.new.spare) }
     {
-        self.ops.reserve(1)
+        self.gestures.reserve(1)
     }
 
     /// Keeps one more, where there is room for it, as there is after a `reserve`. Where there are 1,024 the oldest goes. It takes
     /// no memory.
-    pub(crate) fn keep(&mut self, op: PackedOp)
+    pub(crate) fn keep(&mut self, back: Vec<PackedOp>)
         requires { 1 ≤ self.old.spare }
-        ensures { self.new.ops ≡ kept (unpacked op) self.old.ops }
+        ensures { self.new.gestures ≡ kept (newest_first back) self.old.gestures }
     {
-        if self.ops.len() == MOST_BACKS {
-            drop_oldest(&mut self.ops);
+        if self.gestures.len() == MOST_BACKS {
+            drop_oldest(&mut self.gestures);
         }
-        self.ops.push_back_reserved(op);
+        self.gestures.push_back_reserved(back);
     }
 
-    /// A copy of the newest, where there is one. It takes no memory.
-    pub(crate) fn newest(&self) -> Option<Op>
-        ensures { result ≡ slice_get self.now.ops 0 }
+    /// Of how many operations the newest is, where there is one.
+    pub(crate) fn newest_count(&self) -> Option<usize>
+        ensures { result ≡ count_of self.now.gestures }
     {
-        Some(unpack(self.ops.back()?))
+        Some(self.gestures.back()?.len())
     }
 
-    /// Drops the newest, where there is one.
-    pub(crate) fn drop_newest(&mut self)
-        ensures { self.new.ops ≡ drop 1 self.old.ops }
+    /// Takes the newest out, where there is one.
+    pub(crate) fn take_newest(&mut self) -> Option<Vec<PackedOp>>
+        ensures { MatchOption result (self.old.gestures ≡ [])
+            (λ back. self.old.gestures ≡ newest_first back ∷ self.new.gestures) }
     {
-        self.ops.pop_back();
+        self.gestures.pop_back()
     }
 
     /// Drops them all.
     pub(crate) fn clear(&mut self)
-        ensures { self.new.ops ≡ [] }
+        ensures { self.new.gestures ≡ [] }
     {
-        self.ops.clear();
+        self.gestures.clear();
     }
 }
 
 /// Drops the oldest, where there is one.
-fn drop_oldest(ops: &mut VecDeque<PackedOp>)
-    ensures items { ops.new.items ≡ drop 1 ops.old.items }
-    ensures len { deque_len ops.new ≡ deque_len ops.old - 1 }
-    ensures capacity { deque_capacity ops.new ≡ deque_capacity ops.old }
+fn drop_oldest(gestures: &mut VecDeque<Vec<PackedOp>>)
+    ensures items { gestures.new.items ≡ drop 1 gestures.old.items }
+    ensures len { deque_len gestures.new ≡ deque_len gestures.old - 1 }
+    ensures capacity { deque_capacity gestures.new ≡ deque_capacity gestures.old }
 {
-    ops.pop_front();
+    gestures.pop_front();
 }

@@ -3,6 +3,8 @@
 #![tactic(auto)]
 
 mod back_list;
+mod gesture;
 mod take_back;
 
+pub use gesture::Gesture;
 pub use take_back::{BackFault, TakeBack};

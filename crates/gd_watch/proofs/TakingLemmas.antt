@@ -1,10 +1,12 @@
 -- What comes of an event, a frame and an item that comes to a viewer.
 use Rattle.std.proofs.Common.{◌≡◌, ℕ, ◌+◌, ◌≤◌, Bool, true, false, cond, ◌==◌, List, [], ◌∷◌, ◌++◌, length, refl, sym, ap, ◌∙◌, subst, eqb-true, arith, IsTrue}
 use Rattle.std.proofs.lemmas.Bool.{and_parts}
-use Rattle.std.proofs.lemmas.List.{length-map}
 use Rattle.std.specs.Prelude.{Option, Some, None, Result, Ok, Err, OnOk}
+use Rattle.gd_answers.proofs.Heard.{reply_by_offer}
+use Rattle.gd_answers.proofs.Turns.{came_of}
 use Rattle.gd_answers.proofs.Undone.{undone_within}
-use Rattle.gd_answers.specs.Arriving.{arrival_reply}
+use Rattle.gd_answers.specs.Arriving.{IsShort, arrived_by, arrived_of, arrived_reply, reply_list}
+use Rattle.gd_answers.specs.declared.arrived.Arrived.{Arrived}
 use Rattle.gd_base.specs.Sites.{is_site}
 use Rattle.gd_base.specs.declared.offer.Offer.{Offer}
 use Rattle.gd_base.specs.declared.offer.Offer.TheVariants.{Next, Repeat, Gap, Backdated}
@@ -17,21 +19,16 @@ use Rattle.gd_effects.specs.Effects.{Effect}
 use Rattle.gd_effects.specs.Outside.{outside}
 use Rattle.gd_effects.specs.Prints.{Prints, PrintsInSteps}
 use Rattle.gd_events.specs.Events.{Event}
-use Rattle.gd_events.specs.Ops.{Op}
 use Rattle.gd_grammar.specs.FrameBytes.{AreInTurn, Frame, IsFrame, last_of}
 use Rattle.gd_grammar.specs.Reading.{AllFollow}
 use Rattle.gd_grammar.specs.declared.frame.Head.{Head}
 use Rattle.gd_grammar.specs.declared.frame.Last.{Last}
-use Rattle.gd_history.specs.Entries.{stamp_of}
-use Rattle.gd_history.specs.Histories.{arrival_of}
-use Rattle.gd_lines.specs.declared.reply.Reply.{Reply}
 use Rattle.gd_lines.specs.declared.reply.Reply.TheVariants as reply
 use Rattle.gd_model.specs.Arrivals.{cost_of, outcome_of}
 use Rattle.gd_outside.specs.Seen.{SeenSource, SeenSink, SeenJournal, SeenLink}
 use Rattle.gd_outside.specs.declared.end.End.{End}
 use Rattle.gd_reference.specs.Said.{all_said, says}
-use Rattle.gd_reference.specs.SiteEffects.{echo, offer_replies}
-use Rattle.gd_repair.specs.Repair.{Stamped, Outcome, applied, dropped, reworked}
+use Rattle.gd_reference.specs.SiteEffects.{offer_replies}
 use Rattle.gd_site.specs.Answers.{checked}
 use Rattle.gd_site.specs.declared.answers.Taken.{Taken}
 use Rattle.gd_viewer.proofs.Counted.{counted_to-few}
@@ -39,25 +36,22 @@ use Rattle.gd_viewer.specs.Answers.{steps_by, taken_by}
 use Rattle.gd_viewer.specs.Viewers.{StandsFor, ViewerValue}
 use Rattle.gd_viewing.specs.SlowViewer.{SlowViewer, viewer_all_arrived, viewer_beat, viewer_offer, viewer_refusal, viewer_taken, viewer_unless_refused}
 use Rattle.gd_viewing.specs.ViewerEffects.{of_viewer_event, of_viewer_events, of_viewer_frame, of_viewer_frame_unless, viewing}
-use Rattle.gd_watch.specs.Taking.{AreInside, HasFew, taken_reply}
+use Rattle.gd_watch.specs.Taking.{AreInside}
 
 -- ---- what is said of an event
 
--- a reply, if there is one
-abbrev pub said_of : Option Reply → List Effect
-said_of None = []
-said_of (Some r) = says r ∷ []
+came_by : (v : SlowViewer) (e : Event) (o : Offer) → arrived_of (taken_by o v e) ≡ arrived_by v.held e o
+came_by v e Next = came_of (outcome_of v.held e)
+came_by v e Repeat = refl
+came_by v e Gap = refl
+came_by v e (Backdated clock sure) = refl
 
-echo_arrival : (e : Event) (o : Outcome (Stamped Op)) → arrival_reply e.stamp (arrival_of o) ≡ echo e o
-echo_arrival e applied = refl
-echo_arrival e (dropped c) = refl
-echo_arrival e (reworked cs) = ap (reply.Reworked e.stamp) (length-map cs stamp_of)
+-- what is said of an event that came to this
+abbrev pub said_of : Event → Arrived → List Effect
+said_of e came = all_said (reply_list (arrived_reply e came))
 
-said_is : (v : SlowViewer) (e : Event) (o : Offer) → said_of (taken_reply e.stamp (taken_by o v e)) ≡ all_said (offer_replies v.held e o)
-said_is v e Next = ap (λ (r : Reply). says r ∷ []) (echo_arrival e (outcome_of v.held e))
-said_is v e Repeat = refl
-said_is v e Gap = refl
-said_is v e (Backdated clock sure) = refl
+said_is : (v : SlowViewer) (e : Event) (o : Offer) → said_of e (arrived_of (taken_by o v e)) ≡ all_said (offer_replies v.held e o)
+said_is v e o = ap (said_of e) (came_by v e o) ∙ ap all_said (reply_by_offer v.held e o)
 
 worked_by : (v : SlowViewer) (e : Event) (o : Offer) (input : SeenSource) (output : SeenSink) (journal : SeenJournal) (link : SeenLink) {old new : ℕ} → new ≡ old + steps_by o v e
     → DoesAll (outside input output journal link old) (viewing v.held e o) (outside input output journal link new)
@@ -68,10 +62,10 @@ worked_by v e (Backdated clock sure) input output journal link paid = nothing_do
 
 -- the steps, and then what is said
 pub event_done : {T : Type 0} (v : SlowViewer) (e : Event) (t : Taken) (r : Result T End) {old new : ℕ} {a b : SeenSink} → t ≡ taken_by (viewer_offer v e) v e
-    → new ≡ old + steps_by (viewer_offer v e) v e → Prints a (said_of (taken_reply e.stamp t)) r b → PrintsInSteps a old (of_viewer_event v e) r b new
+    → new ≡ old + steps_by (viewer_offer v e) v e → Prints a (said_of e (arrived_of t)) r b → PrintsInSteps a old (of_viewer_event v e) r b new
 event_done v e t r {old} {new} {a} is paid prints = λ input journal link.
     let o = viewer_offer v e in
-    let said : said_of (taken_reply e.stamp t) ≡ all_said (offer_replies v.held e o) = ap (λ (z : Taken). said_of (taken_reply e.stamp z)) is ∙ said_is v e o in
+    let said : said_of e (arrived_of t) ≡ all_said (offer_replies v.held e o) = ap (λ (z : Taken). said_of e (arrived_of z)) is ∙ said_is v e o in
     does_as (ap (λ (z : List Effect). viewing v.held e o ++ z) (sym said))
     (does_then (worked_by v e o input a journal link paid) (prints input journal link new))
 
@@ -80,10 +74,10 @@ event_done v e t r {old} {new} {a} is paid prints = λ input journal link.
 held_few : (v : SlowViewer) (s : ViewerValue) → StandsFor v s → length v.held ≤ 1048560
 held_few v s stands = omega (arith, stands.well.made, stands.well.few, counted_to-few v.count v.sites stands.well.numbered)
 
-pub has_few : (v : SlowViewer) (s : ViewerValue) → StandsFor v s → (e : Event) (t : Taken) → t ≡ taken_by (viewer_offer v e) v e → HasFew t
-has_few v s stands e t is = subst HasFew (sym is) (go (viewer_offer v e))
+pub has_few : (v : SlowViewer) (s : ViewerValue) → StandsFor v s → (e : Event) (t : Taken) → t ≡ taken_by (viewer_offer v e) v e → IsShort t
+has_few v s stands e t is = subst IsShort (sym is) (go (viewer_offer v e))
   where
-    go : (o : Offer) → HasFew (taken_by o v e)
+    go : (o : Offer) → IsShort (taken_by o v e)
     go Next = undone_within v.held (held_few v s stands) e
     go Repeat = tt
     go Gap = tt

@@ -7,13 +7,12 @@ ghost use Rattle.gd_viewer.specs.Viewers.{StandsFor};
 ghost use Rattle.gd_viewing.specs.SlowViewer.{SlowViewer, viewer_all_arrived, viewer_arrived, viewer_taken};
 ghost use Rattle.gd_viewing.specs.ViewerEffects.{of_viewer_event, of_viewer_events, of_viewer_frame};
 ghost use Rattle.gd_viewing.specs.Viewing.{after_item, of_item};
-ghost use Rattle.gd_watch.specs.Taking.{AreInside, HasFew, taken_reply};
+ghost use Rattle.gd_watch.specs.Taking.{AreInside};
 
-use gd_answers::{arrival_reply, say};
-use gd_base::{Stamp, Steps};
+use gd_answers::{Arrived, say};
+use gd_base::Steps;
 use gd_events::Event;
 use gd_outside::{End, Sink};
-use gd_site::Taken;
 use gd_viewer::Viewer;
 use gd_wire::{Frame, read_frame};
 use gd_words::Reply;
@@ -102,24 +101,8 @@ fn take_event<K: Sink, L: Ledger>(
     ensures sites { viewer.new.heard.sites ≡ viewer.old.heard.sites }
 {
     let taken = viewer.arrive(event.copy(), steps)?;
-    match taken_reply(event.stamp(), &taken) {
+    match Arrived::of(&taken).reply(event) {
         Some(reply) => say(&reply, output),
         None => Ok(()),
-    }
-}
-
-/// What is said of an event with that stamp, if anything is.
-fn taken_reply(id: Stamp, taken: &Taken) -> Option<Reply>
-    requires { HasFew taken.now }
-    ensures { result ≡ taken_reply id taken.now }
-{
-    match taken {
-        Taken::Arrival(arrival) => Some(arrival_reply(id, arrival)),
-        Taken::Repeat | Taken::Gap => None,
-        Taken::Backdated { clock, sure } => Some(Reply::Backdated {
-            id,
-            clock: *clock,
-            sure: *sure,
-        }),
     }
 }

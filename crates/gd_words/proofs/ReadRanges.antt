@@ -331,7 +331,13 @@ commands_read = (
   λ n fit. pure_reads _ tt,
   (
     λ n fit. pure_reads _ tt,
-    all_weaker IsFit IsCommand asked_rows (λ c h. h.0) asked_read,
+    (
+      λ n fit. pure_reads _ tt,
+      (
+        λ n fit. pure_reads _ tt,
+        all_weaker IsFit IsCommand asked_rows (λ c h. h.0) asked_read,
+      ),
+    ),
   ),
 )
 

@@ -48,7 +48,7 @@ fn kind_word(shape: &Option<ShapeItem>) -> &'static [u8]
     }
 }
 
-fn shape_word(kind: Shape) -> &'static [u8]
+pub(crate) fn shape_word(kind: Shape) -> &'static [u8]
     ensures word { result.now ≡ shape_word kind }
     ensures short { length result.now ≤ 7 }
 {
@@ -108,7 +108,7 @@ fn push_colours(text: &mut ReplyText, stroke: u32, fill: Option<u32>)
     push_fill(text, fill);
 }
 
-fn push_fill(text: &mut ReplyText, fill: Option<u32>)
+pub(crate) fn push_fill(text: &mut ReplyText, fill: Option<u32>)
     requires room { length text.old + 8 ≤ LONGEST_REPLY }
     ensures value { text.new ≡ text.old ++ fill_text fill }
     ensures grown { length text.new ≤ length text.old + 8 }
@@ -129,7 +129,7 @@ fn push_width(text: &mut ReplyText, width: u8)
     text.number(u64::from(width));
 }
 
-fn push_label(text: &mut ReplyText, label: &Label)
+pub(crate) fn push_label(text: &mut ReplyText, label: &Label)
     requires room { length text.old + 206 ≤ LONGEST_REPLY }
     ensures value { text.new ≡ text.old ++ label_text label.now }
     ensures grown { length text.new ≤ length text.old + 206 }

@@ -2,26 +2,35 @@
 use Rattle.std.proofs.Common.{◌≡◌, ℕ, zero, suc, ◌+◌, ◌≤◌, Bool, true, false, cond, List, [], ◌∷◌, length, slice_get, refl, sym, subst, arith, length-append}
 use Rattle.std.proofs.lemmas.Bool.{cond_both, leb-true}
 use Rattle.std.specs.List.{AllByRecursion as Every, flat_map}
-use Rattle.std.specs.Prelude.{Option, None, Some, Ok}
+use Rattle.std.specs.Prelude.{Option, None, Some, Ok, Err}
 use Rattle.gd_base.proofs.Lists.{Every-at}
 use Rattle.gd_base.specs.Sites.{is_site}
 use Rattle.gd_base.specs.declared.offer.Offer.{Offer}
 use Rattle.gd_base.specs.declared.offer.Offer.TheVariants.{Next, Repeat, Gap, Backdated}
+use Rattle.gd_base.specs.declared.refusal.EditRefusal.TheVariants.{ClockEnd, SessionFull}
 use Rattle.gd_base.specs.declared.refusal.FrameFault.{FrameFault}
 use Rattle.gd_events.specs.Events.{Event}
+use Rattle.gd_events.specs.Ops.{Op}
 use Rattle.gd_grammar.specs.FrameBytes.{Frame, IsFrame, most_frame_events}
 use Rattle.gd_lines.specs.declared.command.Command.TheVariants as command
+use Rattle.gd_lines.specs.declared.command.Turn.{Turn}
 use Rattle.gd_lines.specs.declared.command.ScriptLine.{ScriptLine}
 use Rattle.gd_lines.specs.declared.command.ScriptLine.TheVariants as script
 use Rattle.gd_lines.specs.declared.reply.Reply.{Reply}
 use Rattle.gd_lines.specs.declared.reply.Reply.TheVariants as reply
+use Rattle.gd_protocol.proofs.Backs.{single-due}
 use Rattle.gd_protocol.proofs.Ranged.{ranged_after}
+use Rattle.gd_protocol.specs.Kept.{AreSingle}
 use Rattle.gd_reference.specs.Offers.{arrived, frame_for, offer, refusal}
-use Rattle.gd_reference.specs.SiteEffects.{events_replies, frame_replies, offer_replies, unless_refused_replies}
+use Rattle.gd_reference.specs.Backs.{due}
+use Rattle.gd_reference.specs.SiteEffects.{done_replies, events_replies, frame_replies, offer_replies, turn_replies, unless_refused_replies}
 use Rattle.gd_reference.specs.SlowSite.{SlowSite}
+use Rattle.gd_reference.specs.TakeBack.{Refused, done, turn, turn_by}
 use Rattle.gd_reference.specs.World.{World, delivered, happens, with_site}
+use Rattle.gd_takeback.proofs.Doing.{length-done}
 use Rattle.gd_worlds.specs.Churn.{done_id, ids_made, is_making}
 use Rattle.gd_worlds.specs.Rehearsal.{after_script, delivery_replies, mail_of, script_replies}
+use Rattle.gd_world.proofs.Members.{kept}
 use Rattle.gd_world.specs.Drawn.{IsPlayed}
 use Rattle.gd_world.specs.Standing.{StandsFor, WorldValue}
 
@@ -56,14 +65,33 @@ mail_is_frame : (w : World) → Every IsFrame w.mail → (number : ℕ) (f : Fra
 mail_is_frame w h zero f e = absurd cc
 mail_is_frame w h (suc mail) f e = Every-at IsFrame w.mail mail f h e
 
-one_said : (there : Bool) (a b : Reply) → length (cond there (a ∷ []) (b ∷ [])) ≤ 9
-one_said true a b = omega arith
-one_said false a b = omega arith
+said_few : (there : Bool) (replies : List Reply) (other : Reply) → length replies ≤ 9 → length (cond there replies (other ∷ [])) ≤ 9
+said_few true replies other few = few
+said_few false replies other few = omega arith
+
+done_few : (es : List Event) → length es ≤ 1 → length (done_replies es) ≤ 9
+done_few [] few = omega arith
+done_few (e ∷ []) few = omega arith
+done_few (e ∷ f ∷ es) few = absurd (omega (arith, few))
+
+-- each back is of one event at most, so an undo says at most two things
+turn_few : (slow : SlowSite) (which : Turn) → AreSingle slow.backs → length (turn_replies (turn slow which)) ≤ 9
+unfolding turn
+turn_few slow which single = by (due which slow.backs) (single-due which slow.backs single)
+  where
+    tests : (a b : Bool) (es : List Event) → length es ≤ 1 → length (turn_replies (cond a (Err (Refused ClockEnd)) (cond b (Err (Refused SessionFull)) (Ok es)))) ≤ 9
+    tests true b es few = omega arith
+    tests false true es few = omega arith
+    tests false false es few = done_few es few
+
+    by : (all : List (List Op)) → Every (λ ops. length ops ≤ 1) all → length (turn_replies (turn_by slow all)) ≤ 9
+    by [] few = omega arith
+    by (ops ∷ all) few = tests _ _ (done slow ops) (omega (arith, few.0, length-done slow ops))
 
 -- of a line that a churn plays
 pub replies_few : (w : World) (v : WorldValue) → StandsFor w v → (line : ScriptLine) → IsPlayed line → length (script_replies w (Ok line)) ≤ 9
-replies_few w v h (script.At site (command.Edit edit)) played = one_said (is_site w.sites site) _ _
-replies_few w v h (script.At site (command.Turn which)) played = one_said (is_site w.sites site) _ _
+replies_few w v h (script.At site (command.Edit edit)) played = said_few (is_site w.sites site) _ _ (omega arith)
+replies_few w v h (script.At site (command.Turn which)) played = said_few (is_site w.sites site) _ _ (turn_few (w.at site) which ((kept w v h).single site))
 replies_few w v h (script.Send from to) played = omega arith
 replies_few w v h (script.Deliver number) played = delivery_few w number (mail_of w number) (mail_is_frame w (frames_in w v h) number)
 replies_few w v h other played = absurd played

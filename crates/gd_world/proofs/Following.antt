@@ -4,6 +4,7 @@ use Rattle.std.proofs.lemmas.List.{append-nil}
 use Rattle.std.specs.Prelude.{Option, None, Some, Result, Ok, Err, IsErrAnd, OnOk}
 use Rattle.rand_pcg.specs.Lcg.{Lcg}
 use Rattle.std.specs.declared.alloc.AllocError.{AllocError}
+use Rattle.gd_answers.specs.Paying.{PaysFront}
 use Rattle.gd_base.specs.Stamps.{Stamp}
 use Rattle.gd_effects.proofs.Doing.{cost-append}
 use Rattle.gd_effects.specs.Effects.{Effect, Work, cost}
@@ -15,7 +16,7 @@ use Rattle.gd_worlds.specs.Rehearsal.{script_replies, script_work}
 use Rattle.gd_world.proofs.ChurnLines.{made_few, near_script, replies_few}
 use Rattle.gd_world.proofs.ChurnWork.{Grows}
 use Rattle.gd_world.proofs.Counting.{few_more}
-use Rattle.gd_world.specs.Calls.{Answers, PaysFront}
+use Rattle.gd_world.specs.Calls.{Answers}
 use Rattle.gd_world.specs.Counted.{AreFew, HaveRoom}
 use Rattle.gd_world.specs.Drawn.{IsPlayed}
 use Rattle.gd_world.specs.Playing.{Follows, Gets, IsReady}

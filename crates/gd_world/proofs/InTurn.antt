@@ -9,7 +9,7 @@ abbrev pub said_from : ℕ → List Reply → List Effect
 said_from i replies = all_said (drop i replies)
 
 -- the next one of a loop
-at_item : (xs : List Reply) (i : ℕ) (x : Reply) → i < length xs → x ≡ get_or xs i x → drop i xs ≡ x ∷ drop (i + 1) xs
+pub at_item : {A : Type 0} (xs : List A) (i : ℕ) (x : A) → i < length xs → x ≡ get_or xs i x → drop i xs ≡ x ∷ drop (i + 1) xs
 at_item xs i x below is = drop-cons xs i x below ∙ ap (λ z. z ∷ drop (suc i) xs) (sym is) ∙ ap (λ k. x ∷ drop k xs) (sym (add-one i))
 
 pub said_next : (i : ℕ) (replies items : List Reply) (x : Reply) → items ≡ replies → x ≡ get_or items i x → i < length items

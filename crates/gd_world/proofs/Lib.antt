@@ -4,7 +4,9 @@ pub mod ChurnWork
 pub mod Counting
 mod Deliveries
 pub mod DrawnLines
+mod Echoed
 pub mod Following
+pub mod Heard
 mod InTurn
 mod Items
 mod LineWork

@@ -2,6 +2,7 @@
 use Rattle.std.proofs.Common.{◌≡◌, ℕ, ◌+◌, List, [], ◌∷◌, ◌++◌, map, refl, sym, ◌∙◌, ap, ap₂, subst}
 use Rattle.std.specs.List.{filter}
 use Rattle.std.specs.Prelude.{Result, Ok, Err}
+use Rattle.gd_answers.specs.Paying.{PaysFront}
 use Rattle.gd_base.specs.declared.refusal.LineFault.{LineFault}
 use Rattle.gd_dialogue.proofs.Carrying.{carries_prints, on_ok_map}
 use Rattle.gd_dialogue.proofs.Keeping.{keeps_same}
@@ -25,7 +26,7 @@ use Rattle.gd_outside.specs.declared.end.End.{End}
 use Rattle.gd_outside.specs.declared.end.End.TheVariants as early
 use Rattle.gd_reference.specs.Said.{all_said, says}
 use Rattle.gd_reference.specs.World.{World}
-use Rattle.gd_world.specs.Calls.{Answers, IsScript, PaysFront}
+use Rattle.gd_world.specs.Calls.{Answers, IsScript}
 use Rattle.gd_world.specs.Standing.{StandsFor, WorldValue}
 use Rattle.gd_world.specs.declared.fault.WorldFault.{WorldFault}
 use Rattle.gd_world.specs.declared.fault.WorldFault.TheVariants.{NoSite, NoMail, NoMemory}

@@ -3,6 +3,7 @@ use Rattle.std.proofs.Common.{◌≡◌, ℕ, ◌+◌, ◌-◌, true, false, con
 use Rattle.std.specs.List.{filter}
 use Rattle.std.specs.Prelude.{Result, Ok, Err, OnOk}
 use Rattle.std.specs.Result.{is_err}
+use Rattle.gd_answers.specs.Paying.{PaysFront}
 use Rattle.gd_base.proofs.SiteLemmas.{is_site-bounds}
 use Rattle.gd_base.specs.Sites.{is_site}
 use Rattle.gd_effects.specs.Effects.{Effect, cost}
@@ -16,7 +17,7 @@ use Rattle.gd_reference.specs.World.{At, IsLine, World, after_line, happens, wit
 use Rattle.gd_takeback.specs.Standing.{StandsWith}
 use Rattle.gd_world.proofs.Members.{changed, member_of, member_read}
 use Rattle.gd_world.specs.Answers.{LineIs}
-use Rattle.gd_world.specs.Calls.{Comes, PaysFront}
+use Rattle.gd_world.specs.Calls.{Comes}
 use Rattle.gd_world.specs.Standing.{HasWorld, StandsFor, WorldValue}
 use Rattle.gd_world.specs.Telling.{Tells, work_of}
 use Rattle.gd_world.specs.declared.fault.WorldFault.{WorldFault}
@@ -34,6 +35,8 @@ line_ranged command.Show h = tt
 line_ranged command.Status h = tt
 line_ranged command.Who h = tt
 line_ranged command.Blank h = tt
+line_ranged command.Begin h = tt
+line_ranged command.End h = tt
 line_ranged command.Poll h = tt
 line_ranged command.Quit h = tt
 

@@ -6,7 +6,7 @@ use Rattle.gd_base.proofs.Lists.{Every-append, Every-prefix}
 use Rattle.gd_effects.proofs.Crashing.{journals_stay}
 use Rattle.gd_effects.proofs.RunEnds.{idle_journal, idle_link}
 use Rattle.gd_effects.specs.Done.{Did, DidFront, DidHalfPrint}
-use Rattle.gd_effects.specs.Effects.{Effect, Print, Work, journal_after, recorded, tried}
+use Rattle.gd_effects.specs.Effects.{Effect, Print, Work, gestures, journal_after, tried}
 use Rattle.gd_effects.specs.Endings.{Causes, DidRead, EndsAs, IfUnopened, Leaves}
 use Rattle.gd_effects.specs.Outside.{Outside, IsTold, outside}
 use Rattle.gd_outside.proofs.ToldLemmas.{grows_nothing}
@@ -30,11 +30,11 @@ shown-journal contents (Print bytes ∷ xs) h = shown-journal contents xs h.1
 shown-journal contents (Work n ∷ xs) h = shown-journal contents xs h.1
 shown-journal contents (other ∷ xs) h = absurd h.0
 
-shown-recorded : (xs : List Effect) → AreShown xs → recorded xs ≡ []
-shown-recorded [] h = refl
-shown-recorded (Print bytes ∷ xs) h = shown-recorded xs h.1
-shown-recorded (Work n ∷ xs) h = shown-recorded xs h.1
-shown-recorded (other ∷ xs) h = absurd h.0
+shown-gestures : (xs : List Effect) → AreShown xs → gestures xs ≡ []
+shown-gestures [] h = refl
+shown-gestures (Print bytes ∷ xs) h = shown-gestures xs h.1
+shown-gestures (Work n ∷ xs) h = shown-gestures xs h.1
+shown-gestures (other ∷ xs) h = absurd h.0
 
 shown-tried : (xs : List Effect) → AreShown xs → tried xs ≡ []
 shown-tried [] h = refl
@@ -61,7 +61,7 @@ module _ (was_input input : SeenSource) (old new : SeenSink) (before after : ℕ
     did_beside : (xs : List Effect) → AreShown xs → Did idle_before xs idle_after → Did any_before xs any_after
     did_beside xs shown h = record {
       output = h.output;
-      journal = journals_stay journal xs (sym (shown-journal (told journal.contents) xs shown)) (sym (shown-recorded xs shown));
+      journal = journals_stay journal xs (sym (shown-journal (told journal.contents) xs shown)) (sym (shown-gestures xs shown));
       tried = subst (λ (frames : List Tried). Grows link.tried frames link.tried) (sym (shown-tried xs shown)) (grows_nothing link.tried);
       steps = h.steps;
     }

@@ -3,6 +3,7 @@ use Rattle.std.proofs.Common.{◌≡◌, ℕ, ◌+◌, List, [], ◌∷◌, ◌+
 use Rattle.std.proofs.lemmas.List.{map-append}
 use Rattle.std.specs.Prelude.{Result, Ok, Err, IfOk, IsErrAnd, ⊤, ◌/◌}
 use Rattle.std.specs.declared.alloc.AllocError.{AllocError}
+use Rattle.gd_answers.specs.Paying.{PaysFront}
 use Rattle.gd_effects.proofs.Doing.{cost-works, does_as, does_more, does_some_works, does_works}
 use Rattle.gd_effects.proofs.RunEnds.{no_journal, no_read}
 use Rattle.gd_effects.specs.Done.{Does}
@@ -18,7 +19,6 @@ use Rattle.gd_outside.specs.declared.status.Status.TheVariants.{Done}
 use Rattle.gd_worlds.specs.Churn.{Churning, churned, new_churning, rounded, stepped, summary, times}
 use Rattle.gd_world.proofs.ChurnWork.{Grows, grows_round, grows_step, grows_then, times_grows}
 use Rattle.gd_world.proofs.Following.{pays_whole}
-use Rattle.gd_world.specs.Calls.{PaysFront}
 use Rattle.gd_world.specs.Playing.{Plays}
 use Rattle.gd_world.specs.Rehearsing.{IsChurnEnd}
 

@@ -1,25 +1,37 @@
--- The steps among the effects of a command: what is recorded, printed or tried takes none.
-use Rattle.std.proofs.Common.{◌≡◌, ℕ, zero, suc, ◌+◌, ◌==◌, Bool, true, false, cond, List, [], ◌∷◌, ◌++◌, refl, ◌∙◌, ap}
+-- The steps among effects: what is recorded, printed or tried takes none.
+use Rattle.std.proofs.Common.{◌≡◌, ℕ, zero, suc, ◌+◌, ◌==◌, Bool, true, false, cond, List, [], ◌∷◌, ◌++◌, map, refl, ◌∙◌, ap, append-nil}
 use Rattle.std.proofs.lemmas.List.Elements.{filter-append}
 use Rattle.std.specs.List.{filter}
-use Rattle.std.specs.Prelude.{Ok}
-use Rattle.gd_effects.specs.Effects.{Try, Work}
+use Rattle.std.specs.Prelude.{Option, None, Some}
+use Rattle.gd_answers.specs.Paying.{frame_works, works_unless}
+use Rattle.gd_base.specs.declared.refusal.FrameFault.{FrameFault}
+use Rattle.gd_effects.specs.Effects.{Effect, Try, Work}
 use Rattle.gd_events.specs.Events.{Event}
-use Rattle.gd_grammar.specs.FrameBytes.{frame_bytes}
+use Rattle.gd_grammar.specs.FrameBytes.{Frame, frame_bytes}
 use Rattle.gd_lines.specs.declared.command.Command.TheVariants as command
 use Rattle.gd_lines.specs.declared.reply.Reply.{Reply}
-use Rattle.gd_reference.specs.Judging.{with_event}
+use Rattle.gd_model.specs.Arrivals.{cost_of}
 use Rattle.gd_reference.specs.NodeRun.{of_received, received}
-use Rattle.gd_reference.specs.Offers.{frame_for}
+use Rattle.gd_reference.specs.Offers.{arrived, frame_for, offer, refusal}
 use Rattle.gd_reference.specs.Said.{all_said}
-use Rattle.gd_reference.specs.SiteEffects.{of_own, tries, tries_behind, try_for}
-use Rattle.gd_reference.specs.SlowSite.{SlowSite}
+use Rattle.gd_reference.specs.SiteEffects.{events_replies, of_frame, of_own, recording, taken, taken_as, tries, tries_behind, tries_with, try_for, unless_refused_of, unless_refused_replies, works_of}
+use Rattle.gd_reference.specs.SlowSite.{SlowSite, log_end}
+use Rattle.gd_reference.specs.TakeBack.{with_events}
 use Rattle.gd_world.specs.Telling.{work_of}
 use Rattle.gd_worlds.specs.Rehearsal.{is_work}
+
+-- ---- what takes none
+
+none_both : (xs ys : List Effect) → filter is_work xs ≡ [] → filter is_work ys ≡ [] → filter is_work (xs ++ ys) ≡ []
+none_both xs ys none no_more = filter-append is_work xs ys ∙ (λ i. none i ++ no_more i)
 
 pub none_said : (replies : List Reply) → filter is_work (all_said replies) ≡ []
 none_said [] = refl
 none_said (r ∷ rs) = none_said rs
+
+none_recorded : (place : ℕ) (es : List Event) → filter is_work (recording place es) ≡ []
+none_recorded place [] = refl
+none_recorded place (e ∷ es) = refl
 
 none_for : (slow : SlowSite) (to : ℕ) → filter is_work (try_for slow to) ≡ []
 none_for slow to = by (to == slow.me)
@@ -32,16 +44,55 @@ none_behind : (slow : SlowSite) (site k : ℕ) → filter is_work (tries_behind 
 unfolding tries_behind
 none_behind slow site zero = refl
 none_behind slow site (suc k) =
-    filter-append is_work (try_for slow (site + 1)) (tries_behind slow (site + 1) k) ∙ (λ i. none_for slow (site + 1) i ++ none_behind slow (site + 1) k i)
+    none_both (try_for slow (site + 1)) (tries_behind slow (site + 1) k) (none_for slow (site + 1)) (none_behind slow (site + 1) k)
 
 none_tried : (slow : SlowSite) → filter is_work (tries slow) ≡ []
 none_tried slow = none_behind slow 0 slow.sites
 
--- an own event takes one step
-pub one_made : (slow : SlowSite) (e : Event) → filter is_work (of_own slow (Ok e)) ≡ Work 1 ∷ []
-one_made slow e = ap (λ xs. Work 1 ∷ xs) (none_tried (with_event slow e))
+none_tried_with : (slow : SlowSite) (es : List Event) → filter is_work (tries_with slow es) ≡ []
+none_tried_with slow [] = refl
+none_tried_with slow (e ∷ es) = none_tried (with_events slow (e ∷ es))
 
 -- a world has no link, and a poll there takes nothing in
 pub none_polled : (slow : SlowSite) → work_of slow command.Poll ≡ []
 unfolding of_received received
-none_polled slow = filter-append is_work (tries slow) _ ∙ ap (λ xs. xs ++ []) (none_tried slow)
+none_polled slow = none_both (tries slow) _ (none_tried slow) refl
+
+-- ---- what takes steps
+
+-- behind them what takes none
+works_then : (xs ys works : List Effect) → filter is_work xs ≡ works → filter is_work ys ≡ [] → filter is_work (xs ++ ys) ≡ works
+works_then xs ys works all none = filter-append is_work xs ys ∙ (λ i. all i ++ none i) ∙ append-nil works
+
+all_works : (ns : Event → ℕ) (es : List Event) → filter is_work (map (λ e. Work (ns e)) es) ≡ map (λ e. Work (ns e)) es
+all_works ns [] = refl
+all_works ns (e ∷ es) = ap (λ (xs : List Effect). Work (ns e) ∷ xs) (all_works ns es)
+
+-- own events take one step each
+pub own_works : (slow : SlowSite) (es : List Event) (replies : List Reply) → filter is_work (of_own slow es replies) ≡ map (λ e. Work 1) es
+own_works slow es replies =
+    let ones = map (λ e. Work 1) es in
+    let records = recording (log_end slow) es in
+    works_then (ones ++ records ++ all_said replies) (tries_with slow es) ones
+    (works_then (ones ++ records) (all_said replies) ones
+    (works_then ones records ones (all_works (λ e. 1) es) (none_recorded (log_end slow) es)) (none_said replies)) (none_tried_with slow es)
+
+events_works : (slow : SlowSite) (es : List Event) → filter is_work (works_of slow es) ≡ works_of slow es
+unfolding works_of
+events_works slow [] = refl
+events_works slow (e ∷ es) =
+    filter-append is_work (map (λ e. Work (cost_of slow.held e)) (taken_as (offer slow e) e)) (works_of (arrived slow e) es)
+    ∙ (λ i. all_works (λ e. cost_of slow.held e) (taken_as (offer slow e) e) i ++ events_works (arrived slow e) es i)
+
+-- those of a frame
+pub works_of_frame : (slow : SlowSite) (f : Frame) → filter is_work (of_frame slow f) ≡ frame_works slow f
+works_of_frame slow f = by (refusal slow f)
+  where
+    by : (why : Option FrameFault) → filter is_work (unless_refused_of slow f why) ≡ works_unless slow f why
+    by None =
+        let works = works_of slow f.events in
+        let records = recording (log_end slow) (taken slow f.events) in
+        works_then (works ++ records) (all_said (events_replies slow f.events)) works
+        (works_then works records works (events_works slow f.events) (none_recorded (log_end slow) (taken slow f.events)))
+        (none_said (events_replies slow f.events))
+    by (Some why) = none_said (unless_refused_replies slow f (Some why))

@@ -35,7 +35,7 @@ DeliverIs w number (Err NoMemory) = IsSome (mail_of w number)
 
 -- what is said of an event that is taken: no mail is refused, no event of it backdated
 abbrev pub IsEcho : Reply → Type 0
-IsEcho (reply.Applied id) = Unit {0}
-IsEcho (reply.Dropped id by) = Unit {0}
-IsEcho (reply.Reworked id count) = Unit {0}
+IsEcho (reply.Applied id op) = Unit {0}
+IsEcho (reply.Dropped id by op) = Unit {0}
+IsEcho (reply.Reworked id count op) = Unit {0}
 IsEcho other = ⊥

@@ -1,5 +1,6 @@
 -- What a call of a world costs, and what it leaves.
-use Rattle.std.specs.Prelude.{◌≡◌, ℕ, ◌+◌, List, [], ◌∷◌, ◌++◌, Result, Ok, Err}
+use Rattle.std.specs.Prelude.{◌≡◌, ℕ, ◌+◌, List, [], ◌∷◌, Result, Ok, Err}
+use Rattle.gd_answers.specs.Paying.{PaysFront}
 use Rattle.gd_base.specs.declared.refusal.Refusal.TheVariants as refusal
 use Rattle.gd_effects.specs.Effects.{Effect, cost}
 use Rattle.gd_lines.specs.InRange.{IsCommand}
@@ -12,13 +13,6 @@ use Rattle.gd_world.specs.Standing.{StandsFor, WorldValue}
 use Rattle.gd_world.specs.declared.fault.WorldFault.{WorldFault}
 use Rattle.gd_world.specs.declared.fault.WorldFault.TheVariants.{NoSite, NoMail, NoMemory}
 use Rattle.gd_worlds.specs.Rehearsal.{after_script, script_replies, script_work}
-
--- the steps of a front of these effects were taken
-pub record PaysFront (before : ℕ) (xs : List Effect) (after : ℕ) : Type 0 where
-  pub front : List Effect
-  pub back : List Effect
-  pub split : xs ≡ front ++ back
-  pub paid : after ≡ before + cost front
 
 -- All of them where the call goes through; and then the world stands for `then`. A refusal changes nothing, and takes no
 -- steps. Where memory ran out, a part of the steps were taken, and of the world no more is said.

@@ -2,9 +2,8 @@ pub mod Standing
 pub mod Answers
 pub mod Calls
 pub mod Telling
-pub mod Replying
+pub mod Hearing
 pub mod Rehearsing
-pub mod ReplyLaws
 pub mod Drawn
 pub mod Counted
 pub mod Playing

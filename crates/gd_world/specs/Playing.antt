@@ -1,10 +1,10 @@
 -- How far a churn has come in memory, and for which churn of reference sites it stands.
 use Rattle.std.specs.Prelude.{◌≡◌, ℕ, ◌+◌, ◌*◌, ◌≤◌, List, length, Result, Ok, Err}
 use Rattle.std.specs.declared.alloc.AllocError.{AllocError}
+use Rattle.gd_answers.specs.Paying.{PaysFront}
 use Rattle.gd_effects.specs.Effects.{cost}
 use Rattle.gd_lines.specs.declared.reply.Reply.{Reply}
 use Rattle.gd_worlds.specs.Churn.{Churning, summary}
-use Rattle.gd_world.specs.Calls.{PaysFront}
 use Rattle.gd_world.specs.Counted.{AreFew}
 use Rattle.gd_world.specs.Standing.{StandsFor}
 use Rattle.gd_world.specs.declared.churning.playing.Churning.{Churning as Played}

@@ -1,6 +1,7 @@
 -- What comes of asking a member for what a line says.
 use Rattle.std.specs.List.{filter}
 use Rattle.std.specs.Prelude.{◌≡◌, ℕ, ◌+◌, List, [], Result, Ok, Err}
+use Rattle.gd_answers.specs.Paying.{PaysFront}
 use Rattle.gd_effects.specs.Effects.{Effect, cost}
 use Rattle.gd_lines.specs.declared.command.Command.{Command}
 use Rattle.gd_lines.specs.declared.reply.Reply.{Reply}
@@ -8,7 +9,6 @@ use Rattle.gd_reference.specs.NodeRun.{command_replies, of_command}
 use Rattle.gd_reference.specs.SlowSite.{SlowSite}
 use Rattle.gd_reference.specs.World.{after_line}
 use Rattle.gd_takeback.specs.Standing.{StandsWith}
-use Rattle.gd_world.specs.Calls.{PaysFront}
 use Rattle.gd_world.specs.declared.fault.WorldFault.{WorldFault}
 use Rattle.gd_world.specs.declared.fault.WorldFault.TheVariants.{NoMemory}
 use Rattle.gd_world.specs.declared.member.Member.{Member}

@@ -3,6 +3,7 @@
 
 mod churning;
 mod fault;
+mod hearing;
 mod laws;
 mod mail;
 mod member;

@@ -1,11 +1,7 @@
 //! What a site says.
 
 ghost use Rattle.std.specs.Prelude.{◌≡◌, ◌++◌, ◌∷◌, [], OnOk};
-ghost use Rattle.gd_world.specs.Replying.{Keeps};
 
-use gd_answers::Listener;
-use gd_events::Event;
-use gd_outside::End;
 use gd_words::Reply;
 use std::alloc::{AllocError, Global};
 use std::marker::Model;
@@ -47,27 +43,5 @@ impl Replies {
         ensures { result.now ≡ self.now }
     {
         self.items.as_slice()
-    }
-}
-
-/// Keeps what is said. It keeps no log.
-impl Listener for Replies {
-    ghost use Rattle.std.specs.Prelude.{⊤};
-    ghost use Rattle.gd_world.specs.ReplyLaws.{replies_laws};
-
-    ghost does = { Keeps };
-
-    ghost laws = { replies_laws };
-
-    ghost has = { λ header events replies. ⊤ };
-
-    fn take(&mut self, _event: &Event, reply: Reply) -> Result<(), End> {
-        self.push(reply)?;
-        Ok(())
-    }
-
-    fn say(&mut self, reply: Reply) -> Result<(), End> {
-        self.push(reply)?;
-        Ok(())
     }
 }

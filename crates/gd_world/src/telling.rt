@@ -7,6 +7,7 @@ ghost use Rattle.gd_lines.specs.InRange.{IsCommand};
 ghost use Rattle.gd_lines.specs.declared.command.Command.TheVariants as command;
 ghost use Rattle.gd_lines.specs.declared.reply.Reply.TheVariants as reply;
 ghost use Rattle.gd_reference.specs.NodeRun.{command_replies, who_at};
+ghost use Rattle.gd_reference.specs.SiteEffects.{done_replies};
 ghost use Rattle.gd_reference.specs.SlowSite.{SlowSite};
 ghost use Rattle.gd_site.specs.Sites.{StandsFor};
 ghost use Rattle.gd_takeback.specs.Standing.{StandsWith};
@@ -17,6 +18,7 @@ use crate::member::Member;
 use crate::replies::Replies;
 use gd_answers::{back_refusal, edit_refusal, noted_reply};
 use gd_base::{Refusal, Steps};
+use gd_events::ListedEvent;
 use gd_lines::Command;
 use gd_site::Site;
 use gd_words::Reply;
@@ -40,7 +42,7 @@ pub(crate) fn tell<L: Ledger>(
             Err(fault) => refused(alloc, edit_refusal(fault)),
         },
         Command::Turn(which) => match member.backs.turn(&mut member.site, *which, steps) {
-            Ok(event) => only(alloc, Reply::Done { id: event.stamp() }),
+            Ok(events) => done(alloc, events.as_slice()),
             Err(fault) => refused(alloc, back_refusal(fault)),
         },
         Command::Name(name) => only(alloc, noted_reply(member.site.set_name(name.copy()))),
@@ -51,8 +53,25 @@ pub(crate) fn tell<L: Ledger>(
             only(alloc, Reply::Status { status })
         }
         Command::Who => who(alloc, &member.site),
-        Command::Blank | Command::Poll | Command::Quit => Ok(Replies::new(alloc)),
+        Command::Blank | Command::Begin | Command::End | Command::Poll | Command::Quit => {
+            Ok(Replies::new(alloc))
+        }
     }
+}
+
+/// That these events were done, and how many there are.
+fn done(alloc: Global, events: &[ListedEvent]) -> Result<Replies, WorldFault>
+    ensures ok { IfOk result (λ replies. replies ≡ done_replies events.now) }
+    ensures err { OnErr result (result ≡ Err WorldFault.NoMemory) }
+{
+    let mut replies = Replies::new(alloc);
+    for listed in events {
+        replies.push(Reply::Done { id: listed.stamp() })?;
+    }
+    replies.push(Reply::End {
+        count: events.len() as u64,
+    })?;
+    Ok(replies)
 }
 
 /// One reply.

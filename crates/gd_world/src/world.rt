@@ -13,11 +13,11 @@ ghost use Rattle.gd_world.specs.Standing.{AreNew};
 ghost use Rattle.gd_worlds.specs.Rehearsal.{after_script, script_work};
 
 use crate::fault::WorldFault;
+use crate::hearing::hear;
 use crate::mail::Mail;
 use crate::member::Member;
 use crate::replies::Replies;
 use crate::telling::tell;
-use gd_answers::take_frame;
 use gd_base::Steps;
 use gd_lines::Command;
 use gd_site::Site;
@@ -130,16 +130,13 @@ impl World {
     {
         let frame = self.mail.get(mail).ok_or(WorldFault::NoMail)?;
         let alloc = self.alloc();
-        let mut replies = Replies::new(alloc);
         let member = &mut self.members[usize::from(frame.head().to) - 1];
-        match take_frame(&mut member.site, &frame, &mut replies, steps) {
-            Ok(()) => Ok(replies),
-            Err(_) => {
-                self.members.clear();
-                self.mail = Mail::new(alloc);
-                Err(WorldFault::NoMemory)
-            }
+        let said = hear(alloc, member, &frame, steps);
+        if said.is_err() {
+            self.members.clear();
+            self.mail = Mail::new(alloc);
         }
+        said
     }
 
     pub(crate) fn alloc(&self) -> Global {

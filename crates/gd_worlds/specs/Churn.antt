@@ -179,9 +179,9 @@ new_churning seed =
 
 -- with one answer more: an event that a site takes from mail is echoed
 abbrev pub with_arrival : Tally → Reply → Tally
-with_arrival t (reply.Applied id) = record t { applied = t.applied + 1 }
-with_arrival t (reply.Dropped id by) = record t { dropped = t.dropped + 1 }
-with_arrival t (reply.Reworked id count) = record t { reworked = t.reworked + 1; undone = t.undone + count }
+with_arrival t (reply.Applied id op) = record t { applied = t.applied + 1 }
+with_arrival t (reply.Dropped id by op) = record t { dropped = t.dropped + 1 }
+with_arrival t (reply.Reworked id count op) = record t { reworked = t.reworked + 1; undone = t.undone + count }
 with_arrival t other = t
 
 -- the same of all counts: no send and no delivery is refused here, so what is refused is an edit, an undo or a redo

@@ -97,7 +97,7 @@ HasLogOf (Some (Rejoin session site journal addresses)) contents input entries a
 HasLogOf other contents input entries after = Unit {0}
 
 -- Once a node has begun its log, or found it, and before that it opens the link at most, and reads what it goes on from, a crash
--- leaves that log with a front of what was recorded.
+-- leaves that log with a front of the gestures that were recorded.
 abbrev pub Keeps : Option Command → Status → Outside → Outside → Type 0
 Keeps (Some (Node session site journal addresses)) status before after =
     OnceLogged status before after

@@ -39,15 +39,16 @@ pub record Headline (run : Run) : Type 0 where
       → DidFront run.before (owed run) run.after × DidRead run.before (owed_for_part run) run.after
   -- after a failed write, a front, and a front of the next line
   pub write : Told run → run.status ≡ WriteFault → DidHalfPrint run.before (owed run) run.after
-  -- After a failed call of the journal, a front; and the journal is a log with the next event or without. Where nothing was
-  -- found yet in a journal to go on from, nothing was done, and its contents are as before.
+  -- After a failed call of the journal, a front; and the journal is a log with the next gesture, all events of it, or without.
+  -- Where nothing was found yet in a journal to go on from, nothing was done, and its contents are as before.
   pub torn : Told run → run.status ≡ JournalFault
       → DidTornRecord run.before (owed run) run.after
       ⊎ IsUnread (asked run) run.status run.before run.after
   -- where the link wasn't opened, nothing, and no entry was taken
   pub unopened : run.status ≡ LinkFault → Unopened run.before run.after
   pub opens_first : OpensFirst run.status run.before run.after
-  -- once a node has begun its log, or found it, whatever crash comes leaves that log with a front of what was recorded
+  -- Once a node has begun its log, or found it, whatever crash comes leaves that log with a front of the gestures that were
+  -- recorded, each with all of its events.
   pub keeps : Keeps (asked run) run.status run.before run.after
   -- then, whatever comes, and whatever the input and the link tell, the journal holds a log of that header, with the found
   -- events first, and so does whatever a crash leaves

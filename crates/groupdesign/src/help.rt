@@ -154,7 +154,7 @@ const NODE: &str =
     "usage: groupdesign node [--resume] --session N --site S --journal PATH ADDRESS ..
 
 Be site S of a session: answer the lines of standard input, log each accepted event to PATH, and at `poll` and after each
-edit exchange frames with the other sites by UDP.
+edit or gesture exchange frames with the other sites by UDP.
 
   --session N     the number of the session, from 0 to 4294967295, the same for all of its sites
   --site S        the own number: the own address is the one in that place, counted from 1
@@ -163,7 +163,8 @@ edit exchange frames with the other sites by UDP.
   ADDRESS ..      the addresses of all sites, 1 to 16, the own one too, in the same order at each site:
                   all as 192.0.2.7:4101, or all as [2001:db8::7]:4101
 
-Lines: create, move, delete and so on, show, poll, status, quit. docs/LINES.md has them all.
+Lines: create, move, delete and so on, one by one or from begin to end as one gesture; undo, redo, show, poll, status,
+quit. docs/LINES.md has them all.
 Exit statuses: 0, 2, 4 to 9, 13, and with --resume 3 and 11.
 
 example: groupdesign node --session 7 --site 1 --journal one.log 127.0.0.1:4101 127.0.0.1:4102

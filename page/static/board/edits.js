@@ -14,9 +14,6 @@ export { copyLines, createLines, fitLabel } from "./making.js";
 /** @typedef {import("./pending.js").Pending} Pending */
 /** @typedef {{line: string, name: string | null}} Step a line of a gesture, with names for what this page made, and what it makes */
 
-/** As many edits does the node take back. */
-const MOST_BACKS = 1024;
-
 export class Edits {
   /**
    * @param {Ed} ed
@@ -152,7 +149,6 @@ export class Edits {
       const { answers, edits } = await this.ed.node.type(() => this.wireLines(steps), name);
       const refusals = this.take(steps, answers, layer, edits);
       this.ed.refuse(refusals);
-      this.tellLong(steps.length - refusals.length);
       return !refusals.length;
     } catch (fault) {
       this.pending.drop(layer);
@@ -181,16 +177,6 @@ export class Edits {
     if (this.typing === typing) this.typing = null;
     this.known = this.ed.node.turns.number;
     this.ed.rested();
-  }
-
-  /**
-   * Says where a gesture was too much for an undo.
-   * @param {number} edits
-   */
-  tellLong(edits) {
-    if (edits <= MOST_BACKS) return;
-    const [had, most] = [edits, MOST_BACKS].map((number) => number.toLocaleString("en"));
-    this.ed.banner({ tone: "warn", text: `That was ${had} edits at once. Undo takes back ${most} at most, so it can’t be undone`, lasts: 8000 });
   }
 
   /** @param {Step[]} steps */

@@ -1,5 +1,5 @@
-// Taking the last gesture back, and doing it again: as many lines `undo`, or `redo`, as it has edits. What each of them is about the
-// node knows, and the bridge how many they are. So nothing is foreseen here: it is shown once the node shows it.
+// Taking the last gesture back, and doing it again: one line `undo`, or `redo`, or as many as it took gestures of the node. What it is
+// about the node knows, and the bridge how many lines that are. So nothing is foreseen here: it is shown once the node shows it.
 
 import { refusalOf, whyOf } from "../core/node.js";
 import { Touched, touches } from "../core/relations.js";
@@ -30,7 +30,7 @@ export async function turn(edits, which) {
   const due = { gesture: null };
   const lines = () => {
     due.gesture = ed.node.turns[which];
-    return Array(due.gesture?.edits ?? 0).fill(which);
+    return Array(due.gesture?.lines ?? 0).fill(which);
   };
   const name = edits.due(which) ?? "";
   const typing = edits.typed(which, name);
@@ -58,7 +58,7 @@ function tell(edits, which, gesture, answers, layer) {
   const { ed, pending } = edits;
   const refused = answers.find((answer) => !answer.startsWith("ok "));
   if (refused) ed.refuse([{ why: refusalOf(refused) }]);
-  const stamps = answers.filter((answer) => answer.startsWith("ok ")).map((answer) => answer.slice(3));
+  const stamps = answers.flatMap((answer) => answer.split("\n")).filter((line) => line.startsWith("ok ")).map((line) => line.slice(3));
   if (!gesture || !stamps.length) {
     if (!refused) ed.say(NOTHING[which]);
     return;

@@ -103,9 +103,9 @@
 
 /** @typedef {"undo" | "redo"} Which */
 /**
- * A gesture that can be taken back or done again: what it is called, how many edits it has, and the clocks of the first and the
- * last one.
- * @typedef {{name: string, edits: number, first: number, last: number}} Due
+ * A gesture that can be taken back or done again: what it is called, how many lines that takes, one but for a very large one, and
+ * the clocks of its first and its last edit.
+ * @typedef {{name: string, lines: number, first: number, last: number}} Due
  */
 /** @typedef {{number: number, undo: Due | null, redo: Due | null}} Turns what is next of each, and how often that has changed */
 /** @typedef {{site: number, name: string, me: boolean, here: boolean, away: string | null, selection: Set<string>}} Seat */

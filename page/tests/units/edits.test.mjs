@@ -1,5 +1,5 @@
-// Gestures, and taking them back: whole gestures, each by as many lines as it had edits. The node is a fake, which keeps what is typed
-// until the test answers it, and what can be taken back as the bridge tells it.
+// Gestures, and taking them back: whole gestures, each by one line, or by several where it was as many at the node. That is a fake, which
+// keeps what is typed until the test answers it, and what can be taken back as the bridge tells it.
 
 import assert from "node:assert/strict";
 import { test } from "node:test";
@@ -17,6 +17,8 @@ const { eventOf, History } = await import("../../static/core/history.js");
 
 const rect = (id, x = 0, y = 0) => ({ kind: "rect", id, in: null, at: [x, y], size: [10, 10], stroke: "000000", fill: null, width: 1, label: "" });
 
+const MOST_TOGETHER = 512;
+
 /** What the bridge tells of gestures that are done and taken back, by the lines of each batch and their answers. */
 class Turns {
   constructor() {
@@ -26,14 +28,28 @@ class Turns {
   }
 
   take(name, lines, answers) {
-    const clocks = answers.filter((answer) => answer.startsWith("ok ")).map((answer) => Number(answer.slice(3).split(".")[0]));
+    const done = answers.filter((answer) => answer.startsWith("ok "));
+    const clocks = done.flatMap((answer) => [...answer.matchAll(/^ok (\d+)/gm)].map((found) => Number(found[1])));
     if (!clocks.length) return;
     this.number += 1;
-    const gesture = { name, edits: clocks.length, first: clocks[0], last: clocks.at(-1) };
     const [verb] = lines;
-    if (verb === "undo") this.redo.push({ ...gesture, name: this.undo.pop().name });
-    else if (verb === "redo") this.undo.push({ ...gesture, name: this.redo.pop().name });
-    else [this.undo, this.redo] = [[...this.undo, gesture], []];
+    const isTurn = verb === "undo" || verb === "redo";
+    const gesture = { name, lines: isTurn ? done.length : Math.ceil(lines.length / MOST_TOGETHER), edits: clocks.length, first: clocks[0], last: clocks.at(-1) };
+    if (!isTurn) [this.undo, this.redo] = [[...this.undo, gesture], []];
+    else this.turn(verb === "undo" ? this.undo : this.redo, verb === "undo" ? this.redo : this.undo, gesture);
+  }
+
+  /** Takes as many lines from the newest gesture that is due as were done. */
+  turn(due, other, gesture) {
+    const was = due.pop();
+    if (was.lines > gesture.lines) due.push({ ...was, lines: was.lines - gesture.lines });
+    other.push({ ...gesture, name: was.name });
+  }
+
+  /** How many edits the line at a place of these has, of a gesture that is taken back or done again. */
+  editsOf(verb, at) {
+    const due = (verb === "undo" ? this.undo : this.redo).at(-1);
+    return due.lines === 1 ? due.edits : at ? MOST_TOGETHER : due.edits - (due.lines - 1) * MOST_TOGETHER;
   }
 
   told() {
@@ -79,11 +95,16 @@ function page(...items) {
     await rest();
     const batch = typed.shift();
     if (!batch) return null;
-    const answers = batch.lines.map((_, at) => {
-      if (says[at]) return says[at];
+    const one = () => {
       edits += 1;
       clock += 1;
       return `ok ${clock}.1`;
+    };
+    const answers = batch.lines.map((line, at) => {
+      if (says[at]) return says[at];
+      if (line !== "undo" && line !== "redo") return one();
+      const done = Array.from({ length: turns.editsOf(line, at) }, one);
+      return [...done, `end ${done.length}`].join("\n");
     });
     turns.take(batch.name, batch.lines, answers);
     node.turns = turns.told();
@@ -101,7 +122,7 @@ function page(...items) {
 const places = (model) => model.items.map((item) => `${item.id} ${item.x}`);
 const looked = (id, x, more) => ({ ...rect(id, x), ...more });
 
-test("a gesture of 40 is taken back by 40 lines in one batch, and done again by 40", async () => {
+test("a gesture of 40 is taken back by one line, and done again by one", async () => {
   const ids = Array.from({ length: 40 }, (_, at) => `${at + 1}.2`);
   const { ed, model, answer, show, typed, rest } = page(...ids.map((id) => rect(id)));
   ed.edits.do("Moved", ids.map((id) => `move ${id} 7 0`));
@@ -109,15 +130,31 @@ test("a gesture of 40 is taken back by 40 lines in one batch, and done again by 
   assert.equal(typed[0].name, "Moved");
   assert.equal((await answer()).length, 40);
   ed.edits.undo();
-  assert.deepEqual(await answer(), Array(40).fill("undo"));
+  assert.deepEqual(await answer(), ["undo"]);
   // Nothing is foreseen: it is shown once the node shows it.
   assert.ok(model.items.every((item) => item.x === 7));
   show([]);
   assert.ok(model.items.every((item) => item.x === 0));
   ed.edits.redo();
-  assert.deepEqual(await answer(), Array(40).fill("redo"));
+  assert.deepEqual(await answer(), ["redo"]);
   ed.edits.undo();
-  assert.equal((await answer()).length, 40);
+  assert.deepEqual(await answer(), ["undo"]);
+});
+
+test("one that the node took as several gestures is taken back by as many lines", async () => {
+  const many = Array.from({ length: 1025 }, (_, at) => rect(`${at + 1}.2`, at));
+  const { ed, answer, told, show, note } = page(...many);
+  ed.edits.do("Moved", many.map(({ id }) => `move ${id} 0 0`));
+  assert.equal((await answer()).length, 1025);
+  ed.edits.undo();
+  assert.deepEqual(await answer(), ["undo", "undo", "undo"]);
+  assert.deepEqual([told.said.at(-1), told.banners], ["Undid: Moved", []]);
+  // All of what was taken back is selected.
+  show([]);
+  note(...many.map(({ id }, at) => ({ op: "move", target: id, x: at, y: 0, clock: 1126 + at })));
+  assert.equal(ed.selection.ids.size, 1025);
+  ed.edits.redo();
+  assert.deepEqual(await answer(), ["redo", "redo", "redo"]);
 });
 
 test("gestures are taken back and done again one by one, whatever they did", async () => {
@@ -132,7 +169,7 @@ test("gestures are taken back and done again one by one, whatever they did", asy
     const name = ed.edits.due(which);
     ed.edits[which]();
     const lines = await answer();
-    assert.deepEqual(lines, Array(gestures[name].length).fill(which));
+    assert.deepEqual(lines, [which]);
     went.push(name);
   }
   assert.deepEqual(went, ["Deleted", "Grouped", "Raised", "Moved", "Moved", "Raised", "Raised", "Raised", "Grouped", "Deleted"]);
@@ -167,8 +204,8 @@ test("an undo right behind a gesture waits for that one's answers, and the next 
   assert.deepEqual(await answer(), ["create rect 1 2 3 4", "width @1 2"]);
   assert.deepEqual(await answer(), ["move 101.1 9 9"]);
   assert.deepEqual(await answer(), ["undo"]);
-  assert.deepEqual(await answer(), ["undo", "undo"]);
-  assert.deepEqual(await answer(), ["redo", "redo"]);
+  assert.deepEqual(await answer(), ["undo"]);
+  assert.deepEqual(await answer(), ["redo"]);
   assert.deepEqual([ed.edits.due("undo"), ed.edits.due("redo")], ["Made", "Moved"]);
 });
 
@@ -187,12 +224,12 @@ test("where nothing can be taken back that is said, and nothing is typed", async
 
 test("an undo that the node refuses is said once, and what it took of it is taken back", async () => {
   const { ed, answer, pending, show, told } = page(rect("1.2"));
-  ed.edits.do("Moved", ["move 1.2 9 0", "move 1.2 8 0", "move 1.2 7 0"]);
+  ed.edits.do("Moved", Array.from({ length: 1025 }, (_, at) => `move 1.2 ${1033 - at} 0`));
   await answer();
   ed.edits.undo();
   assert.deepEqual(await answer(null, "refused: SessionFull", "refused: SessionFull"), ["undo", "undo", "undo"]);
   assert.deepEqual(told.refused, [{ why: "SessionFull" }]);
-  assert.equal(told.said.at(-1), "Undid: Moved");
+  assert.deepEqual([told.said.at(-1), ed.edits.due("undo"), ed.edits.due("redo")], ["Undid: Moved", "Moved", "Moved"]);
   show([rect("1.2", 8)]);
   assert.equal(pending.layers.length, 0);
 });
@@ -297,17 +334,6 @@ test("an offer to take something back goes with the next thing that is done, her
   ear.stand("turns");
   assert.deepEqual(passed, ["first", "second"]);
   assert.deepEqual([ed.edits.due("undo"), ed.edits.due("redo")], ["Moved there", null]);
-});
-
-test("a gesture of more edits than an undo takes back is said", async () => {
-  const many = Array.from({ length: 1025 }, (_, at) => rect(`${at + 1}.2`, at));
-  const { ed, answer, told } = page(...many);
-  ed.edits.do("Moved", many.slice(1).map(({ id }) => `move ${id} 0 0`));
-  await answer();
-  assert.deepEqual(told.banners, []);
-  ed.edits.do("Moved", many.map(({ id }) => `move ${id} 0 0`));
-  await answer();
-  assert.match(told.banners[0], /^That was 1,025 edits at once\. Undo takes back 1,024 at most/);
 });
 
 test("what is made is called by its id once that is known", async () => {

@@ -24,10 +24,10 @@ const ENTRIES: [Entry; 4] = [Some(FIRST), Some((1, 1, &[])), None, Some(SECOND)]
 
 /// What is printed where no call fails: a line, and then one for each event and for each poll.
 const TEXT: &str =
-    "ready 1 of 2\necho 1.2 applied\nlink fault after 2\necho 2.2 applied\npolled 1\nok 3.1\nok 4.1\n";
+    "ready 1 of 2\necho 1.2 applied create rect 0 0 10 10\nlink fault after 2\necho 2.2 applied move 1.2 1 1\npolled 1\nok 3.1\nok 4.1\n";
 
 /// The front of that text, up to so many lines.
-const PRINTED: [usize; 8] = [0, 13, 30, 49, 66, 75, 82, 89];
+const PRINTED: [usize; 8] = [0, 13, 52, 71, 101, 110, 117, 124];
 
 /// What a replay of the journal prints: where there is no log; of a log without events; and of the logs with one more event
 /// each.
@@ -168,23 +168,23 @@ type Received = (&'static [Entry], &'static str, &'static str);
 const RECEIVES: [Received; 5] = [
     (
         &[None, Some(FIRST), Some((1, 1, &[])), None, Some(SECOND)],
-        "ready 1 of 2\nlink fault after 0\necho 1.2 applied\nlink fault after 2\nok 2.1\nok 3.1\n",
+        "ready 1 of 2\nlink fault after 0\necho 1.2 applied create rect 0 0 10 10\nlink fault after 2\nok 2.1\nok 3.1\n",
         WITHOUT_SECOND,
     ),
     (
         &[Some(FIRST), None, Some((1, 1, &[])), None, Some(SECOND)],
-        "ready 1 of 2\necho 1.2 applied\nlink fault after 1\nlink fault after 1\nok 2.1\nok 3.1\n",
+        "ready 1 of 2\necho 1.2 applied create rect 0 0 10 10\nlink fault after 1\nlink fault after 1\nok 2.1\nok 3.1\n",
         WITHOUT_SECOND,
     ),
     (
         &[Some(FIRST), Some((1, 1, &[])), None, None, Some(SECOND)],
-        "ready 1 of 2\necho 1.2 applied\nlink fault after 2\nlink fault after 0\nok 2.1\nok 3.1\n",
+        "ready 1 of 2\necho 1.2 applied create rect 0 0 10 10\nlink fault after 2\nlink fault after 0\nok 2.1\nok 3.1\n",
         WITHOUT_SECOND,
     ),
     (&ENTRIES, TEXT, FOUR),
     (
         &[Some(FIRST), Some((1, 1, &[])), None, Some(SECOND), None],
-        "ready 1 of 2\necho 1.2 applied\nlink fault after 2\necho 2.2 applied\nlink fault after 1\nok 3.1\nok 4.1\n",
+        "ready 1 of 2\necho 1.2 applied create rect 0 0 10 10\nlink fault after 2\necho 2.2 applied move 1.2 1 1\nlink fault after 1\nok 3.1\nok 4.1\n",
         FOUR,
     ),
 ];

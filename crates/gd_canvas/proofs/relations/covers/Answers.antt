@@ -11,7 +11,7 @@ pub returns-in-Set : goal.returns-in-Set
 returns-in-Set c =
     let f = c.in-Set in
     c.is_set_by.ensures c.args.s
-    ∙ ap (λ p. is_set_by f.id p (form c.args.s (op_of c.args.e.now))) c.part_of.ensures
+    ∙ ap (λ p. is_set_by f.id p (form c.args.s (op_of c.args.e.now))) c.part_of.ensures.part
     ∙ set_covers c.args.s c.args.t c.args.e.now c.args.f.now f.is_found f.id f.before f.content f.is
 
 pub returns-in-Delete : goal.returns-in-Delete

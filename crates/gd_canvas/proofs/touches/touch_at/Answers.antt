@@ -1,14 +1,14 @@
 use Rattle.std.proofs.Common.{sym, ap, ◌∙◌, Some, arith}
 use Rattle.std.specs.Prelude.{option_map, slice_get}
 use Rattle.gd_base.specs.Stamps.{Stamp}
-use Rattle.gd_model.specs.declared.content.Part.TheVariants as part
+use Rattle.gd_model.specs.declared.content.TheConstants.{LINK}
 use Rattle.gd_model.specs.Relations.{Touch, touches}
 use Rattle.gd_canvas.specs.Kept.{op_of}
 use Rattle.gd_canvas.proofs.TouchLemmas.{first_at, later_at}
 use Rattle.gd_canvas.proofs.touches.touch_at.Goals as goal
 
 abbrev link : Stamp → Touch
-link id = (id, part.Link)
+link id = (id, LINK)
 
 pub returns-then-place-eq0 : goal.returns-then-place-eq0
 returns-then-place-eq0 c =

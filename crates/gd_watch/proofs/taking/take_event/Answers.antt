@@ -1,15 +1,17 @@
 use Rattle.std.proofs.Common.{sym, ◌∙◌, ap}
-use Rattle.gd_base.specs.Stamps.{Stamp}
+use Rattle.std.specs.Prelude.{Option}
+use Rattle.gd_answers.specs.Arriving.{arrived_reply, reply_list}
 use Rattle.gd_effects.proofs.Doing.{does_as, does_exit, does_nothing, on_ok}
 use Rattle.gd_effects.proofs.OneRecord.{none_done}
 use Rattle.gd_viewer.specs.Viewers.{StandsFor}
 use Rattle.gd_viewing.specs.SlowViewer.{SlowViewer, viewer_arrived}
-use Rattle.gd_watch.proofs.TakingLemmas.{event_done, has_few, said_of}
-use Rattle.gd_watch.specs.Taking.{taken_reply}
+use Rattle.gd_lines.specs.declared.reply.Reply.{Reply}
+use Rattle.gd_reference.specs.Said.{all_said}
+use Rattle.gd_watch.proofs.TakingLemmas.{event_done, has_few}
 use Rattle.gd_watch.proofs.taking.take_event.Goals as goal
 
-pub taken_reply-requires : goal.taken_reply-requires
-taken_reply-requires g c =
+pub of-requires : goal.of-requires
+of-requires g c =
     let m = c.requires.met in
     has_few m.0 c.args.viewer.now m.1 c.args.event.now c.in_ok-taken.taken (rw c.copy.ensures at c.in_ok-taken.ensures.answer m.0 m.1)
 
@@ -21,7 +23,7 @@ pub returns-in-Some-clause-does : goal.returns-in-Some-clause-does
 returns-in-Some-clause-does g c slow stands =
     let e = c.args.event.now in
     let taken = c.in_ok-taken.taken in
-    let said = ap said_of (ap (λ (id : Stamp). taken_reply id taken) (sym c.stamp.ensures) ∙ sym c.in-Some.ensures) in
+    let said = ap (λ (r : Option Reply). all_said (reply_list r)) (ap (arrived_reply e) (sym c.of.ensures) ∙ sym c.in-Some.ensures) in
     event_done slow e taken c.say.result (rw c.copy.ensures at c.in_ok-taken.ensures.answer slow stands) (rw c.copy.ensures at c.in_ok-taken.ensures.steps slow stands)
     (λ input journal link steps. does_as said (c.say.ensures input journal link steps))
 
@@ -34,7 +36,7 @@ pub returns-clause-does : goal.returns-clause-does
 returns-clause-does g c slow stands =
     let e = c.args.event.now in
     let taken = c.in_ok-taken.taken in
-    let said = ap said_of (ap (λ (id : Stamp). taken_reply id taken) (sym c.stamp.ensures) ∙ sym c.in-None.ensures) in
+    let said = ap (λ (r : Option Reply). all_said (reply_list r)) (ap (arrived_reply e) (sym c.of.ensures) ∙ sym c.in-None.ensures) in
     event_done slow e taken _ (rw c.copy.ensures at c.in_ok-taken.ensures.answer slow stands) (rw c.copy.ensures at c.in_ok-taken.ensures.steps slow stands)
     (λ input journal link steps. does_as said (does_nothing _))
 

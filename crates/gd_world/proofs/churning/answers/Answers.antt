@@ -1,8 +1,8 @@
 use Rattle.std.proofs.Common.{◌≡◌, ◌+◌, ◌*◌, ◌∙◌, ap, subst, arith}
 use Rattle.std.specs.Prelude.{◌/◌, IfOk}
+use Rattle.gd_answers.specs.Paying.{PaysFront}
 use Rattle.gd_effects.specs.Effects.{cost}
 use Rattle.gd_world.proofs.Played.{churned_is, plays_end, plays_exit}
-use Rattle.gd_world.specs.Calls.{PaysFront}
 use Rattle.gd_world.specs.Playing.{Follows}
 use Rattle.gd_worlds.specs.Churn.{Churning, churned, new_churning, rounded, stepped, summary, times}
 use Rattle.gd_world.proofs.churning.answers.Goals as goal

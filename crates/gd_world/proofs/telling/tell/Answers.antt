@@ -1,11 +1,12 @@
-use Rattle.std.proofs.Common.{ℕ, List, refl, sym, ◌∙◌, ap}
+use Rattle.std.proofs.Common.{ℕ, List, [], ◌∷◌, refl, sym, ◌∙◌, ap}
 use Rattle.std.specs.Prelude.{option_map}
-use Rattle.gd_answers.specs.Refusals.{refused_edit, refused_turn}
+use Rattle.gd_answers.specs.Refusals.{refused_edit}
 use Rattle.gd_lines.specs.Refusals.{edit_refusal}
 use Rattle.gd_lines.specs.declared.command.Command.TheVariants as command
-use Rattle.gd_reference.specs.TakeBack.{back_refusal}
+use Rattle.gd_lines.specs.declared.reply.Reply.TheVariants as reply
+use Rattle.gd_reference.specs.SiteEffects.{done_replies}
 use Rattle.gd_reference.specs.World.{after_line}
-use Rattle.gd_world.proofs.Tells.{edit_makes, edit_refuses, tells_focus, tells_made, tells_name, tells_nothing, tells_read, tells_refused, tells_show, tells_status, tells_who, turn_makes, turn_refuses}
+use Rattle.gd_world.proofs.Tells.{edit_makes, edit_refuses, tells_focus, tells_made, tells_name, tells_nothing, tells_read, tells_refused, tells_show, tells_status, tells_who, tells_unturned, turn_makes}
 use Rattle.gd_world.proofs.telling.tell.Goals as goal
 
 pub returns-in-Ok : goal.returns-in-Ok
@@ -13,8 +14,10 @@ unfolding after_line
 returns-in-Ok g c slow stands =
     let wanted = c.in-Edit.edit in
     let made = c.in-Ok.ensures in
+    let e = c.in-Ok.event in
+    let says = rw c.stamp.ensures at c.only.ensures in
     tells_read _ _ _ _ _ _ (command.Edit wanted) c.in-Edit.is
-    (tells_made slow (command.Edit wanted) _ _ c.in-Ok.event (edit_makes slow wanted c.in-Ok.event (made.answer slow stands)) _ c.stamp.ensures c.only.ensures.ok c.only.ensures.err
+    (tells_made slow (command.Edit wanted) _ _ (e ∷ []) (reply.Done e.stamp ∷ []) (edit_makes slow wanted e (made.answer slow stands)) says.ok says.err
     (made.stands slow stands) made.steps)
 
 pub returns-in-Err : goal.returns-in-Err
@@ -31,9 +34,11 @@ unfolding after_line
 returns-in-Ok-turn g c slow stands =
     let which = c.in-Turn.which in
     let made = c.in-Ok-turn.ensures in
+    let es = c.in-Ok-turn.events in
+    let says = rw c.as_slice.ensures at c.done.ensures in
     tells_read _ _ _ _ _ _ (command.Turn which) c.in-Turn.is
-    (tells_made slow (command.Turn which) _ _ c.in-Ok-turn.event (turn_makes slow which c.in-Ok-turn.event (made.answer slow stands)) _
-    c.stamp-in-Ok-turn.ensures c.only-in-Ok-turn.ensures.ok c.only-in-Ok-turn.ensures.err (made.stands slow stands) made.steps)
+    (tells_made slow (command.Turn which) _ _ es (done_replies es) (turn_makes slow which es (made.answer slow stands)) says.ok says.err
+    (made.stands slow stands) (made.steps slow stands))
 
 pub returns-in-Err-turn : goal.returns-in-Err-turn
 returns-in-Err-turn g c slow stands =
@@ -41,8 +46,7 @@ returns-in-Err-turn g c slow stands =
     let fell = c.in-Err-turn.ensures in
     let says = rw c.back_refusal.ensures at c.refused-in-Err-turn.ensures in
     tells_read _ _ _ _ _ _ (command.Turn which) c.in-Turn.is
-    (tells_refused slow (command.Turn which) (option_map back_refusal (refused_turn c.in-Err-turn.fault))
-    (turn_refuses slow which c.in-Err-turn.fault (fell.answer slow stands)) _ says.ok says.err (fell.err_stands slow stands) fell.err_steps)
+    (tells_unturned slow which _ _ _ _ says.err c.in-Err-turn.fault (fell.answer slow stands) says.ok (fell.keeps slow stands) (fell.steps slow stands))
 
 pub returns-in-Name : goal.returns-in-Name
 returns-in-Name g c slow stands =

@@ -1,7 +1,6 @@
 use Rattle.std.proofs.Common.{◌∙◌, sym, ap}
 use Rattle.rand_pcg.specs.Lcg.{Lcg}
 use Rattle.gd_lines.specs.Edits.{Edit}
-use Rattle.gd_lines.specs.declared.command.ScriptLine.{ScriptLine}
 use Rattle.gd_world.proofs.DrawnLines.{line_creates, line_delivers, line_redoes, line_sends, line_undoes}
 use Rattle.gd_world.specs.Drawn.{edit_at}
 use Rattle.gd_world.proofs.churning.drawing.line_for.Goals as goal

@@ -1,0 +1,41 @@
+-- What a member says of a frame, and what it stands for then.
+use Rattle.std.proofs.Common.{◌≡◌, ℕ, ◌+◌, List, [], ◌∷◌, sym, ◌∙◌, ap, subst}
+use Rattle.std.specs.Prelude.{Result, Ok, Err, IfOk, OnErr}
+use Rattle.gd_answers.proofs.Heard.{accepts, refuses}
+use Rattle.gd_answers.specs.Arriving.{frame_heard, replies_of}
+use Rattle.gd_answers.specs.Paying.{frame_works}
+use Rattle.gd_answers.specs.declared.arrived.Arrived.{Arrived}
+use Rattle.gd_base.specs.declared.refusal.FrameFault.{FrameFault}
+use Rattle.gd_effects.specs.Effects.{cost}
+use Rattle.gd_events.specs.Events.{Event}
+use Rattle.gd_grammar.specs.FrameBytes.{Frame}
+use Rattle.gd_lines.specs.declared.reply.Reply.{Reply}
+use Rattle.gd_lines.specs.declared.reply.Reply.TheVariants.{NotTaken}
+use Rattle.gd_protocol.proofs.Backs.{backs_take_frame}
+use Rattle.gd_reference.specs.Offers.{take_frame}
+use Rattle.gd_reference.specs.SiteEffects.{frame_replies}
+use Rattle.gd_reference.specs.SlowSite.{SlowSite}
+use Rattle.gd_site.specs.Sites.{StandsFor}
+use Rattle.gd_world.proofs.Paying.{pays_all}
+use Rattle.gd_world.specs.Hearing.{Hears}
+use Rattle.gd_world.specs.declared.fault.WorldFault.{WorldFault}
+use Rattle.gd_world.specs.declared.fault.WorldFault.TheVariants.{NoSite, NoMail, NoMemory}
+use Rattle.gd_world.specs.declared.member.Member.{Member}
+
+module _ (slow : SlowSite) (f : Frame) (new : Member) (same : new.backs ≡ slow.backs) (site : StandsFor (take_frame slow f) new.site) (before after : ℕ)
+    (paid : after ≡ before + cost (frame_works slow f)) where
+  hears_said : (r : Result (List Reply) WorldFault) → IfOk r (λ rs. rs ≡ frame_replies slow f) → OnErr r (r ≡ Err NoMemory) → Hears slow f r before new after
+  hears_said (Ok replies) is none = (is, record { site = site; backs_are = same ∙ sym (backs_take_frame slow f) }, paid)
+  hears_said (Err NoMemory) is none = pays_all (frame_works slow f) paid
+  hears_said (Err NoSite) is none = let e = none in cc
+  hears_said (Err NoMail) is none = let e = none in cc
+
+  module _ (r : Result (List Reply) WorldFault) (none : OnErr r (r ≡ Err NoMemory)) where
+    -- a frame that is taken
+    pub hears_all : (came : List Arrived) → frame_heard slow f ≡ Ok came → (es : List Event) → es ≡ f.events → IfOk r (λ rs. rs ≡ replies_of es came) → Hears slow f r before new after
+    hears_all came is es events says =
+        hears_said r (subst (λ (said : List Reply). IfOk r (λ rs. rs ≡ said)) (ap (λ (l : List Event). replies_of l came) events ∙ sym (accepts slow f came is).replies) says) none
+
+    -- one that isn't
+    pub hears_why : (why : FrameFault) → frame_heard slow f ≡ Err why → IfOk r (λ rs. rs ≡ NotTaken why ∷ []) → Hears slow f r before new after
+    hears_why why is says = hears_said r (subst (λ (said : List Reply). IfOk r (λ rs. rs ≡ said)) (sym (refuses slow f why is).replies) says) none

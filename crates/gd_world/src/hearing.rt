@@ -1,0 +1,58 @@
+//! What a site says of a frame that it is handed.
+
+ghost use Rattle.std.specs.Prelude.{◌≡◌, ◌++◌, IfOk, OnErr, OnOk};
+ghost use Rattle.gd_answers.specs.Arriving.{replies_of, reply_list};
+ghost use Rattle.gd_reference.specs.SlowSite.{SlowSite};
+ghost use Rattle.gd_takeback.specs.Standing.{StandsWith};
+ghost use Rattle.gd_world.specs.Hearing.{Hears};
+
+use crate::fault::WorldFault;
+use crate::member::Member;
+use crate::replies::Replies;
+use crate::telling::only;
+use gd_answers::{Arrived, take_frame};
+use gd_base::Steps;
+use gd_events::Event;
+use gd_wire::Frame;
+use gd_words::Reply;
+use std::alloc::{AllocError, Global};
+use std::sync::ledger::Ledger;
+
+/// Hands a frame to a member, and returns what it says. `NoMemory` where memory ran out; there is no other fault.
+pub(crate) fn hear<L: Ledger>(
+    alloc: Global,
+    member: &mut Member,
+    frame: &Frame,
+    steps: &mut Steps<L>,
+) -> Result<Replies, WorldFault>
+    requires { (slow : SlowSite) × StandsWith slow member.old.site member.old.backs }
+    ensures { (slow : SlowSite) → StandsWith slow member.old.site member.old.backs
+        → Hears slow frame.now result steps.old member.new steps.new }
+{
+    match take_frame(&mut member.site, frame, steps)? {
+        Ok(heard) => echoes(alloc, frame.events(), heard.as_slice()),
+        Err(fault) => only(alloc, Reply::NotTaken { fault }),
+    }
+}
+
+/// What is said of these events, in their order.
+fn echoes(alloc: Global, events: &[Event], heard: &[Arrived]) -> Result<Replies, WorldFault>
+    ensures ok { IfOk result (λ replies. replies ≡ replies_of events.now heard.now) }
+    ensures err { OnErr result (result ≡ Err WorldFault.NoMemory) }
+{
+    let mut replies = Replies::new(alloc);
+    for (event, arrived) in events.iter().zip(heard) {
+        push_some(&mut replies, arrived.reply(event))?;
+    }
+    Ok(replies)
+}
+
+/// Puts a reply last, if there is one. `AllocError` where memory ran out.
+fn push_some(replies: &mut Replies, reply: Option<Reply>) -> Result<(), AllocError>
+    ensures { OnOk result (replies.new ≡ replies.old ++ reply_list reply) }
+{
+    match reply {
+        Some(reply) => replies.push(reply),
+        None => Ok(()),
+    }
+}
