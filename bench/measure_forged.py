@@ -1,6 +1,6 @@
 #!/usr/bin/env python3
-"""Times one poll of as many frames as a poll takes, all of whose events come late: behind one shape, and behind a shape that
-was moved very often. Prints a table. See README.md."""
+"""Times one poll of many frames, all of whose events come late: behind one shape, and behind a shape that was moved very often.
+Prints a table. See README.md."""
 
 import argparse
 import os
@@ -12,11 +12,11 @@ from struct import pack
 
 sys.dont_write_bytecode = True
 sys.path[:0] = [str(Path(__file__).resolve().parent), str(Path(__file__).resolve().parent.parent / "examples")]
-from make_examples import STROKE, delete, group, log, move, restyle, stamp
+from make_examples import STROKE, crc32c, delete, group, log, move, restyle, stamp
 from make_log import VERSION, square
 from node_process import SESSION, Node, add_program, free_addresses, program_of
 
-# A poll takes so many frames, and a frame has so many events.
+# So many frames lie at a socket at once, and each has so many events.
 FRAMES, EVENTS = 64, 8
 # The moves of the own site have clocks from here on, and the late events those from 3 on.
 LATER = 100_000
@@ -37,7 +37,8 @@ def frame_of(first, deed):
     numbers = range(first, first + EVENTS)
     head = b"GDOF" + bytes([VERSION]) + pack(">I", SESSION) + bytes([2, 1]) + pack(">HH", 0, FRAMES * EVENTS)
     head += (2 + FRAMES * EVENTS).to_bytes(6, "big") + bytes(2 + 7 + 1) + bytes([EVENTS])
-    return head + b"".join(stamp(2 + number, 2) + pack(">H", number) + deed(number) for number in numbers)
+    body = head + b"".join(stamp(2 + number, 2) + pack(">H", number) + deed(number) for number in numbers)
+    return body + pack("<I", crc32c(body))
 
 
 def processor_of(process):

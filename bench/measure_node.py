@@ -16,14 +16,16 @@ sys.dont_write_bytecode = True
 sys.path.insert(0, str(Path(__file__).resolve().parent))
 from node_process import Node, add_program, free_addresses, node_words, program_of
 
-# In a turn the first site makes as many edits as a frame has, the other one polls, and then the first one does.
+# In a turn the first site makes so many edits, the other one polls, and then the first one does.
 EDITS = 8
 # One shape for so many edits: the others move one of these.
 NEW = 10
 # A gesture has as many moves as a node takes as one, rounded down, and so many gestures are measured.
 TOGETHER, GESTURES = 500, 20
+# So many moves are made while another site is away, which may catch up in so many polls of each and so many seconds.
+AWAY, POLLS, SECONDS = 10_000, 250, 2.0
 # The bytes of a frame without events and without a note, of a create without a label, and of a move.
-FRAME, CREATE, MOVE = 32, 28, 25
+FRAME, CREATE, MOVE = 36, 28, 25
 SEED = 7
 MEMORY = Path("/dev/shm")
 
@@ -114,6 +116,30 @@ def times_of_gestures(program, room):
     return lone, together, apart, [each / GESTURES for each in processor]
 
 
+def catch_up(program, room):
+    """How many polls of each site it took until one that comes held all moves that were made while it was away, and how many
+    seconds: each site polls as soon as the other one has."""
+    addresses = free_addresses(2)
+    first = Node(program, 1, addresses, room / "there.log")
+    first.ask("create rect 0 0 10 10")
+    for start in range(0, AWAY, TOGETHER):
+        first.ask("\n".join(["begin", *(f"move 1.1 {at} 0" for at in range(start, start + TOGETHER)), "end"]))
+    other = Node(program, 2, addresses, room / "away.log")
+    polls, start = 0, time.perf_counter()
+    while other.held() <= AWAY:
+        if polls == AWAY:
+            sys.exit(f"behind {polls} polls the site that was away holds {other.held()} events")
+        first.poll()
+        other.poll()
+        polls += 1
+    took = time.perf_counter() - start
+    if first.ask("show") != other.ask("show"):
+        sys.exit("the two sites show different drawings")
+    for node in (first, other):
+        node.quit()
+    return polls, took
+
+
 def echo(port):
     """Sends back what comes, in a process of its own."""
     with socket.socket(socket.AF_INET, socket.SOCK_DGRAM) as here:
@@ -188,6 +214,10 @@ def measure(program, count, where):
         row(f"{TOGETHER} moves, one after the other", apart, TOGETHER)
         print(f"a gesture of {TOGETHER} moves takes {median(together) / median(lone):.1f} times as long as a move, and "
               f"{as_one / 1e6:.2f} ms of a processor; as many moves alone {alone / 1e6:.2f} ms")
+        polls, took = catch_up(program, room)
+        met = "is met" if polls <= POLLS and took <= SECONDS else "is not met"
+        print(f"{AWAY:,} moves that were made while it was away come to a site in {polls} polls of each and {took:.2f} s: the bar, at most "
+              f"{POLLS} and {SECONDS} s, {met}")
         print(f"an edit to its answer takes {median(typed) / median(echoes):.1f} times as long as a datagram there and back")
         print(f"and {median(typed) / median(syncs):.1f} times as long as the writes and syncs; an edit of a poll of eight "
               f"{median(taken) / EDITS / median(syncs):.1f} times")

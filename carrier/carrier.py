@@ -15,8 +15,8 @@ from carrier.twin import Twin
 from carrier.ways import Ways
 from page.addresses import parts_of
 
-# Where the two seats stand in a frame, and how it begins.
-MAGIC, FROM, TO, LEAST = b"GDOF", 9, 10, 32
+# Where the two seats stand in a frame, how it begins, and how many bytes it has at least.
+MAGIC, FROM, TO, LEAST = b"GDOF", 9, 10, 36
 STRANGE = "something came that no seat of this session has sealed: it was passed over"
 
 

@@ -2,10 +2,11 @@
 
 import asyncio
 import time
+from itertools import islice
 
-from carrier.frames import EVENTS, frames
+from carrier.frames import count_of, frames
 
-# A poll takes so many datagrams.
+# So many frames lie at the node's socket at a time, and no fewer are taken by a poll.
 FRAMES = 64
 # How often is looked whether the node has taken what lies there, and for how long it may take nothing.
 # Frames that it hasn't taken after so long were lost.
@@ -51,11 +52,11 @@ class Feeding:
         return self.task is not None and not self.task.done()
 
     def send(self, loan, held):
-        """Hands the node so many frames behind the records that it holds as a poll takes. Gives the number of the last record."""
-        first = held + 1 - loan.first
-        part = slice(first, first + FRAMES * EVENTS)
-        seat = loan.head.seat
-        for each in frames(self.session, seat, self.seat, held + 1, loan.records[part], loan.clocks[part]):
+        """Hands the node some frames behind the records that it holds. Gives the number of the last record."""
+        first, seat, last = held + 1 - loan.first, loan.head.seat, held
+        made = frames(self.session, seat, self.seat, held + 1, loan.records[first:], loan.clocks[first:])
+        for each in islice(made, FRAMES):
             self.deliver(seat, each)
+            last = count_of(each)
         self.wake()
-        return loan.first + min(part.stop, len(loan.records)) - 1
+        return last

@@ -3,24 +3,63 @@
 import struct
 
 MAGIC = b"GDOF\x03"
-# Magic and version, session, from, to, acknowledgement, count, clock; then no note, no focus, no name.
-HEAD = struct.Struct(">5sIBBHHHI10x")
-EVENTS = 8
+# Magic and version, session, from, to, acknowledgement, count, clock; then no note, no focus, no name. Behind the records stands the
+# checksum.
+HEAD, CHECKSUM = struct.Struct(">5sIBBHHHI10x"), struct.Struct("<I")
+COUNT = slice(13, 15)
+# The records of a frame have at most so many bytes.
+ROOM = 1_144
 # A clock above which nothing more comes.
 LAST_CLOCK = 2**48 - 1
+# That of CRC-32C, 1EDC6F41, from its lowest bit to its highest.
+POLYNOMIAL = 0x82F63B78
+
+
+def fallen(register):
+    """A register behind eight bits."""
+    for _ in range(8):
+        register = register >> 1 ^ (POLYNOMIAL if register & 1 else 0)
+    return register
+
+
+FALLEN = [fallen(byte) for byte in range(256)]
+
+
+def crc32c(given):
+    register = 0xFFFFFFFF
+    for byte in given:
+        register = FALLEN[(register ^ byte) & 0xFF] ^ register >> 8
+    return register ^ 0xFFFFFFFF
 
 
 def frame(session, sender, to, records, count, clock):
-    """A frame with up to 8 records. It acknowledges nothing, and `count` and `clock` say up to where it speaks."""
+    """A frame with records that fit. It acknowledges nothing, and `count` and `clock` say up to where it speaks."""
     head = HEAD.pack(MAGIC, session, sender, to, 0, count, clock >> 32, clock & 0xFFFFFFFF)
-    return head + bytes([len(records)]) + b"".join(records)
+    body = head + bytes([len(records)]) + b"".join(records)
+    return body + CHECKSUM.pack(crc32c(body))
+
+
+def fitting(records, first):
+    """Behind which record a frame ends whose first one is at that place: as many are in it as fit, and one at least."""
+    room, end = ROOM - len(records[first]), first + 1
+    while end < len(records) and len(records[end]) <= room:
+        room -= len(records[end])
+        end += 1
+    return end
 
 
 def frames(session, sender, to, first, records, clocks):
     """The frames of records that are numbered from `first` on, with their clocks."""
-    for at in range(0, len(records), EVENTS):
-        part, last = records[at : at + EVENTS], min(at + EVENTS, len(records)) - 1
-        yield frame(session, sender, to, part, first + last, clocks[last])
+    at = 0
+    while at < len(records):
+        end = fitting(records, at)
+        yield frame(session, sender, to, records[at:end], first + end - 1, clocks[end - 1])
+        at = end
+
+
+def count_of(frame):
+    """The number of the last record up to which a frame speaks."""
+    return int.from_bytes(frame[COUNT], "big")
 
 
 def closing(session, sender, to, count):

@@ -2,16 +2,16 @@
 
 # Seconds until the same frame goes out again: at first, and at most. A seat that isn't there is only sent one so often.
 FIRST, LONGEST = 1.0, 10.0
-# Where a frame says how many events its seat has, and its clock. One that has nothing else that is new tells a seat what it may
-# be sure of, which can wait so long.
-BEAT, BETWEEN = slice(13, 21), 0.5
+# Where a frame says how many events its seat has, and its clock. One that has nothing else that is new, but for its checksum,
+# tells a seat what it may be sure of, which can wait so long.
+BEAT, CHECKSUM, BETWEEN = slice(13, 21), 4, 0.5
 # A seat that said nothing for so many seconds isn't there.
 GONE = 2.5 * LONGEST
 
 
 def news_of(frame):
     """What of a frame goes out at once where it is new: acknowledgement, note and events."""
-    return frame[: BEAT.start] + frame[BEAT.stop :]
+    return frame[: BEAT.start] + frame[BEAT.stop : -CHECKSUM]
 
 
 class Pace:

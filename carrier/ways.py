@@ -5,7 +5,7 @@ import socket
 
 HERE = "127.0.0.1"
 # A datagram has at most so many bytes, and one more tells that it has too many.
-MOST_DATAGRAM = 8_096
+MOST_DATAGRAM = 1_200
 # So many are taken at a time.
 MOST_READ = 1_000
 

@@ -52,6 +52,16 @@ NONE = 0xFFFFFFFF
 OPEN, CLOSED = b"\xC3", b"\x00"
 
 
+def crc32c(given):
+    """The checksum of a frame, bit by bit."""
+    register = 0xFFFFFFFF
+    for byte in given:
+        register ^= byte
+        for _ in range(8):
+            register = register >> 1 ^ (0x82F63B78 if register & 1 else 0)
+    return register ^ 0xFFFFFFFF
+
+
 def stamp(clock, site):
     return clock.to_bytes(6, "big") + bytes([site])
 
@@ -190,11 +200,12 @@ TWO_SHAPES_SNAPSHOT = (
     + pack(">I", 0)
 )
 
-# A frame of site 2 to site 1, with its second event, which moves the ellipse.
-MOVED = (
+# A frame of site 2 to site 1, with its second event, which moves the ellipse, and its checksum.
+MOVED_BODY = (
     b"GDOF" + b"\x03" + pack(">I", 7) + bytes([2, 1]) + pack(">HH", 0, 2) + (2).to_bytes(6, "big") + bytes(2 + 7 + 1)
     + b"\x01" + stamp(2, 2) + pack(">H", 2) + move(1, 1, 7, 8)
 )
+MOVED = MOVED_BODY + pack("<I", crc32c(MOVED_BODY))
 TWO_SHAPES_VIEW = TWO_SHAPES_SNAPSHOT + pack(">H", len(MOVED)) + MOVED
 
 # Site 1 keeps the log. It hears of a title before the card that it is of, and of a vote after that card is gone.

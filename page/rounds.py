@@ -8,8 +8,8 @@ from page import lines
 from page.names import read_word
 from page.node import Busy, Ended
 
-# A frame has few events. So for a while behind a poll that brought some, or heard that others took some, the next polls
-# come soon.
+# A frame has at most 1,144 bytes of events. So for a while behind a poll that brought some, or heard that others took some, the
+# next polls come soon.
 SOON, SOON_FOR = 0.01, 0.3
 # While these bring more and more, the drawing is asked for so often at most.
 SHOW_EVERY = 0.1

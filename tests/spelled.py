@@ -11,6 +11,9 @@ HEIGHTS = {"low": 0, "high": 1}
 VERSION = 3
 NO_FILL = 0xFFFFFFFF
 OPEN, CLOSED = b"\xC3", b"\0"
+# That of CRC-32C, 1EDC6F41, from its lowest bit to its highest.
+POLYNOMIAL = 0x82F63B78
+CHECKSUM = 4
 
 
 def number(value, size):
@@ -99,13 +102,40 @@ def square(id, turn):
     return id, turn, ("create", "rect", 0, 0, 10, 10, "")
 
 
+def fallen(register):
+    """A register behind eight bits."""
+    for _ in range(8):
+        register = register >> 1 ^ (POLYNOMIAL if register & 1 else 0)
+    return register
+
+
+FALLEN = [fallen(byte) for byte in range(256)]
+
+
+def crc32c(given):
+    register = 0xFFFFFFFF
+    for byte in given:
+        register = FALLEN[(register ^ byte) & 0xFF] ^ register >> 8
+    return register ^ 0xFFFFFFFF
+
+
+def checked(body):
+    """A frame: what stands in front of its checksum, and that."""
+    return body + crc32c(body).to_bytes(CHECKSUM, "little")
+
+
+def body_of(datagram):
+    """A frame without its checksum."""
+    return datagram[:-CHECKSUM]
+
+
 def frame(events=(), sender=2, to=1, held=0, count=None, clock=None, note=0, focus=(0, 0), name=b"", session=7):
     """A frame. Its count and its clock are those of its last event, where none are given."""
     count = count if count is not None else events[-1][1] if events else 0
     clock = clock if clock is not None else events[-1][0][0] if events else 0
     front = b"GDOF" + number(VERSION, 1) + number(session, 4) + number(sender, 1) + number(to, 1) + number(held, 2) + number(count, 2)
     front += number(clock, 6) + number(note, 2) + stamp(focus) + number(len(name), 1) + name
-    return front + number(len(events), 1) + b"".join(record(*event) for event in events)
+    return checked(front + number(len(events), 1) + b"".join(record(*event) for event in events))
 
 
 def item(datagram):
@@ -119,3 +149,8 @@ def changed(given, changes):
     for at, byte in changes:
         given[at] = byte
     return bytes(given)
+
+
+def rechecked(datagram, changes):
+    """A frame with other bytes in some places in front of its checksum, and the checksum of these."""
+    return checked(changed(body_of(datagram), changes))

@@ -1,9 +1,12 @@
 """What comes over a node's link, and what it prints, journals and sends then."""
 
+from concurrent.futures import ThreadPoolExecutor
+from threading import Event
+
 from tests.echoes import echoes
 from tests.nodes import answered, started
 from tests.program import DONE, Case
-from tests.spelled import GREATEST_CLOCK, changed, frame, log, square
+from tests.spelled import GREATEST_CLOCK, body_of, changed, checked, frame, log, rechecked, square
 from tests.worked import EVENT, FRAME
 
 RECT = square((1, 2), 1)
@@ -74,15 +77,16 @@ class Arrivals(Case):
     def test_what_is_no_frame_for_the_node_is_refused(self):
         datagrams = [
             b"",
-            FRAME + b"\0",
+            checked(body_of(FRAME) + b"\0"),
             changed(FRAME, [(0, 0)]),
             changed(FRAME, [(8, 8)]),
-            changed(FRAME, [(12, 1)]),
+            rechecked(FRAME, [(8, 8)]),
+            rechecked(FRAME, [(12, 1)]),
             bytes(8193),
         ]
         printed = (
-            "frame refused: Short at 0\nframe refused: Trailing at 60\nframe refused: Magic at 0\nframe refused: Session\n"
-            "frame refused: OverAck 1 0\nframe refused: TooLong\npolled 6\nheld 0 kept 0 line 0 clock 0\n"
+            "frame refused: Short at 0\nframe refused: Trailing at 60\nframe refused: Magic at 0\nframe refused: Check at 60\n"
+            "frame refused: Session\nframe refused: OverAck 1 0\nframe refused: TooLong\npolled 7\nheld 0 kept 0 line 0 clock 0\n"
         )
         node = self.expect_poll(datagrams, "poll\nstatus\nquit\n", printed)
         self.assertEqual(node.sent, 1)
@@ -98,20 +102,35 @@ class Arrivals(Case):
             ([(11, 255), (12, 255)], "OverAck 65535 0"),
             ([(11, 1), (12, 0)], "OverAck 256 0"),
         ]:
-            self.assertEqual(len(BEAT), EVENT)
-            self.expect_poll([changed(BEAT, changes)], "poll\n", f"frame refused: {why}\npolled 1\n")
+            self.assertEqual(len(body_of(BEAT)), EVENT)
+            self.expect_poll([rechecked(BEAT, changes)], "poll\n", f"frame refused: {why}\npolled 1\n")
 
-    # 65 datagrams of no byte, a pause, and one more: a pause ends a poll, and is none.
-    def test_a_poll_takes_64_datagrams_at_most(self):
+    # As many datagrams of no byte wait at a socket as a poll takes, and more come while it takes them.
+    def test_a_poll_takes_256_datagrams_at_most(self):
+        with started((1, 2)) as (node, peers), ThreadPoolExecutor(1) as pool:
+            self.assertTrue(node.is_ready())
+            for _ in range(256):
+                peers[2].send(node, b"")
+            is_over = Event()
+
+            def go_on():
+                while not is_over.is_set():
+                    peers[2].send(node, b"")
+
+            more = pool.submit(go_on)
+            answer = node.ask("poll")
+            is_over.set()
+            more.result()
+            self.assertEqual(answer, ["frame refused: Short at 0"] * 256 + ["polled 256"])
+
+    # A pause ends a poll, and is none.
+    def test_a_poll_ends_at_a_pause(self):
         with started((1, 2)) as (node, peers):
             self.assertTrue(node.is_ready())
-            for _ in range(65):
-                peers[2].send(node, b"")
-            answers = [node.ask("poll"), node.ask("poll")]
-            peers[2].send(node, b"")
-            answers += [node.ask("poll"), node.ask("poll")]
-            short = "frame refused: Short at 0"
-            self.assertEqual(answers, [[short] * count + [f"polled {count}"] for count in (64, 1, 1, 0)])
+            for count in (65, 1, 0):
+                for _ in range(count):
+                    peers[2].send(node, b"")
+                self.assertEqual(node.ask("poll"), ["frame refused: Short at 0"] * count + [f"polled {count}"])
 
     def test_a_datagram_of_8192_bytes_is_read(self):
         printed = "frame refused: Magic at 0\nframe refused: TooLong\npolled 2\n"

@@ -4,12 +4,10 @@ from tests.echoes import applied, echoes
 from tests.nodes import answered, started
 from tests.program import DONE, Case
 from tests.read import frame_events
-from tests.spelled import GREATEST_CLOCK, changed, frame, log, number, record, square
-from tests.test_frames import TAKEN, line_of
-from tests.worked import EVENT, FRAME
+from tests.spelled import GREATEST_CLOCK, body_of, changed, checked, frame, log, number, rechecked, record, square
+from tests.test_frames import AT_ONCE, TAKEN, bad, line_of, noticed
+from tests.worked import CHECK, EVENT, FRAME
 
-# So many datagrams come before a poll, which takes no more.
-AT_ONCE = 64
 BODY = EVENT + 10
 SIXTEEN, FARTHEST = b"sixteen-letters!", 1_000_000_000
 
@@ -18,7 +16,7 @@ def numbered(turn, body):
     """The worked frame and its event where that has that number and clock, and that body behind its tag."""
     clock = number(turn, 6)
     event = clock + FRAME[38:39] + number(turn, 2) + FRAME[41:BODY] + body
-    return FRAME[:13] + number(turn, 2) + clock + FRAME[21:EVENT] + event, event
+    return checked(FRAME[:13] + number(turn, 2) + clock + FRAME[21:EVENT] + event), event
 
 
 class Datagrams(Case):
@@ -35,25 +33,34 @@ class Datagrams(Case):
             peer.received()
         return lines
 
-    # The frame was taken before. So each changed one is refused, with its line, or brings nothing new.
-    def test_each_other_byte_in_each_place(self):
+    def test_each_other_byte_in_each_place_is_noticed(self):
         rows = [(at, value) for at, was in enumerate(FRAME) for value in range(256) if value != was]
+        with started((1, 2)) as (node, peers):
+            self.assertTrue(node.is_ready())
+            lines = self.polled(node, peers[2], [changed(FRAME, [row]) for row in rows])
+            for row, line in zip(rows, lines, strict=True):
+                self.assertEqual(line, noticed(row[0], len(FRAME)), row)
+            self.assertEqual(node.ask("show"), ["end 0"])
+
+    # The frame was taken before. So each changed one with its checksum is refused, with its line, or brings nothing new.
+    def test_each_other_byte_in_each_place_with_its_checksum(self):
+        rows = [(at, value) for at, was in enumerate(body_of(FRAME)) for value in range(256) if value != was]
         told = {row: line_of(*row) for row in rows}
         refused = [row for row in rows if told[row] != TAKEN]
         taken = [row for row in rows if told[row] == TAKEN]
         with started((1, 2)) as (node, peers):
             self.assertTrue(node.is_ready())
             self.assertEqual(self.polled(node, peers[2], [FRAME]), [applied(square((1, 2), 1))])
-            lines = self.polled(node, peers[2], [changed(FRAME, [row]) for row in refused])
+            lines = self.polled(node, peers[2], [rechecked(FRAME, [row]) for row in refused])
             for row, line in zip(refused, lines, strict=True):
                 self.assertEqual(line, told[row], row)
-            self.assertEqual(self.polled(node, peers[2], [changed(FRAME, [row]) for row in taken]), [])
+            self.assertEqual(self.polled(node, peers[2], [rechecked(FRAME, [row]) for row in taken]), [])
             self.assertEqual(node.journal.read_bytes(), log([square((1, 2), 1)]))
 
     def test_each_body_that_is_taken_is_journalled_as_it_came(self):
         bodies = [
-            changed(FRAME, [(at, value)])[BODY:]
-            for at in range(BODY, len(FRAME)) for value in range(256)
+            changed(FRAME, [(at, value)])[BODY:CHECK]
+            for at in range(BODY, CHECK) for value in range(256)
             if value != FRAME[at] and line_of(at, value) == TAKEN
         ]
         pairs = [numbered(turn, body) for turn, body in enumerate(bodies, 1)]
@@ -76,55 +83,60 @@ class Datagrams(Case):
 
 
 class Longest(Case):
-    # Eight objects that are put back, each with a label of 200 bytes, in a group, with 32 ties to groups; a name of 16 bytes and a
-    # focus. Their echoes are the longest that say `applied`. One that acknowledges what was never made is refused.
+    # An object that is put back with a label of 200 bytes, in a group, with 32 ties to groups, whose echo is the longest that says
+    # `applied`; and a rect whose label fills the frame. It has a name of 16 bytes and a focus. One that is a byte longer is refused,
+    # and so is one that acknowledges what was never made.
     def test_the_longest_frame_is_taken(self):
         base = GREATEST_CLOCK - 108
         link, size = ((base + 99, 16), -FARTHEST, -FARTHEST), -1_000_000
         whole = ("ellipse", -FARTHEST, -FARTHEST, size, size, 0, 0, 64, "é" * 100, link, True, ("high", (base + 50, 16)))
         ties = [((base + clock, 16), link) for clock in range(1, 33)]
-        events = [((base + 100 + turn, 16), turn, ("restore", (base + 50, 16), whole, *ties)) for turn in range(1, 9)]
+        put_back = (base + 101, 16), 1, ("restore", (base + 50, 16), whole, *ties)
         of = {"clock": GREATEST_CLOCK, "note": 65_535, "focus": (GREATEST_CLOCK, 16), "name": SIXTEEN}
-        of["session"] = 2**32 - 1
-        longest, event = frame(events, sender=16, **of), record(*events[0])
-        self.assertEqual((len(longest), len(event)), (8_096, 1_006))
+        of |= {"session": 2**32 - 1, "sender": 16}
+        rects = [((base + 102, 16), 2, ("create", "rect", 0, 0, 10, 10, "a" * letters)) for letters in (114, 115)]
+        (longest, longer), event = [frame([put_back, rect], **of) for rect in rects], record(*put_back)
+        self.assertEqual((len(longest), len(longer), len(event)), (1_200, 1_201, 1_006))
         self.assertEqual(event[:18], bytes.fromhex("FFFFFFFFFFF8 10 0001 0B FFFFFFFFFFC5 10 02"))
         self.assertEqual(event[-23:], bytes.fromhex("FFFFFFFFFFB3 10 01 FFFFFFFFFFF6 10 C4653600 C4653600"))
-        datagrams = [frame(events, sender=16, held=65_535, **of), longest]
+        events = [put_back, rects[0]]
+        datagrams = [frame(events, held=65_535, **of), longer, longest]
         node = answered((1, 16), "poll\nwho\n", datagrams, sender=16, session=2**32 - 1)
         printed = echoes(*events)
         self.assertEqual(max(map(len, printed.encode().splitlines())), 2_619)
         who = "who 16 sixteen-letters! focus 281474976710655.16\nend 1\n"
-        printed = f"frame refused: OverAck 65535 0\n{printed}polled 2\n{who}"
+        printed = f"frame refused: OverAck 65535 0\n{bad('Trailing', 1_200)}\n{printed}polled 3\n{who}"
         self.assertEqual((node.text, node.status), (f"ready 1 of 16\n{printed}", DONE))
         self.assertEqual(node.journal, log(events, sites=16, session=2**32 - 1))
 
-    # What was made before the groups is acknowledged, and so are the groups before all of them are taken back and made again.
+    # The shortest events are of 17 bytes. A frame with one more is refused at their number, which fits into 1,200 bytes without a name.
+    def test_most_events_are_taken(self):
+        events = [((clock, 2), clock - 1, ("delete", (1, 1))) for clock in range(2, 70)]
+        most, more = (frame(events[:count]) for count in (67, 68))
+        self.assertEqual((len(most), len(more)), (1_175, 1_192))
+        node = answered((1, 2), "poll\n", [more, most])
+        printed = f"{bad('Field', 31)}\n{echoes(*events[:67])}polled 2\n"
+        self.assertEqual((node.text, node.status), (f"ready 1 of 2\n{printed}", DONE))
+
+    def acknowledged(self, node, peer, made):
+        """All frames that a node sends to a peer that has nothing since so many events, and then acknowledges what came."""
+        sent, held = [], made
+        while not sent or sent[-1][-1]:
+            peer.send(node, frame(sender=1, to=2, held=held))
+            self.assertEqual(node.ask("poll"), ["polled 1"])
+            datagram = peer.received()[-1]
+            sent.append((datagram, frame_events(datagram)))
+            held += len(sent[-1][-1])
+        return sent[:-1], held
+
+    # What was made before the groups is acknowledged, and so are the groups before all of them are taken back and made again. Two
+    # groups of 32 members fit into a frame, four ends of such, and one such that is put back. An edit that doesn't fit behind older
+    # ones sends nothing, and neither does an undo or a redo.
     def test_the_longest_groups_are_sent_and_put_back(self):
         ids = [[(clock, 2) for clock in range(first, first + 32)] for first in range(1, 257, 32)]
         groups = [
             ((256 + turn, 2), 256 + turn, ("group", *((id, 0, 0) for id in part))) for turn, part in enumerate(ids, 1)
         ]
-        with started((2, 2)) as (node, peers):
-            self.assertTrue(node.is_ready())
-            for clock in range(1, 257):
-                self.assertEqual(node.ask("create rect 0 0 10 10"), [f"ok {clock}.2"])
-                peers[1].received()
-            peers[1].send(node, frame(sender=1, to=2, held=256))
-            typed = ["poll", "name sixteen-letters!", "focus 256.2"]
-            typed += [f"group {' '.join(f'{clock}.{site}' for clock, site in part)}" for part in ids]
-            answers = [node.ask(line) for line in typed]
-            # The last frame is sent behind its answer, and in front of this one.
-            self.assertEqual(node.held(), 264)
-            sent = [peers[1].received()[-1]]
-            for held, line in ((264, "undo"), (272, "redo")):
-                peers[1].send(node, frame(sender=1, to=2, held=held))
-                answers += [node.ask(each) for each in ["poll"] + [line] * 8]
-                self.assertEqual(node.held(), held + 8)
-                sent.append(peers[1].received()[-1])
-        oks = [[[f"ok {clock}.2"] for clock in range(first, first + 8)] for first in (257, 265, 273)]
-        oks[1:] = [[[*ok, "end 1"] for ok in part] for part in oks[1:]]
-        self.assertEqual(answers, [["polled 1"], ["noted 1"], ["noted 2"], *oks[0], ["polled 1"], *oks[1], ["polled 1"], *oks[2]])
         disbands, restores = [], []
         for turn, part in enumerate(ids):
             group = (257 + turn, 2)
@@ -134,5 +146,29 @@ class Longest(Case):
             ties = [(id, (group, 0, 0)) for id in part]
             restores.append(((273 + turn, 2), 273 + turn, ("restore", group, whole, *ties)))
         of = {"note": 2, "focus": (256, 2), "name": SIXTEEN}
-        self.assertEqual(sent, [frame(events, **of) for events in (groups, disbands, restores)])
-        self.assertEqual([len(each) for each in sent], [3_976, 2_240, 6_376])
+        with started((2, 2)) as (node, peers):
+            self.assertTrue(node.is_ready())
+            held = 0
+            for clock in range(1, 257):
+                self.assertEqual(node.ask("create rect 0 0 10 10"), [f"ok {clock}.2"])
+            _, held = self.acknowledged(node, peers[1], held)
+            self.assertEqual(held, 256)
+            self.assertEqual([node.ask("name sixteen-letters!"), node.ask("focus 256.2")], [["noted 1"], ["noted 2"]])
+            grouping = [f"group {' '.join(f'{clock}.{site}' for clock, site in part)}" for part in ids]
+            for events, lines, fit, end, sizes in [
+                (groups, grouping, 2, [], [1_034] * 4),
+                (disbands, ["undo"] * 8, 4, ["end 1"], [1_148] * 2),
+                (restores, ["redo"] * 8, 1, ["end 1"], [843] * 8),
+            ]:
+                for turn, line in enumerate(lines):
+                    clock = events[turn][0][0]
+                    self.assertEqual(node.ask(line), [f"ok {clock}.2", *end])
+                    self.assertEqual(node.held(), clock)
+                    # Of those that fit each sends the ones before it, too.
+                    told = [frame(events[: turn + 1], **of)] if turn < fit else []
+                    self.assertEqual(peers[1].received(), told, clock)
+                sent, held = self.acknowledged(node, peers[1], held)
+                parts = [events[first : first + fit] for first in range(0, 8, fit)]
+                told = [frame(part, **of | {"count": held, "clock": held}) for part in parts]
+                self.assertEqual([datagram for datagram, _ in sent], told)
+                self.assertEqual([len(datagram) for datagram, _ in sent], sizes)

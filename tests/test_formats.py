@@ -99,25 +99,26 @@ class Formats(Case):
         ])
 
 
-# Site 2 can't colour a rect of site 4, and then gets it. Site 4 raises it, and site 2 deletes it and takes that back.
+# Site 2 can't colour a rect of site 4, and then gets it. Site 4 raises it, and site 2 deletes it and takes that back. Of two rounds
+# the first one brings all to all.
 SEVEN_STEPS = (
     "".join(f"site {site} held 4 kept 0 line 3 clock 3\n" for site in range(1, 5))
-    + "edits 4 refused 1 sent 49 delivered 49 idle 0\narrivals applied 6 dropped 2 reworked 4 undone 4\nsame yes\n"
+    + "edits 4 refused 1 sent 25 delivered 25 idle 0\narrivals applied 6 dropped 2 reworked 4 undone 4\nsame yes\n"
 )
-# Then site 2 deletes it again, by a redo. There is one round more.
+# Then site 2 deletes it again, by a redo.
 EIGHT_STEPS = (
     "".join(f"site {site} held 5 kept 0 line 4 clock 4\n" for site in range(1, 5))
-    + "edits 5 refused 1 sent 61 delivered 61 idle 0\narrivals applied 9 dropped 2 reworked 4 undone 7\nsame yes\n"
+    + "edits 5 refused 1 sent 25 delivered 25 idle 0\narrivals applied 9 dropped 2 reworked 4 undone 7\nsame yes\n"
 )
 # Site 2 makes two rects and a group of them, takes the group back, makes it again, and moves it.
 GROUP_STEPS = (
     "".join(f"site {site} held 6 kept 0 line 6 clock 6\n" for site in range(1, 5))
-    + "edits 6 refused 0 sent 61 delivered 60 idle 1\narrivals applied 18 dropped 0 reworked 0 undone 0\nsame yes\n"
+    + "edits 6 refused 0 sent 25 delivered 24 idle 1\narrivals applied 18 dropped 0 reworked 0 undone 0\nsame yes\n"
 )
 # An undo that is refused, an empty mail, two rects of site 4, and four steps without anything to work on.
 IDLE_STEPS = (
     "".join(f"site {site} held 2 kept 0 line 2 clock 2\n" for site in range(1, 5))
-    + "edits 2 refused 1 sent 61 delivered 60 idle 4\narrivals applied 6 dropped 0 reworked 0 undone 0\nsame yes\n"
+    + "edits 2 refused 1 sent 25 delivered 24 idle 4\narrivals applied 6 dropped 0 reworked 0 undone 0\nsame yes\n"
 )
 
 
@@ -141,7 +142,7 @@ class Churns(Case):
         lines = first.text.splitlines()
         words = lines[4].split()
         self.assertEqual((first.status, len(lines), lines[-1]), (DONE, 7, "same yes"))
-        self.assertLess(int(words[words.index("sent") + 1]), 7600)
+        self.assertLess(int(words[words.index("sent") + 1]), 1000)
         self.assertEqual(run_program(churn(7, 3000)).printed, first.printed)
 
 

@@ -1,15 +1,19 @@
-"""A node's frames on their way to another node: cut, and with each byte changed."""
+"""A node's frames on their way to another node: cut, with each bit changed, and made of other bytes with their checksum."""
+
+from contextlib import ExitStack
 
 from tests.echoes import applied, echoes
-from tests.nodes import answered, replayed
+from tests.nodes import answered, started
 from tests.program import DONE, Case, at_a_time
 from tests.read import frame_events
-from tests.spelled import changed, log, square
+from tests.spelled import body_of, changed, checked, crc32c, log, rechecked, square
 from tests.test_changes import CHANGES
-from tests.worked import EVENT, FRAME
+from tests.worked import CHECK, EVENT, FRAME
 
 # It is taken, and its event is applied.
 TAKEN = "taken"
+# The bytes of a frame, and its events, are at most so many.
+MOST, MOST_EVENTS = 1_200, 67
 
 
 def bad(why, at):
@@ -37,7 +41,7 @@ def count_of_events(value):
     """The number of events, in front of one."""
     if value == 0:
         return bad("Trailing", EVENT)
-    return bad("Short", 60) if value <= 8 else bad("Field", 31)
+    return bad("Short", CHECK) if value <= MOST_EVENTS else bad("Field", 31)
 
 
 def front(at, value):
@@ -101,13 +105,18 @@ def event(at, value):
             return field(at - 1, value <= 0x0F)
         case 59:
             # The length of the label, behind which nothing stands.
-            return bad("Short", 60) if value <= 200 else bad("Field", 59)
+            return bad("Short", CHECK) if value <= 200 else bad("Field", 59)
     return TAKEN
 
 
 def line_of(at, value):
-    """What is printed of the worked frame where that byte has that value, which is another one."""
+    """What is printed of the worked frame where that byte has that value, which is another one, and the checksum is right."""
     return front(at, value) if at < EVENT else event(at, value)
+
+
+def noticed(at, length):
+    """What is printed of a frame of so many bytes where that byte alone is another."""
+    return bad("Magic", 0) if at < 4 else bad("Version", 4) if at == 4 else bad("Check", length - 4)
 
 
 def received(datagram, typed="poll\n"):
@@ -121,7 +130,7 @@ class Frames(Case):
         for (datagram, line), node in zip(rows, at_a_time(received, [(datagram,) for datagram, _ in rows])):
             printed = applied(frame_events(datagram)[0]) if line == TAKEN else line
             self.assertEqual((node.text, node.status), (f"ready 1 of 2\n{printed}\npolled 1\n", DONE), datagram.hex())
-            event = b"\xC3" + datagram[EVENT:] if line == TAKEN else b""
+            event = b"\xC3" + body_of(datagram)[EVENT:] if line == TAKEN else b""
             self.assertEqual(node.journal, log([], closed=False) + event + b"\0", datagram.hex())
 
     def test_the_frame_of_a_node_is_the_worked_one(self):
@@ -129,15 +138,35 @@ class Frames(Case):
         self.expect_received([(FRAME, TAKEN)])
         self.assertEqual(received(FRAME).journal, log([square((1, 2), 1)]))
 
-    def test_a_frame_with_a_changed_byte_is_refused_or_taken(self):
+    # The checksum is that of RFC 3720: the check value of the catalogues, and the bytes of its appendix.
+    def test_the_checksum_is_the_published_one(self):
+        for given, check in [
+            (b"123456789", 0xE3069283),
+            (bytes(32), 0x8A9136AA),
+            (b"\xFF" * 32, 0x62A8AB43),
+            (bytes(range(32)), 0x46DD794E),
+            (bytes(range(32))[::-1], 0x113FDB5C),
+        ]:
+            self.assertEqual(crc32c(given), check)
+
+    def test_a_changed_byte_is_noticed(self):
         rows = [(at, was ^ change) for at, was in enumerate(FRAME) for change in CHANGES]
-        self.expect_received([(changed(FRAME, [(at, value)]), line_of(at, value)) for at, value in rows])
+        self.expect_received([(changed(FRAME, [(at, value)]), noticed(at, len(FRAME))) for at, value in rows])
+
+    # Bits that change within four bytes in a row.
+    def test_a_changed_row_is_noticed(self):
+        rows = [changed(FRAME, [(at + each, FRAME[at + each] ^ 0x5A) for each in range(4)]) for at in range(5, len(FRAME) - 3)]
+        self.expect_received([(each, bad("Check", CHECK)) for each in rows])
+
+    def test_a_changed_byte_with_its_checksum_is_refused_or_taken(self):
+        rows = [(at, was ^ change) for at, was in enumerate(body_of(FRAME)) for change in CHANGES]
+        self.expect_received([(rechecked(FRAME, [(at, value)]), line_of(at, value)) for at, value in rows])
 
     # The version; the sender; the site of the event, its count, its clock and its number; its kind; its width, to one more than
     # the greatest; the length of its label; and a byte that is added.
     def test_the_place_of_a_fault_is_that_of_its_field(self):
         self.expect_received([
-            (changed(FRAME, changes), bad(why, at))
+            (rechecked(FRAME, changes), bad(why, at))
             for changes, why, at in [
                 ([(4, 1)], "Version", 4),
                 ([(4, 2)], "Version", 4),
@@ -150,15 +179,32 @@ class Frames(Case):
                 ([(52, 0x0F), (53, 0x42), (54, 0x41)], "Field", 51),
                 ([(59, 1)], "Short", 60),
             ]
-        ] + [(FRAME + b"\0", bad("Trailing", 60))])
+        ] + [(checked(body_of(FRAME) + b"\0"), bad("Trailing", 60))])
 
-    def test_a_frame_that_is_cut_is_short(self):
-        self.expect_received([(FRAME[:length], bad("Short", length)) for length in range(len(FRAME))])
+    def test_a_frame_that_is_cut_is_short_or_has_another_checksum(self):
+        rows = [(FRAME[:length], bad("Short", length)) for length in range(5)]
+        rows += [(FRAME[:length], bad("Check", length - 4)) for length in range(5, len(FRAME))]
+        self.expect_received(rows + [(checked(FRAME[:length]), bad("Short", length)) for length in range(5, CHECK)])
+
+    # The magic, the version, the length, the checksum and then the rest are judged, in this order.
+    def test_the_length_is_judged_behind_the_version(self):
+        body = body_of(FRAME)
+        fits, long = bytes(MOST - len(FRAME)), bytes(MOST + 1 - len(FRAME))
+        self.expect_received([
+            (FRAME + fits, bad("Check", MOST - 4)),
+            (checked(body + fits), bad("Trailing", CHECK)),
+            (FRAME + long, bad("Trailing", MOST)),
+            (checked(body + long), bad("Trailing", MOST)),
+            (FRAME + bytes(8_192 - len(FRAME)), bad("Trailing", MOST)),
+            (changed(FRAME + long, [(4, 2)]), bad("Version", 4)),
+            (changed(FRAME + long, [(0, 0), (4, 2)]), bad("Magic", 0)),
+            (FRAME + bytes(8_193 - len(FRAME)), "frame refused: TooLong"),
+        ])
 
 
-# Eight events of each kind of operation between them, a name and a focus, as they are typed at site 2; the last two have what undos and
+# Events of each kind of operation between them, a name and a focus, as they are typed at site 2; the last two have what undos and
 # redos make.
-LONG = [
+SESSIONS = [
     "name Bob\nfocus 1.2\ncreate rect 0 0 10 10 café\ncreate line 5 5 -5 5\nmove 1.2 -7 1000000000\nresize 1.2 20 30\n"
     "stroke 1.2 00AB0C\nfill 1.2 none\nwidth 2.2 64\ntext 2.2 b\n",
     "create rect 0 0 10 10\ncreate ellipse 5 5 5 5\ngroup 1.2 2.2\nfill 1.2 FF8000\nungroup 3.2\nraise 1.2\nlower 1.2\n"
@@ -166,23 +212,31 @@ LONG = [
     "create rect 0 0 10 10 a\ncreate ellipse 5 5 5 5 b\ngroup 1.2 2.2\nungroup 3.2\nundo\nundo\nredo\nundo\n",
     "create rect 0 0 10 10 a\nraise 1.2\nundo\nredo\ndelete 1.2\nundo\nlower 1.2\nundo\n",
 ]
+# So many datagrams of some hundred bytes wait at a socket.
+AT_ONCE = 64
 
 
-class LongFrames(Case):
-    def expect_sound(self, node, datagram, at):
-        """Either the frame was refused, and nothing else came of it, or all of it was taken, and is in the journal."""
-        self.assertEqual(node.status, DONE, at)
-        lines = node.text.split("\n")
-        is_refusal = len(lines) == 5 and lines[1].startswith("frame refused: ") and lines[2:] == ["polled 1", "end 0", ""]
-        if not is_refusal:
-            self.assertEqual(node.text, f"ready 1 of 2\n{echoes(*frame_events(datagram))}polled 1\n{replayed(node.journal)}", at)
-
-    def test_a_long_frame_with_a_changed_bit_is_refused_or_taken_whole(self):
-        for typed in LONG:
-            sent = answered((2, 2), typed).frames[1][-1]
-            rows = [(0, 0)] + [(at, change) for at in range(len(sent)) for change in (1, 128)]
-            datagrams = [changed(sent, [(at, sent[at] ^ change)]) for at, change in rows]
-            nodes = at_a_time(received, [(datagram, "poll\nshow\n") for datagram in datagrams])
-            self.assertTrue(nodes[0].text.startswith(f"ready 1 of 2\n{echoes(*frame_events(sent))}polled 1\n"), nodes[0].text)
-            for row, datagram, node in zip(rows, datagrams, nodes):
-                self.expect_sound(node, datagram, row)
+class Flips(Case):
+    # A node sends frames, of which each bit is changed, and then they come as they were sent: both show the same.
+    def test_each_changed_bit_of_a_session_is_noticed(self):
+        for typed in SESSIONS:
+            with ExitStack() as stack:
+                one, to_one = stack.enter_context(started((1, 2)))
+                two, to_two = stack.enter_context(started((2, 2)))
+                self.assertTrue(one.is_ready() and two.is_ready())
+                for line in typed.splitlines():
+                    two.ask(line)
+                drawn = two.ask("show")
+                sent = to_two[1].received()[-1]
+                flips = [(at, changed(sent, [(at, sent[at] ^ 1 << bit)])) for at in range(len(sent)) for bit in range(8)]
+                self.assertGreater(len(flips), 1_500)
+                for first in range(0, len(flips), AT_ONCE):
+                    part = flips[first : first + AT_ONCE]
+                    for _, datagram in part:
+                        to_one[2].send(one, datagram)
+                    lines = [noticed(at, len(sent)) for at, _ in part]
+                    self.assertEqual(one.ask("poll"), [*lines, f"polled {len(part)}"])
+                self.assertEqual(one.ask("status"), ["held 0 kept 0 line 0 clock 0"])
+                to_one[2].send(one, sent)
+                self.assertEqual(one.ask("poll"), [*echoes(*frame_events(sent)).splitlines(), "polled 1"])
+                self.assertEqual(one.ask("show"), drawn)

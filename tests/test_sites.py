@@ -3,7 +3,7 @@
 from tests.echoes import applied, echoes
 from tests.nodes import answered, started
 from tests.program import DONE, Case
-from tests.spelled import GREATEST_CLOCK, changed, frame, log, square
+from tests.spelled import GREATEST_CLOCK, frame, log, rechecked, square
 from tests.tables import dialogues
 from tests.test_rehearsals import rehearse
 from tests.worked import FRAME, RECT
@@ -100,7 +100,7 @@ class Sites(Case):
             self.expect_node((1, 2), datagrams, typed, printed)
 
     def test_the_first_fault_of_a_frame_is_given(self):
-        datagrams = [changed(FRAME, changes) for changes, _ in FAULTS]
+        datagrams = [rechecked(FRAME, changes) for changes, _ in FAULTS]
         refused = "".join(f"frame refused: {why}\n" for _, why in FAULTS)
         self.expect_node((1, 2), datagrams, "poll\nstatus\n", f"{refused}polled 6\nheld 0 kept 0 line 0 clock 0\n")
 
@@ -198,20 +198,55 @@ class Told(Case):
                     self.assertEqual(node.ask("create rect 0 0 10 10"), [f"ok {clock}.2"])
                 self.assertEqual(node.ask("status"), [status])
 
-    # Of its 12 events each other site gets the first eight that it hasn't got, whatever it said before.
+    # Of its 60 events each other site gets as many of the first that it hasn't got as fit, whatever it said before: of 28 bytes each
+    # those are 40. What doesn't fit isn't sent when it is made.
     def test_each_site_is_sent_what_it_lacks(self):
-        events = [square((clock, 1), clock) for clock in range(1, 13)]
-        rows = [(2, 2, 2), (2, 5, 5), (3, 1, 1), (2, 3, 5), (3, 9, 9), (2, 12, 12)]
+        events = [square((clock, 1), clock) for clock in range(1, 61)]
+        rows = [(2, 2, 2), (2, 25, 25), (3, 1, 1), (2, 13, 25), (3, 49, 49), (2, 60, 60)]
         with started((1, 3)) as (node, peers):
             self.assertTrue(node.is_ready())
-            for clock in range(1, 13):
+            for clock in range(1, 61):
                 self.assertEqual(node.ask("create rect 0 0 10 10"), [f"ok {clock}.1"])
+                # It sends behind its answer, and in front of the next one.
+                node.ask("status")
+                for site, peer in peers.items():
+                    told = [frame(events[:clock], sender=1, to=site)] if clock <= 40 else []
+                    self.assertEqual(peer.received(), told, clock)
             for site, said, known in rows:
                 node.ask("status")
                 peers[site].received()
                 peers[site].send(node, frame(sender=site, held=said))
                 self.assertEqual(node.ask("poll"), ["polled 1"])
-                told = frame(events[known : known + 8], sender=1, to=site, count=12, clock=12)
-                self.assertEqual(peers[site].received()[-1], told, (site, said))
-            peers[2].send(node, frame(held=13))
-            self.assertEqual(node.ask("poll"), ["frame refused: OverAck 13 12", "polled 1"])
+                told = frame(events[known : known + 40], sender=1, to=site, count=60, clock=60)
+                self.assertEqual(peers[site].received(), [told], (site, said))
+            peers[2].send(node, frame(held=61))
+            self.assertEqual(node.ask("poll"), ["frame refused: OverAck 61 60", "polled 1"])
+
+    # Older events fill the frame for site 2, and site 3 has got them. An edit goes to site 3 alone, and the next poll sends the older
+    # ones. A delete is short enough to go to both.
+    def test_an_edit_goes_where_it_fits(self):
+        labels = ["a" * 200] * 5
+        events = [((1, 1), 1, ("create", "rect", 0, 0, 10, 10, "ab"))]
+        events += [((clock, 1), clock, ("text", (1, 1), label)) for clock, label in enumerate(labels, 2)]
+        moved, deleted = ((7, 1), 7, ("move", (1, 1), 5, 5)), ((7, 1), 7, ("delete", (1, 1)))
+        for line, last, told in [
+            ("move 1.1 5 5", moved, {2: [], 3: [moved]}),
+            ("delete 1.1", deleted, {2: [*events, deleted], 3: [deleted]}),
+        ]:
+            with started((1, 3)) as (node, peers):
+                self.assertTrue(node.is_ready())
+                node.ask("create rect 0 0 10 10 ab")
+                for label in labels:
+                    node.ask(f"text 1.1 {label}")
+                peers[3].send(node, frame(sender=3, held=6))
+                self.assertEqual(node.ask("poll"), ["polled 1"])
+                for peer in peers.values():
+                    peer.received()
+                self.assertEqual(node.ask(line), ["ok 7.1"])
+                self.assertEqual(node.held(), 7)
+                for to, peer in peers.items():
+                    self.assertEqual(peer.received(), [frame(told[to], sender=1, to=to)] if told[to] else [], (line, to))
+                self.assertEqual(node.ask("poll"), ["polled 0"])
+                polled = {2: told[2] or events, 3: [last]}
+                for to, peer in peers.items():
+                    self.assertEqual(peer.received(), [frame(polled[to], sender=1, to=to, count=7, clock=7)], (line, to))

@@ -1,7 +1,7 @@
 """Snapshots, and who looks on: the worked ones, one with each byte changed, and frames and faults behind one."""
 
 from tests.program import BAD_LOG, BAD_VIEW, DONE, LINE_LIMIT, Case, at_a_time, run_program
-from tests.spelled import changed, frame, item
+from tests.spelled import body_of, changed, checked, frame, item, rechecked
 from tests.test_changes import CHANGES
 from tests.worked import ELLIPSE_LINE, RECT_LINE, TIE, TIE_SNAPSHOT, TIE_TEXT
 
@@ -31,20 +31,21 @@ class Snapshots(Case):
         self.expect(["view"], b"", BAD_VIEW, "bad view at 0: Short\n")
 
     def test_a_frame_is_taken_once_for_whomever_it_is(self):
-        other = changed(MOVE, [(10, 16), (11, 255)])
+        other = rechecked(MOVE, [(10, 16), (11, 255)])
         self.expect_all([(["view"], stream(*items), DONE, MOVED_TEXT) for items in ([MOVE], [MOVE, MOVE], [other])])
 
-    # No frame; one of another session; one from site 3 without events; an event behind a gap; and one whose clock is that of
-    # the first event of its site.
+    # No frame; one in which a bit was changed; one of another session; one from site 3 without events; an event behind a gap; and
+    # one whose clock is that of the first event of its site.
     def test_a_frame_that_brings_nothing_leaves_the_drawing(self):
         self.expect_all([
             (["view"], stream(datagram), DONE, line + TIE_TEXT)
             for datagram, line in [
                 (b"", "frame refused: Short at 0\n"),
-                (changed(MOVE, [(8, 8)]), "frame refused: Session\n"),
-                (changed(MOVE, [(9, 3), (31, 0)])[:32], "frame refused: NoSuchSite\n"),
-                (changed(MOVE, [(14, 3), (40, 3)]), ""),
-                (changed(MOVE, [(37, 1)]), "event 1.2 refused: Backdated 1 1\n"),
+                (changed(MOVE, [(52, 6)]), "frame refused: Check at 57\n"),
+                (rechecked(MOVE, [(8, 8)]), "frame refused: Session\n"),
+                (checked(changed(body_of(MOVE), [(9, 3), (31, 0)])[:32]), "frame refused: NoSuchSite\n"),
+                (rechecked(MOVE, [(14, 3), (40, 3)]), ""),
+                (rechecked(MOVE, [(37, 1)]), "event 1.2 refused: Backdated 1 1\n"),
             ]
         ])
 
@@ -63,12 +64,12 @@ class Snapshots(Case):
         self.expect_all([
             (["view"], stream(*items) + rest, BAD_VIEW, text)
             for items, rest, text in [
-                ([], b"\x1F", "bad view at 124: Short\n"),
-                ([], b"\x1F\xA1\0", "bad view at 123: Long\n"),
-                ([], b"\x1F\xA0", "bad view at 125: Short\n"),
-                ([MOVE], b"\0", MOVED + "bad view at 183: Short\n"),
-                ([MOVE], b"\0\x02\x01", MOVED + "bad view at 185: Short\n"),
-                ([MOVE], b"\xFF\xFF", MOVED + "bad view at 182: Long\n"),
+                ([], b"\x04", "bad view at 124: Short\n"),
+                ([], b"\x04\xB1\0", "bad view at 123: Long\n"),
+                ([], b"\x04\xB0", "bad view at 125: Short\n"),
+                ([MOVE], b"\0", MOVED + "bad view at 187: Short\n"),
+                ([MOVE], b"\0\x02\x01", MOVED + "bad view at 189: Short\n"),
+                ([MOVE], b"\xFF\xFF", MOVED + "bad view at 186: Long\n"),
             ]
         ])
 

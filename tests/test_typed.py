@@ -2,7 +2,7 @@
 
 from tests.nodes import answered
 from tests.program import DONE, LINE_LIMIT, Case
-from tests.spelled import changed, frame, label, log, square
+from tests.spelled import frame, label, log, rechecked, square
 from tests.tables import dialogues
 from tests.worked import FRAME
 
@@ -136,7 +136,7 @@ class Kept(Case):
         node = self.second_of_three("create rect 0 0 10 10\n")
         self.assertEqual((node.text, node.status), ("ready 2 of 3\nok 1.2\n", DONE))
         self.assertEqual(node.journal, self.journal(RECT))
-        self.assertEqual(node.frames, {1: [FRAME], 3: [changed(FRAME, [(10, 3)])]})
+        self.assertEqual(node.frames, {1: [FRAME], 3: [rechecked(FRAME, [(10, 3)])]})
 
     def test_an_undo_and_a_redo_are_events_like_any_other(self):
         node = self.second_of_three("create rect 0 0 10 10\nundo\nundo\nredo\nredo\n")
@@ -146,15 +146,16 @@ class Kept(Case):
         self.assertEqual(node.journal, self.journal(*events))
         self.assertEqual(node.frames, {to: [frame(events[:count], to=to) for count in (1, 2, 3)] for to in (1, 3)})
 
-    # One frame goes to each other site behind it, with its first eight events, and none before its end.
+    # One frame goes to each other site behind it, with as many of its first events as fit, 40 of 28 bytes, and none before its end.
+    # A gesture of which no event fits behind these sends nothing.
     def test_a_gesture_is_journalled_as_a_whole_and_sent_behind_its_end(self):
-        edits = "create rect 0 0 10 10\n" * 10
-        events = [square((clock, 2), clock) for clock in range(1, 11)]
-        node = self.second_of_three(f"begin\n{edits}raise 9.1\nend\n")
-        oks = "".join(f"ok {clock}.2\n" for clock in range(1, 11))
-        self.assertEqual(node.text, f"ready 2 of 3\n{oks}refused: NoObject\nend 11\n")
+        edits = "create rect 0 0 10 10\n" * 50
+        events = [square((clock, 2), clock) for clock in range(1, 53)]
+        node = self.second_of_three(f"begin\n{edits}raise 9.1\nend\nbegin\n{edits[:44]}end\n")
+        oks = ["".join(f"ok {clock}.2\n" for clock in part) for part in (range(1, 51), range(51, 53))]
+        self.assertEqual(node.text, f"ready 2 of 3\n{oks[0]}refused: NoObject\nend 51\n{oks[1]}end 2\n")
         self.assertEqual(node.journal, self.journal(*events))
-        self.assertEqual(node.frames, {to: [frame(events[:8], to=to, count=10, clock=10)] for to in (1, 3)})
+        self.assertEqual(node.frames, {to: [frame(events[:40], to=to, count=50, clock=50)] for to in (1, 3)})
         node = self.second_of_three(f"begin\n{edits}poll\nquit\n")
         self.assertEqual((node.text, node.sent, node.journal), ("ready 2 of 3\n", 0, self.journal()))
 

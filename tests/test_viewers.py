@@ -95,7 +95,7 @@ class Faults(Case):
 
     def test_items_that_are_none(self):
         self.expect_all([
-            (["view"], TIE_SNAPSHOT + b"\x1F\xA1", BAD_VIEW, bad(123, "Long")),
+            (["view"], TIE_SNAPSHOT + b"\x04\xB1", BAD_VIEW, bad(123, "Long")),
             (["view"], TIE_SNAPSHOT + item(MOVE)[:12], BAD_VIEW, bad(135, "Short")),
         ])
 

@@ -78,7 +78,7 @@ REFUSED_PLAYS = [
 
 NOTHING_CHURNED = (
     "".join(f"site {site} held 0 kept 0 line 0 clock 0\n" for site in range(1, 5))
-    + "edits 0 refused 0 sent 48 delivered 48 idle 0\narrivals applied 0 dropped 0 reworked 0 undone 0\nsame yes\n"
+    + "edits 0 refused 0 sent 12 delivered 12 idle 0\narrivals applied 0 dropped 0 reworked 0 undone 0\nsame yes\n"
 )
 
 TAKEN_PLAYS = [

@@ -7,7 +7,7 @@ from tests.echoes import words
 from tests.nodes import answered
 from tests.pages import blocks_of, lines_of, quoted, rows_of
 from tests.program import BAD_LOG, DONE, Case, run_program
-from tests.spelled import changed, frame, header, item
+from tests.spelled import body_of, changed, checked, frame, header, item
 from tests.worked import FRAME, TIE, TIE_SNAPSHOT, TIE_TEXT
 
 FORMATS, LINES = "docs/FORMATS.md", "docs/LINES.md"
@@ -86,13 +86,16 @@ class Formats(Case):
         members = '{"dx":5,"dy":-7,"id":"1.2"},{"dx":1000000000,"dy":-1000000000,"id":"2.1"}'
         self.assertIn(members, run_program(["replay", "--format", "events"], log).text)
 
+    # The changes of the first table are of a whole frame, and those of the second one are followed by their checksum.
     def test_changed_frames(self):
-        rows = self.table("Change", "Refused as")
-        self.assertGreater(len(rows), 8)
-        for change, why in rows:
+        rows = [(changed_by(FRAME, change), why) for change, why in self.table("Change of the 64 bytes", "Refused as")]
+        behind = self.table("Change of the first 60 bytes", "Refused as")
+        rows += [(checked(changed_by(body_of(FRAME), change)), why) for change, why in behind]
+        self.assertGreater(len(rows), 16)
+        for datagram, why in rows:
             why = re.sub(r" \(.*", "", why)
-            node = answered((1, 2), "poll\n", [changed_by(FRAME, change)])
-            self.assertEqual(node.text, f"ready 1 of 2\nframe refused: {why}\npolled 1\n", change)
+            node = answered((1, 2), "poll\n", [datagram])
+            self.assertEqual(node.text, f"ready 1 of 2\nframe refused: {why}\npolled 1\n", datagram.hex())
 
     def test_the_lines_of_json(self):
         shape, event = block_with(FORMATS, '{"at":[5,5]').splitlines()
@@ -131,7 +134,7 @@ class Formats(Case):
 
     def test_the_view(self):
         moved = item(frame([((2, 2), 2, ("move", (1, 1), 7, 8))]))
-        self.assertEqual((len(moved), moved[:2]), (59, b"\0\x39"))
+        self.assertEqual((len(moved), moved[:2]), (63, b"\0\x3D"))
         self.expect(["view"], TIE_SNAPSHOT + moved, DONE, block_with(FORMATS, "echo 2.2 applied move 1.1 7 8"))
 
 

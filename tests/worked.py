@@ -54,9 +54,10 @@ LOOK_TEXT = "ellipse 1.1 in - at 0 0 size -5 30 stroke 00AB0C fill FF8000 width 
 FRAME = bytes.fromhex(
     "47444F46 03 00000007 02 01 0000 0001 000000000001 0000 00000000000000 00 01"
     "000000000001 02 0001 01 01 00000000 00000000 0000000A 0000000A 00"
+    "F9E5D4D2"
 )
-# Where the event of that frame begins.
-EVENT = 32
+# Where the event of that frame begins, and its checksum.
+EVENT, CHECK = 32, 60
 
 # The snapshot of the tie: each site made one event and has the sure clock 1, so both objects stand and no event is kept.
 TIE_SNAPSHOT = bytes.fromhex(

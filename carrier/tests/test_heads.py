@@ -5,7 +5,7 @@ import unittest
 
 from carrier.feeds import FAULTS, Feeds, records_of
 from carrier.heads import Heads, SIZE, head_of, signed
-from carrier.frames import closing, frame, frames
+from carrier.frames import closing, count_of, crc32c, frame, frames
 from carrier.keys import Keys
 from carrier.roster import SEATS
 from carrier.tests.rosters import SEEDS, SESSION, roster_with
@@ -136,14 +136,22 @@ class Frames(unittest.TestCase):
         record = bytes.fromhex("000000000001 02 0001 01 01 00000000 00000000 0000000A 0000000A 00")
         self.assertEqual(
             frame(7, 2, 1, [record], 1, 1),
-            bytes.fromhex("47444F46 03 00000007 02 01 0000 0001 000000000001 0000 00000000000000 00 01") + record,
+            bytes.fromhex("47444F46 03 00000007 02 01 0000 0001 000000000001 0000 00000000000000 00 01") + record
+            + bytes.fromhex("F9E5D4D2"),
         )
+        self.assertEqual(crc32c(b"123456789"), 0xE3069283)
 
-    def test_eight_records_a_frame(self):
-        records = records_by(3, 18)
-        made = list(frames(7, 3, 1, 11, records, list(range(101, 119))))
-        self.assertEqual([each[31] for each in made], [8, 8, 2])
-        self.assertEqual([int.from_bytes(each[13:15], "big") for each in made], [18, 26, 28])
-        self.assertEqual([int.from_bytes(each[15:21], "big") for each in made], [108, 116, 118])
-        self.assertEqual(b"".join(each[32:] for each in made), b"".join(records))
+    # Of 28 bytes each there are 40 records in a frame.
+    def test_as_many_records_a_frame_as_fit(self):
+        records = [create(clock, 3, clock) for clock in range(1, 91)]
+        self.assertEqual({len(record) for record in records}, {28})
+        made = list(frames(7, 3, 1, 11, records, list(range(101, 191))))
+        self.assertEqual([each[31] for each in made], [40, 40, 10])
+        self.assertEqual([count_of(each) for each in made], [50, 90, 100])
+        self.assertEqual([int.from_bytes(each[15:21], "big") for each in made], [140, 180, 190])
+        self.assertEqual(b"".join(each[32:-4] for each in made), b"".join(records))
+        self.assertEqual([len(each) for each in made], [1_156, 1_156, 316])
+        # The longest record, and what fits behind it to the last byte or doesn't.
+        for last, counts in ((138, [2]), (139, [1, 1])):
+            self.assertEqual([each[31] for each in frames(7, 3, 1, 1, [bytes(1_006), bytes(last)], [1, 2])], counts)
         self.assertEqual(closing(7, 3, 1, 5)[13:21], b"\0\5" + b"\xff" * 6)

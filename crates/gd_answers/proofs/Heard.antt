@@ -1,5 +1,5 @@
 -- What is taken of the events of a frame, and what is said of them, by what came of each.
-use Rattle.std.proofs.Common.{◌≡◌, ◌∙◌, List, [], ◌∷◌, ◌++◌, refl, sym, ap, ap₂, append_assoc, append-nil}
+use Rattle.std.proofs.Common.{◌≡◌, ◌∙◌, List, [], ◌∷◌, ◌++◌, refl, sym, ap, ap₂}
 use Rattle.std.proofs.lemmas.Bool.{cond_both}
 use Rattle.std.specs.Prelude.{Option, Some, None, Ok, Err, ◌==◌, cond}
 use Rattle.gd_answers.specs.Arriving.{arrived_by, arrived_reply, frame_heard, heard, heard_unless, is_taken, of_outcome, replies_of, reply_list, taken_of}
@@ -14,7 +14,8 @@ use Rattle.gd_grammar.specs.FrameBytes.{Frame}
 use Rattle.gd_lines.specs.declared.reply.Reply.{Reply}
 use Rattle.gd_lines.specs.declared.reply.Reply.TheVariants.{NotTaken}
 use Rattle.gd_model.specs.Arrivals.{outcome_of}
-use Rattle.gd_reference.specs.Offers.{after_offer, all_arrived, arrived, finished, offer, refusal, take_frame, unless_refused, with_note}
+use Rattle.gd_protocol.proofs.NodeEffects.{held-taken}
+use Rattle.gd_reference.specs.Offers.{all_arrived, arrived, finished, offer, refusal, take_frame, unless_refused, with_note}
 use Rattle.gd_reference.specs.Said.{all_said, says}
 use Rattle.gd_reference.specs.SiteEffects.{echo, events_replies, frame_replies, of_frame, offer_replies, recording, taken, taken_as, unless_refused_of, unless_refused_replies, works_of}
 use Rattle.gd_reference.specs.SlowSite.{SlowSite, count, log_end}
@@ -58,18 +59,6 @@ pub replies_of-heard : (slow : SlowSite) (es : List Event) → replies_of es (he
 unfolding replies_of heard events_replies
 replies_of-heard slow [] = refl
 replies_of-heard slow (e ∷ es) = ap₂ (λ (xs ys : List Reply). xs ++ ys) (reply_by_offer slow.held e (offer slow e)) (replies_of-heard (arrived slow e) es)
-
-held_taken : (slow : SlowSite) (es : List Event) → (all_arrived slow es).held ≡ slow.held ++ taken slow es
-unfolding all_arrived taken
-held_taken slow [] = sym (append-nil slow.held)
-held_taken slow (e ∷ es) = go (offer slow e) (held_taken (arrived slow e) es)
-  where
-    go : (o : Offer) → (all_arrived (after_offer o slow e) es).held ≡ (after_offer o slow e).held ++ taken (after_offer o slow e) es
-        → (all_arrived (after_offer o slow e) es).held ≡ slow.held ++ (taken_as o e ++ taken (after_offer o slow e) es)
-    go Next h = h ∙ append_assoc slow.held (e ∷ []) (taken (after_offer Next slow e) es)
-    go Repeat h = h
-    go Gap h = h
-    go (Backdated clock sure) h = h
 
 -- ---- frames that are judged
 
@@ -145,7 +134,7 @@ module _ (slow : SlowSite) (f : Frame) where
         effects = ap (unless_refused_of slow f) none
             ∙ ap₂ (λ (es : List Event) (rs : List Reply). works_of slow f.events ++ recording (log_end slow) es ++ all_said rs) took said;
         then_is = then;
-        held_is = ap (λ (s : SlowSite). s.held) then ∙ held_finished (all_arrived slow f.events) f ∙ held_taken slow f.events ∙ ap (λ (es : List Event). slow.held ++ es) took;
+        held_is = ap (λ (s : SlowSite). s.held) then ∙ held_finished (all_arrived slow f.events) f ∙ held-taken slow f.events ∙ ap (λ (es : List Event). slow.held ++ es) took;
       }
 
   pub refuses : (why : FrameFault) → frame_heard slow f ≡ Err why → Refuses slow f why

@@ -47,6 +47,7 @@ abbrev pub wire_word : WireWhy → List ℕ
 wire_word wire.Short = codes "Short"
 wire_word wire.Magic = codes "Magic"
 wire_word wire.Version = codes "Version"
+wire_word wire.Check = codes "Check"
 wire_word wire.Field = codes "Field"
 wire_word wire.FutureId = codes "FutureId"
 wire_word wire.MemberOrder = codes "MemberOrder"

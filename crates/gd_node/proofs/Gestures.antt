@@ -3,18 +3,12 @@ use Rattle.std.proofs.Common.{◌≡◌, ℕ, zero, suc, ◌+◌, ◌≤◌, Lis
 use Rattle.std.proofs.lemmas.Grind.{flat_map-append}
 use Rattle.std.proofs.lemmas.List.{flat_map_more, length-append}
 use Rattle.std.specs.List.{flat_map}
-use Rattle.std.specs.Prelude.{Option, None, Some, Result, Ok, Err, IsErrAnd, option_map, replicate}
-use Rattle.gd_answers.proofs.Refused.{IsErrAs, edit_as}
-use Rattle.gd_answers.specs.Refusals.{refused_edit}
-use Rattle.gd_base.specs.Stamps.{Stamp}
-use Rattle.gd_base.specs.declared.refusal.EditRefusal.{EditRefusal}
+use Rattle.std.specs.Prelude.{Result, Ok, Err, IsErrAnd, replicate}
 use Rattle.gd_base.specs.declared.refusal.Refusal.{Refusal}
 use Rattle.gd_base.specs.declared.refusal.Refusal.TheVariants.{GestureFull}
 use Rattle.gd_backs.proofs.NextEvents.{with_events-append}
 use Rattle.gd_dialogue.proofs.Carrying.{carries_exit}
 use Rattle.gd_events.specs.Events.{Event}
-use Rattle.gd_lines.specs.Edits.{Edit}
-use Rattle.gd_lines.specs.Refusals.{edit_refusal}
 use Rattle.gd_lines.specs.Replies.{reply_text}
 use Rattle.gd_lines.specs.declared.reply.Reply.{Reply}
 use Rattle.gd_lines.specs.declared.reply.Reply.TheVariants as reply
@@ -28,19 +22,15 @@ use Rattle.gd_outside.specs.Seen.{SeenJournal, SeenLink, SeenSink}
 use Rattle.gd_outside.specs.declared.end.End.{End}
 use Rattle.gd_outside.specs.declared.end.End.TheVariants.{NoMemory}
 use Rattle.gd_reference.specs.Backs.{Backs, with_gesture}
-use Rattle.gd_reference.specs.Judging.{edit}
 use Rattle.gd_reference.specs.Said.{all_said}
 use Rattle.gd_reference.specs.SiteEffects.{asked_replies, asked_reply, gesture_replies, of_gesture, of_own, recording, tries_with}
 use Rattle.gd_reference.specs.SlowSite.{SlowSite, log_end}
-use Rattle.gd_reference.specs.TakeBack.{Asked, after_asked, after_gesture, answer, backs_of, events_in, made, or_refusal, with_events, with_made}
+use Rattle.gd_reference.specs.TakeBack.{Asked, after_asked, after_gesture, answer, backs_of, events_in, made, with_events, with_made}
 use Rattle.gd_site.specs.Sites.{SiteValue, StandsFor}
-use Rattle.gd_site.specs.declared.answers.EditFault.{EditFault}
-use Rattle.gd_site.specs.declared.answers.EditFault.TheVariants as fault
 use Rattle.gd_takeback.proofs.Doing.{made-more, made-none}
 use Rattle.gd_takeback.proofs.Standing.{gesture_stands}
-use Rattle.gd_takeback.specs.Answers.{OnRefusal, StampIs}
 use Rattle.gd_takeback.specs.Lists.{GestureValue}
-use Rattle.gd_takeback.specs.Making.{HasMade, Makes, Making, making}
+use Rattle.gd_takeback.specs.Making.{HasMade, Making, making}
 use Rattle.gd_takeback.specs.Standing.{StandsWith}
 
 -- ---- one after another

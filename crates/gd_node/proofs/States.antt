@@ -1,10 +1,6 @@
 -- A conversation does what the state owes for a line where its member does.
-use Rattle.std.proofs.Common.{◌≡◌, ℕ, Bool, true, false, cond, List, [], ◌∷◌, ◌++◌, length, refl, sym, ◌∙◌, ap, subst}
-use Rattle.std.proofs.lemmas.Bool.{cond_both}
-use Rattle.std.specs.List.{AllByRecursion as Every}
-use Rattle.std.specs.Prelude.{Option, None, Some, Result, Ok, Err, IfOk, OnOk, nat_le}
-use Rattle.gd_base.proofs.Lists.{Every-append}
-use Rattle.gd_base.specs.declared.refusal.Refusal.TheVariants.{GestureFull, InGesture}
+use Rattle.std.proofs.Common.{◌≡◌, ℕ, true, false, List, [], refl, sym, ◌∙◌, ap, subst}
+use Rattle.std.specs.Prelude.{Option, None, Some, Result, Ok, Err, OnOk}
 use Rattle.gd_dialogue.proofs.Carrying.{carries_nothing, on_ok_map}
 use Rattle.gd_dialogue.specs.Answering as answering
 use Rattle.gd_dialogue.specs.Owing as owing
@@ -12,42 +8,28 @@ use Rattle.gd_dialogue.specs.Owing.{at, without_entries}
 use Rattle.gd_effects.proofs.Doing.{does_as}
 use Rattle.gd_lines.specs.InRange.{IsCommand}
 use Rattle.gd_lines.specs.Lines.{read}
-use Rattle.gd_lines.specs.Refusals.{line_refusal}
 use Rattle.gd_lines.specs.declared.command.Command.{Command}
 use Rattle.gd_lines.specs.declared.command.Command.TheVariants as command
 use Rattle.gd_node.specs.Conversing.{AreAskedOf, MeetsState, ends_gesture, for_waiting, for_within, waits_behind}
-use Rattle.gd_node.specs.Gesturing.{AreAsked, for_gesture}
+use Rattle.gd_node.specs.Gesturing.{for_gesture}
 use Rattle.gd_node.specs.Owing.{Carries, Node, NodeOwed, node}
 use Rattle.gd_node.specs.declared.conversation.Conversation.{Conversation}
 use Rattle.gd_outside.specs.Seen.{Entry, SeenSink, SeenJournal, SeenLink}
 use Rattle.gd_outside.specs.Told.{told}
 use Rattle.gd_outside.specs.declared.end.End.{End}
-use Rattle.gd_protocol.specs.Sites.{IsAsk}
-use Rattle.gd_reference.specs.NodeRun.{IsRead, NodeState, ReadLine, after_line_of, most_waiting, node_manner, with_asked, with_waiting}
+use Rattle.gd_protocol.proofs.NodeJournals.{ranged-waiting}
+use Rattle.gd_reference.specs.NodeRun.{IsRead, NodeState, ReadLine, after_line_of, node_manner}
 use Rattle.gd_reference.specs.SlowSite.{SlowSite}
 use Rattle.gd_reference.specs.TakeBack.{Asked}
 
 -- ---- what waits stays in its ranges
 
-with_one : (asked : List Asked) (next : Asked) → AreAsked asked → IsAsk next → AreAsked (with_asked asked next)
-with_one asked next are is =
-    let last : Asked = cond (nat_le most_waiting (length asked)) (Err GestureFull) next in
-    let ranged = cond_both (nat_le most_waiting (length asked)) (Err GestureFull) next IsAsk (λ full. tt) (λ room. is) in
-    Every-append IsAsk asked (last ∷ []) are (ranged, tt)
-
-ranged_within : (asked : List Asked) (line : ReadLine) → IsRead line → AreAsked asked → AreAsked (with_waiting asked line)
-ranged_within asked (Ok (command.Edit wanted)) read are = with_one asked (Ok wanted) are read
-ranged_within asked (Ok command.Blank) read are = are
-ranged_within asked (Ok command.Quit) read are = are
-ranged_within asked (Ok other) read are = with_one asked (Err InGesture) are tt
-ranged_within asked (Err fault) read are = with_one asked (Err (line_refusal fault)) are tt
-
-pub ranged_after : (slow : SlowSite) (waiting : Option (List Asked)) (entries : List Entry) (line : ReadLine) → IsRead line → AreAskedOf waiting
+ranged_after : (slow : SlowSite) (waiting : Option (List Asked)) (entries : List Entry) (line : ReadLine) → IsRead line → AreAskedOf waiting
     → AreAskedOf (after_line_of slow waiting entries line).waiting
 ranged_after slow None entries (Ok command.Begin) read are = tt
 ranged_after slow None entries line read are = tt
 ranged_after slow (Some asked) entries (Ok command.End) read are = tt
-ranged_after slow (Some asked) entries line read are = ranged_within asked line read are
+ranged_after slow (Some asked) entries line read are = ranged-waiting asked line read are
 
 -- ---- the lines that wait
 

@@ -13,7 +13,7 @@ ghost use Rattle.gd_reference.specs.SlowSite.{SlowSite};
 
 use crate::journalling::{record_all_and_say, record_and_say};
 use crate::member::Member;
-use crate::sending::{send_frames, send_frames_with};
+use crate::sending::{send_frames_with, send_newest};
 use gd_answers::Said;
 use gd_events::{Event, ListedEvent};
 use gd_logs::Records;
@@ -22,8 +22,9 @@ use gd_wire::Drawings;
 use gd_words::Reply;
 use std::alloc::{AllocError, Global};
 
-/// Adds an event that the member's site has made to the log, prints it as done, and tries a frame for each other site. It takes no
-/// memory for that. `JournalFault` and `WriteFault` where a call on that object failed; no other end comes.
+/// Adds an event that the member's site has made to the log, prints it as done, and tries a frame for each other site for which it
+/// is in that frame. It takes no memory for that. `JournalFault` and `WriteFault` where a call on that object failed; no other end
+/// comes.
 pub(crate) fn announce<K: Sink, J: Journal, N: Link>(
     member: &mut Member,
     event: &Event,
@@ -38,12 +39,12 @@ pub(crate) fn announce<K: Sink, J: Journal, N: Link>(
 {
     let reply = Reply::Done { id: event.stamp() };
     record_and_say(&mut member.log, event, &reply, output, journal)?;
-    send_frames(&member.site, link);
+    send_newest(&member.site, 1, link);
     Ok(())
 }
 
 /// Adds events that the member's site has made to the log, behind one gate, prints what is said of them, and tries a frame for each
-/// other site. Where there are none it prints alone.
+/// other site for which one of them is in that frame. Where there are none it prints alone.
 ///
 /// `NoMemory` where memory ran out, and then nothing was done. `JournalFault` and `WriteFault` where a call on that object failed;
 /// no other end comes.

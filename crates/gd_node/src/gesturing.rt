@@ -43,7 +43,8 @@ pub(crate) fn wait(
 }
 
 /// Carries out the lines of a gesture, at its end: judges each edit where those before it have been made, adds all events to the log
-/// behind one gate, prints what is said of each line, and how many there were, and tries a frame for each other site.
+/// behind one gate, prints what is said of each line, and how many there were, and tries a frame for each other site for which one
+/// of them is in that frame.
 ///
 /// `NoMemory` where memory ran out, `JournalFault` and `WriteFault` where a call on that object failed; no other end comes.
 pub(crate) fn carry_out<K: Sink, J: Journal, N: Link, L: Ledger>(

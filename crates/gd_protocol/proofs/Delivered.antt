@@ -3,7 +3,7 @@ use Rattle.std.proofs.Common.{◌≡◌, ℕ, suc, zero, ◌≤◌, false, List,
 use Rattle.std.proofs.lemmas.Bool.{le-ltb}
 use Rattle.std.specs.List.{AllByRecursion as Every}
 use Rattle.gd_base.proofs.Lists.{Every-at}
-use Rattle.gd_grammar.proofs.ExactFrame.{frame-length, frame-written}
+use Rattle.gd_grammar.proofs.ExactFrame.{frame-written}
 use Rattle.gd_grammar.specs.FrameBytes.{Frame, IsFrame, frame_bytes}
 use Rattle.gd_outside.specs.Seen.{Entry}
 use Rattle.gd_reference.specs.NodeRun.{after_datagram, is_too_long, of_datagram, received}
@@ -16,7 +16,7 @@ use Rattle.gd_protocol.specs.Polls.{BringMail}
 
 -- no frame is too long
 short : (f : Frame) → IsFrame f → is_too_long (frame_bytes f) ≡ false
-short f is = le-ltb _ _ (omega (arith, frame-length f is))
+short f is = le-ltb _ _ (omega (arith, is.fits))
 
 pub taken_datagram : (slow : SlowSite) (f : Frame) → IsFrame f → after_datagram slow (frame_bytes f) ≡ take_frame slow f
 taken_datagram slow f is = rw (short f is, frame-written f is) refl

@@ -3,7 +3,7 @@
 -- each id, and computes. So the site after a gesture, an undo or a redo is defined here once more, by the drawing, with
 -- each run that has such; and each is the same.
 use Rattle.std.proofs.Common.{◌≡◌, ℕ, List, [], ◌∷◌, Result, Ok, Err, refl, sym, ap, ap₂, ◌∙◌}
-use Rattle.std.specs.Prelude.{⊤, ◌+◌, ◌++◌, ◌/◌, length, fold, Option, None, Some, unwrap_or, if◌then◌else◌}
+use Rattle.std.specs.Prelude.{⊤, ◌+◌, ◌++◌, length, fold, Option, None, Some, unwrap_or, if◌then◌else◌}
 use Rattle.gd_base.specs.Sites.{is_site}
 use Rattle.gd_base.specs.Stamps.{Stamp}
 use Rattle.gd_drawing.proofs.SoundObjects.{find-picture}
@@ -28,7 +28,7 @@ use Rattle.gd_reference.specs.NodeRun.{HeardLine, NodeState, ReadLine, after_com
 use Rattle.gd_reference.specs.SlowSite.{SlowSite}
 use Rattle.gd_reference.specs.TakeBack.{Asked, BackRefusal, after_edit, after_gesture, after_turn, backs_of, events_in, made, turn, with_events, with_made, with_turned}
 use Rattle.gd_reference.specs.World.{Line, Edits, Focuses, Names, Prints, Turns, Step, At, Deliver, Restart, Send, Unfinished, Editing, Nothing, Taking, Turning, World, after_from, after_line, after_unfinished, happens, restarted, start, with_site}
-use Rattle.gd_worlds.specs.Churn.{Churning, churned, ids_made, new_churning, rounded, step, stepped, times, with_drawn, with_idle, with_line, with_reply}
+use Rattle.gd_worlds.specs.Churn.{Churning, churned, ids_made, new_churning, rounded, rounds_to_all, step, stepped, times, with_drawn, with_idle, with_line, with_reply}
 use Rattle.gd_worlds.specs.Rehearsal.{HeardScript, ReadScript, after_script, rehearsal_effects, rehearsal_manner, script_replies, script_work, told_by}
 
 -- ---- a site
@@ -313,11 +313,12 @@ step-churned c =
     drawn-churned (record c { generator = drawn.1 }) drawn.0
 
 unfoldable pub all_churned : ℕ → ℕ → Churning
-all_churned seed steps = times (4 + steps / 8) rounded (times steps step_churned (new_churning seed))
+all_churned seed steps = rounded (rounds_to_all (4 + steps) (times steps step_churned (new_churning seed)))
 
 pub all-churned : (seed steps : ℕ) → churned seed steps ≡ all_churned seed steps
 unfolding churned all_churned
-all-churned seed steps = λ i. times (4 + steps / 8) rounded (times steps (λ c. step-churned c i) (new_churning seed))
+all-churned seed steps =
+    λ i. rounded (rounds_to_all (4 + steps) (times steps (λ c. step-churned c i) (new_churning seed)))
 
 -- ---- what computes
 

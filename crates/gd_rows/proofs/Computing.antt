@@ -7,6 +7,7 @@ use Rattle.rand_core.specs.Pcg32Seed.{pcg32_seed}
 use Rattle.rand_core.specs.Steps.{u32_at, word_bytes}
 use Rattle.gd_base.specs.Stamps.{stamp_cmp}
 use Rattle.gd_base.specs.Insertions.{inserted_by}
+use Rattle.gd_check.specs.Checks as checks
 use Rattle.gd_grammar.specs.EventBytes as bytes
 use Rattle.gd_grammar.specs.ObjectBytes as objects
 use Rattle.gd_grammar.specs.OpBytes as operations
@@ -15,7 +16,7 @@ use Rattle.gd_grammar.specs.Readers.{steps}
 use Rattle.gd_grammar.specs.Fields as fields
 use Rattle.gd_grammar.specs.Reading.{many_at}
 use Rattle.gd_grammar.specs.FieldBytes.{each_bytes}
-use Rattle.gd_grammar.specs.FrameBytes.{event_count_at, focus_at, frame, frame_at, frame_magic_at, frame_version_at, half_at, head_at, name_at, name_text_at, next_event_at, note_at, six_at}
+use Rattle.gd_grammar.specs.FrameBytes.{body_at, event_count_at, focus_at, frame, frame_at, frame_magic_at, frame_version_at, half_at, head_at, name_at, name_text_at, next_event_at, note_at, six_at}
 use Rattle.gd_grammar.specs.Kinds as kinds
 use Rattle.gd_grammar.specs.LogBytes.{events_at, gated_bytes, log, record_at, step_at, turn_fault}
 use Rattle.gd_grammar.specs.HeaderBytes.{header_at, magic_at, sites_at, version_at}
@@ -38,6 +39,7 @@ use Rattle.gd_model.specs.Board.{apply}
 use Rattle.gd_model.specs.Relations.{covers, independent}
 use Rattle.gd_model.specs.Splices.{splice}
 use Rattle.gd_reference.specs.Dialogues.{answered, end_of_lines, state_after}
+use Rattle.gd_reference.specs.Fitting.{fitting, frame_count}
 use Rattle.gd_reference.specs.InputLines.{heard, lines_of, whole_lines}
 use Rattle.gd_reference.specs.Judging.{are_apart, by_id, edit, judged, targets}
 use Rattle.gd_reference.specs.NodeRun.{node_lines, of_received, received, who_behind}
@@ -56,12 +58,12 @@ use Rattle.gd_viewing.specs.Handing.{known_behind, snapshot_of}
 use Rattle.gd_viewing.specs.SlowViewer.{opened, viewer_all_arrived, viewer_taken}
 use Rattle.gd_viewing.specs.ViewerEffects.{of_viewer_events}
 use Rattle.gd_viewing.specs.Viewing.{end_behind, item_at, items_of, shown_behind, whole_behind}
-use Rattle.gd_worlds.specs.Churn.{churned, line_for, times, with_line}
+use Rattle.gd_worlds.specs.Churn.{churned, line_for, rounds_to_all, times, with_line}
 use Rattle.gd_worlds.specs.Rehearsal.{rehearsal_lines}
 
 -- events, logs and frames
 unfoldable pub bytes_compute : ⊤
-unfolding chars is_utf8 fields.byte_at fields.byte_within fields.clock_at bytes.colour_at operations.all_ties_at operations.create_at operations.disband_at operations.restore_at operations.tie_at kinds.event_at bytes.fill_at operations.group_at bytes.label_at fields.id_at fields.label_within operations.member_at bytes.count_at bytes.member_id_at bytes.parent_id_at fields.number_at operations.look_at operations.op_at operations.place_at operations.set_at operations.size_at bytes.shape_at fields.signed_at fields.site_at fields.stamp_at bytes.width_at fields.word_at event_count_at each_bytes focus_at frame frame_at many_at steps frame_magic_at frame_version_at half_at head_at name_at name_text_at next_event_at note_at six_at events_at gated_bytes header_at log magic_at record_at sites_at step_at turn_fault version_at
+unfolding chars is_utf8 fields.byte_at fields.byte_within fields.clock_at bytes.colour_at operations.all_ties_at operations.create_at operations.disband_at operations.restore_at operations.tie_at kinds.event_at bytes.fill_at operations.group_at bytes.label_at fields.id_at fields.label_within operations.member_at bytes.count_at bytes.member_id_at bytes.parent_id_at fields.number_at operations.look_at operations.op_at operations.place_at operations.set_at operations.size_at bytes.shape_at fields.signed_at fields.site_at fields.stamp_at bytes.width_at fields.word_at checks.next checks.nexts checks.with_bytes body_at event_count_at each_bytes focus_at frame frame_at many_at steps frame_magic_at frame_version_at half_at head_at name_at name_text_at next_event_at note_at six_at events_at gated_bytes header_at log magic_at record_at sites_at step_at turn_fault version_at
 bytes_compute = tt
 
 -- lines that are typed, and lines that are printed
@@ -71,12 +73,12 @@ lines_compute = tt
 
 -- drawings, sites, worlds and runs
 unfoldable pub sites_compute : ⊤
-unfolding stamp_cmp level_cmp rank_cmp inserted_by covers independent splice are_apart by_id edit judged targets heard lines_of whole_lines answered end_of_lines state_after node_lines of_received received who_behind all_arrived frame_for offered offers refusal take_frame least_of_others put asked_replies events_replies taken works_of tries_behind greatest_clock made_by resumed found tally_from after_edit after_gesture after_turn backs_of done made turn with_events apply back after_from after_line happens with_site
+unfolding stamp_cmp level_cmp rank_cmp inserted_by covers independent splice are_apart by_id edit judged targets heard lines_of whole_lines answered end_of_lines state_after node_lines of_received received who_behind all_arrived frame_for offered offers refusal take_frame fitting frame_count least_of_others put asked_replies events_replies taken works_of tries_behind greatest_clock made_by resumed found tally_from after_edit after_gesture after_turn backs_of done made turn with_events apply back after_from after_line happens with_site
 sites_compute = tt
 
 -- rehearsals and churn
 unfoldable pub worlds_compute : ⊤
-unfolding pcg32_seed u32_at word_bytes churned_line delivered_line mail_line site_line churned line_for times with_line rehearsal_lines
+unfolding pcg32_seed u32_at word_bytes churned_line delivered_line mail_line site_line churned line_for rounds_to_all times with_line rehearsal_lines
 worlds_compute = tt
 
 -- snapshots and viewers

@@ -6,6 +6,7 @@ pub mod WorkedNodes
 pub mod WorkedBacks
 pub mod WorkedGestures
 pub mod WorkedInputs
+pub mod WorkedFrames
 pub mod WorkedRehearsals
 pub mod WorkedChurns
 pub mod WorkedRejoins

@@ -1,6 +1,6 @@
 -- Worked rows: logs of a few events, byte by byte, and what is printed of them.
 use Prim.Native.String.{String}
-use Rattle.std.specs.Prelude.{ℕ, ℤ, pos, negsuc, Bool, true, false, Option, List, [], ◌∷◌, ◌++◌, map, take, set, codes, Some, None}
+use Rattle.std.specs.Prelude.{ℕ, ℤ, pos, negsuc, Bool, true, false, Option, List, [], ◌∷◌, ◌++◌, map, replicate, take, set, codes, Some, None}
 use Rattle.gd_base.specs.Stamps.{Stamp}
 use Rattle.gd_base.specs.declared.content.Content.TheVariants.{ToPlace, ToSize, ToStroke, ToFill, ToWidth, ToText, ToFlag, ToRank}
 use Rattle.gd_base.specs.declared.content.Height.TheVariants.{To}
@@ -15,7 +15,7 @@ use Rattle.gd_base.specs.declared.fault.LogWhy.{LogWhy}
 use Rattle.gd_base.specs.declared.fault.LogWhy.TheVariants.{Short, Magic, Version, Field, FutureId, MemberOrder, NoSite, Turn, Backdated}
 use Rattle.gd_base.specs.declared.fault.WireWhy.{WireWhy}
 use Rattle.gd_base.specs.declared.fault.WireWhy.TheVariants as wire
-use Rattle.gd_grammar.specs.FrameBytes.{Frame, Misread}
+use Rattle.gd_grammar.specs.FrameBytes.{Frame, Misread, with_checksum}
 use Rattle.gd_grammar.specs.HeaderBytes.{Header}
 use Rattle.gd_grammar.specs.LogBytes.{LogMisread}
 use Rattle.gd_effects.specs.Effects.{Effect, Print, Work}
@@ -374,14 +374,22 @@ record_row =
 abbrev pub record_event : Event
 record_event = event 1 2 1 (square (pos 0))
 
--- the frame of that site for another, of which it holds nothing
-abbrev pub frame_row_to : ℕ → List ℕ
-frame_row_to to =
+-- The frame of that site for another, of which it holds nothing, without its checksum and with it. The checksums of all
+-- rows were found by a division of polynomials.
+abbrev pub body_row_to : ℕ → List ℕ
+body_row_to to =
     71 ∷ 68 ∷ 79 ∷ 70 ∷ 3 ∷ 0 ∷ 0 ∷ 0 ∷ 7 ∷ 2 ∷ to ∷ 0 ∷ 0 ∷ 0 ∷ 1 ∷ 0 ∷ 0 ∷ 0 ∷ 0 ∷ 0 ∷ 1
     ∷ 0 ∷ 0 ∷ 0 ∷ 0 ∷ 0 ∷ 0 ∷ 0 ∷ 0 ∷ 0 ∷ 0 ∷ 1 ∷ record_row
 
+abbrev pub body_row : List ℕ
+body_row = body_row_to 1
+
 abbrev pub frame_row : List ℕ
-frame_row = frame_row_to 1
+frame_row = body_row ++ 249 ∷ 229 ∷ 212 ∷ 210 ∷ []
+
+-- the same for site 3
+abbrev pub frame_row_to_third : List ℕ
+frame_row_to_third = body_row_to 3 ++ 154 ∷ 127 ∷ 193 ∷ 20 ∷ []
 
 abbrev pub frame_value : Frame
 frame_value =
@@ -395,24 +403,54 @@ frame_value =
 abbrev pub misread : WireWhy → ℕ → Misread
 misread why left = record { why = why; left = left }
 
--- The frame has 60 bytes, and its event begins at byte 32.
+-- The frame has 64 bytes: its event begins at byte 32, and its checksum at byte 60. These faults are found before the
+-- checksum, or in it.
+abbrev pub checked_faults : List (List ℕ × Misread)
+checked_faults =
+    -- not even a version
+    ([], misread wire.Short 0)
+    ∷ (take 4 frame_row, misread wire.Short 0)
+    -- another magic, and versions 1, 2 and 4
+    ∷ (set frame_row 0 0, misread wire.Magic 64)
+    ∷ (set frame_row 4 1, misread wire.Version 60)
+    ∷ (set frame_row 4 2, misread wire.Version 60)
+    ∷ (set frame_row 4 4, misread wire.Version 60)
+    -- longer than a frame may be, and so with another version
+    ∷ (frame_row ++ replicate 1137 0, misread wire.Trailing 1)
+    ∷ (set frame_row 4 2 ++ replicate 1137 0, misread wire.Version 1197)
+    -- one bit is another: of the session, of the count, of the event's clock and of its width, and of the checksum's first
+    -- and last byte
+    ∷ (set frame_row 8 6, misread wire.Check 4)
+    ∷ (set frame_row 14 3, misread wire.Check 4)
+    ∷ (set frame_row 32 128, misread wire.Check 4)
+    ∷ (set frame_row 54 11, misread wire.Check 4)
+    ∷ (set frame_row 60 248, misread wire.Check 4)
+    ∷ (set frame_row 63 82, misread wire.Check 4)
+    -- two bytes are exchanged
+    ∷ (set (set frame_row 9 1) 10 2, misread wire.Check 4)
+    -- cut, and with a byte too many
+    ∷ (take 5 frame_row, misread wire.Check 4)
+    ∷ (take 33 frame_row, misread wire.Check 4)
+    ∷ (body_row, misread wire.Check 4)
+    ∷ (frame_row ++ 0 ∷ [], misread wire.Check 4)
+    ∷ []
+
+-- These have their checksum, which stands behind the place of the fault.
 abbrev pub frame_faults : List (List ℕ × Misread)
 frame_faults =
-    (take 33 frame_row, misread wire.Short 0)
-    -- versions 1, 2 and 4, and site 17
-    ∷ (set frame_row 4 1, misread wire.Version 56)
-    ∷ (set frame_row 4 2, misread wire.Version 56)
-    ∷ (set frame_row 4 4, misread wire.Version 56)
-    ∷ (set frame_row 9 17, misread wire.Field 51)
+    (with_checksum (take 33 body_row), misread wire.Short 4)
+    -- site 17
+    ∷ (with_checksum (set body_row 9 17), misread wire.Field 55)
     -- an event of another site, above the count, and above the clock
-    ∷ (set frame_row 38 1, misread wire.Disorder 28)
-    ∷ (set frame_row 14 0, misread wire.Disorder 28)
-    ∷ (set frame_row 20 0, misread wire.Disorder 28)
+    ∷ (with_checksum (set body_row 38 1), misread wire.Disorder 32)
+    ∷ (with_checksum (set body_row 14 0), misread wire.Disorder 32)
+    ∷ (with_checksum (set body_row 20 0), misread wire.Disorder 32)
     -- the number 0, no kind, and a width of 1,000,001
-    ∷ (set frame_row 40 0, misread wire.Field 21)
-    ∷ (set frame_row 42 5, misread wire.Field 18)
-    ∷ (set (set (set frame_row 52 15) 53 66) 54 65, misread wire.Field 9)
-    -- a label that isn't there, and a byte too many
-    ∷ (set frame_row 59 1, misread wire.Short 0)
-    ∷ (frame_row ++ 0 ∷ [], misread wire.Trailing 1)
+    ∷ (with_checksum (set body_row 40 0), misread wire.Field 25)
+    ∷ (with_checksum (set body_row 42 5), misread wire.Field 22)
+    ∷ (with_checksum (set (set (set body_row 52 15) 53 66) 54 65), misread wire.Field 13)
+    -- 68 events, a label that isn't there, and a byte between the event and the checksum
+    ∷ (with_checksum (set body_row 31 68), misread wire.Field 33)
+    ∷ (with_checksum (set body_row 59 1), misread wire.Short 4)
+    ∷ (with_checksum (body_row ++ 0 ∷ []), misread wire.Trailing 5)
     ∷ []

@@ -148,19 +148,19 @@ four_lines status =
 abbrev pub seven_lines : String → String → String → List (List ℕ)
 seven_lines status edits arrivals = four_lines status ++ with_lf edits ∷ with_lf arrivals ∷ with_lf "same yes" ∷ []
 
--- nothing but rounds: four of them
+-- nothing but one round, since all hold all from the beginning
 abbrev pub nothing_printed : List (List ℕ)
 nothing_printed =
     seven_lines
     "held 0 kept 0 line 0 clock 0"
-    "edits 0 refused 0 sent 48 delivered 48 idle 0"
+    "edits 0 refused 0 sent 12 delivered 12 idle 0"
     "arrivals applied 0 dropped 0 reworked 0 undone 0"
 
--- All but the redo, and four rounds: five steps, and then those of the first round, in which the sites 2 and 4 have
--- events for the others. First site 2 sends its delete and its restore: to the sites 1 and 3, which hold nothing, and
--- to site 4, where the delete comes before the raise, which is redone. Then site 4 sends its rect and its raise to
--- the sites 1 and 3, and the raise alone to site 2, which has acknowledged the rect. The delete covers the rect, and
--- the restore behind the raise is redone.
+-- All but the redo, and two rounds: five steps, and then those of the first round, in which the sites 2 and 4 have
+-- events for the others, and behind which all hold all. First site 2 sends its delete and its restore: to the sites 1
+-- and 3, which hold nothing, and to site 4, where the delete comes before the raise, which is redone. Then site 4 sends
+-- its rect and its raise to the sites 1 and 3, and the raise alone to site 2, which has acknowledged the rect. The
+-- delete covers the rect, and the restore behind the raise is redone.
 abbrev pub seven_works : List ℕ
 seven_works = replicate 5 1 ++ 1 ∷ 1 ∷ 1 ∷ 1 ∷ 3 ∷ 1 ∷ 0 ∷ 3 ∷ 3 ∷ 0 ∷ 3 ∷ []
 
@@ -168,10 +168,10 @@ abbrev pub seven_printed : List (List ℕ)
 seven_printed =
     seven_lines
     "held 4 kept 0 line 3 clock 3"
-    "edits 4 refused 1 sent 49 delivered 49 idle 0"
+    "edits 4 refused 1 sent 25 delivered 25 idle 0"
     "arrivals applied 6 dropped 2 reworked 4 undone 4"
 
--- With the redo, and one round more. Site 2 sends a second delete too. Behind the raise the restore and that delete
+-- With the redo. Site 2 sends a second delete too. Behind the raise the restore and that delete
 -- are redone: the first of these doesn't cover the raise.
 abbrev pub eight_works : List ℕ
 eight_works = replicate 6 1 ++ 1 ∷ 1 ∷ 1 ∷ 1 ∷ 1 ∷ 1 ∷ 3 ∷ 1 ∷ 1 ∷ 0 ∷ 5 ∷ 5 ∷ 0 ∷ 5 ∷ []
@@ -180,7 +180,7 @@ abbrev pub eight_printed : List (List ℕ)
 eight_printed =
     seven_lines
     "held 5 kept 0 line 4 clock 4"
-    "edits 5 refused 1 sent 61 delivered 61 idle 0"
+    "edits 5 refused 1 sent 25 delivered 25 idle 0"
     "arrivals applied 9 dropped 2 reworked 4 undone 7"
 
 -- ---- counts

@@ -46,11 +46,11 @@ abbrev pub move_row : ℕ → ℕ → ℕ → List ℕ
 move_row k x y =
     0 ∷ 0 ∷ 0 ∷ 0 ∷ 0 ∷ k ∷ 1 ∷ 0 ∷ k ∷ 3 ∷ 0 ∷ 0 ∷ 0 ∷ 0 ∷ 0 ∷ 1 ∷ 1 ∷ 0 ∷ 0 ∷ 0 ∷ x ∷ 0 ∷ 0 ∷ 0 ∷ y ∷ []
 
--- the frame for site 2 with so many own events
-abbrev pub own_frame : ℕ → List ℕ → List ℕ
-own_frame k rows =
+-- the frame for site 2 with so many own events, and with that checksum
+abbrev pub own_frame : ℕ → List ℕ → List ℕ → List ℕ
+own_frame k rows checksum =
     71 ∷ 68 ∷ 79 ∷ 70 ∷ 3 ∷ 0 ∷ 0 ∷ 0 ∷ 7 ∷ 1 ∷ 2 ∷ 0 ∷ 0 ∷ 0 ∷ k ∷ 0 ∷ 0 ∷ 0 ∷ 0 ∷ 0 ∷ k
-    ∷ 0 ∷ 0 ∷ 0 ∷ 0 ∷ 0 ∷ 0 ∷ 0 ∷ 0 ∷ 0 ∷ 0 ∷ k ∷ rows
+    ∷ 0 ∷ 0 ∷ 0 ∷ 0 ∷ 0 ∷ 0 ∷ 0 ∷ 0 ∷ 0 ∷ 0 ∷ k ∷ rows ++ checksum
 
 abbrev pub move_event : Event
 move_event = event 2 1 2 (place_of 1 1 50 60)
@@ -62,7 +62,7 @@ gesture_effects =
     ++ Work 1 ∷ Work 1
     ∷ Record 11 (first_rect ∷ move_event ∷ [])
     ∷ Print (codes "ok 1.1\n") ∷ Print (codes "refused: NotGroup\n") ∷ Print (codes "ok 2.1\n") ∷ Print (codes "end 3\n")
-    ∷ Try 2 (own_frame 2 (create_row ++ move_row 2 50 60))
+    ∷ Try 2 (own_frame 2 (create_row ++ move_row 2 50 60) (58 ∷ 139 ∷ 92 ∷ 206 ∷ []))
     ∷ []
 
 -- the header, both events behind an open gate each, and a closed gate
@@ -98,12 +98,14 @@ turned_effects =
     ++ Work 1 ∷ Work 1
     ∷ Record 66 undone
     ∷ Print (codes "ok 3.1\n") ∷ Print (codes "ok 4.1\n") ∷ Print (codes "end 2\n")
-    ∷ Try 2 (own_frame 4 (create_row ++ move_row 2 50 60 ++ move_row 3 0 0 ++ delete_row))
+    ∷ Try 2 (own_frame 4 (create_row ++ move_row 2 50 60 ++ move_row 3 0 0 ++ delete_row) (83 ∷ 245 ∷ 124 ∷ 22 ∷ []))
     ∷ Print (codes "refused: NothingBack\n")
     ∷ Work 1 ∷ Work 1
     ∷ Record 110 redone
     ∷ Print (codes "ok 5.1\n") ∷ Print (codes "ok 6.1\n") ∷ Print (codes "end 2\n")
-    ∷ Try 2 (own_frame 6 (create_row ++ move_row 2 50 60 ++ move_row 3 0 0 ++ delete_row ++ restore_row ++ move_row 6 50 60))
+    ∷ Try 2
+    (own_frame 6 (create_row ++ move_row 2 50 60 ++ move_row 3 0 0 ++ delete_row ++ restore_row ++ move_row 6 50 60)
+    (84 ∷ 173 ∷ 248 ∷ 37 ∷ []))
     ∷ Print (codes "refused: NothingBack\n")
     ∷ []
 
@@ -202,7 +204,7 @@ other_move_row =
 abbrev pub pair_row : List ℕ
 pair_row =
     71 ∷ 68 ∷ 79 ∷ 70 ∷ 3 ∷ 0 ∷ 0 ∷ 0 ∷ 7 ∷ 2 ∷ 1 ∷ 0 ∷ 0 ∷ 0 ∷ 2 ∷ 0 ∷ 0 ∷ 0 ∷ 0 ∷ 0 ∷ 2
-    ∷ 0 ∷ 0 ∷ 0 ∷ 0 ∷ 0 ∷ 0 ∷ 0 ∷ 0 ∷ 0 ∷ 0 ∷ 2 ∷ record_row ++ other_move_row
+    ∷ 0 ∷ 0 ∷ 0 ∷ 0 ∷ 0 ∷ 0 ∷ 0 ∷ 0 ∷ 0 ∷ 0 ∷ 2 ∷ record_row ++ other_move_row ++ 1 ∷ 84 ∷ 33 ∷ 183 ∷ []
 
 abbrev pub pair_entries : List Entry
 pair_entries = Packet pair_row ∷ []
@@ -211,7 +213,7 @@ pair_entries = Packet pair_row ∷ []
 abbrev pub pair_answer : List ℕ
 pair_answer =
     71 ∷ 68 ∷ 79 ∷ 70 ∷ 3 ∷ 0 ∷ 0 ∷ 0 ∷ 7 ∷ 1 ∷ 2 ∷ 0 ∷ 2 ∷ 0 ∷ 0 ∷ 0 ∷ 0 ∷ 0 ∷ 0 ∷ 0 ∷ 2
-    ∷ 0 ∷ 0 ∷ 0 ∷ 0 ∷ 0 ∷ 0 ∷ 0 ∷ 0 ∷ 0 ∷ 0 ∷ 0 ∷ []
+    ∷ 0 ∷ 0 ∷ 0 ∷ 0 ∷ 0 ∷ 0 ∷ 0 ∷ 0 ∷ 0 ∷ 0 ∷ 0 ∷ 210 ∷ 186 ∷ 176 ∷ 103 ∷ []
 
 -- the steps of both come first, then one record, and then the echoes
 abbrev pub pair_effects : List Effect

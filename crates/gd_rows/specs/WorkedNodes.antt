@@ -1,5 +1,5 @@
 -- Worked rows of nodes: what is typed and received, and what the node does.
-use Rattle.std.specs.Prelude.{ℕ, pos, true, List, [], ◌∷◌, ◌++◌, map, replicate, codes, Some, Ok, Err}
+use Rattle.std.specs.Prelude.{ℕ, pos, true, List, [], ◌∷◌, ◌++◌, map, replicate, set, codes, Some, Ok, Err}
 use Rattle.std.specs.List.{concat}
 use Rattle.gd_base.specs.declared.content.Content.TheVariants.{ToFlag}
 use Rattle.gd_base.specs.declared.op.Op.TheVariants as op
@@ -7,7 +7,7 @@ use Rattle.gd_base.specs.declared.refusal.LineFault.TheVariants.{UnknownCommand}
 use Rattle.gd_base.specs.declared.shape.Shape.TheVariants.{Rect}
 use Rattle.gd_effects.specs.Effects.{Effect, Head, Print, Record, Try, Work}
 use Rattle.gd_events.specs.Events.{Event}
-use Rattle.gd_grammar.specs.FrameBytes.{frame_bytes}
+use Rattle.gd_grammar.specs.FrameBytes.{frame_bytes, with_checksum}
 use Rattle.gd_lines.specs.declared.command.Command.{Command}
 use Rattle.gd_lines.specs.declared.command.Command.TheVariants as command
 use Rattle.gd_lines.specs.declared.command.Turn.TheVariants.{Undo, Redo}
@@ -15,7 +15,7 @@ use Rattle.gd_model.specs.Objects.{new_shape}
 use Rattle.gd_outside.specs.Seen.{Entry, Packet, Pause, Failure}
 use Rattle.gd_reference.specs.InputLines.{Read}
 use Rattle.gd_reference.specs.NodeRun.{HeardLine, node_effects}
-use Rattle.gd_rows.specs.Worked.{at_stamp, event, frame_row, frame_row_to, header_three_bytes, record_event, record_row}
+use Rattle.gd_rows.specs.Worked.{at_stamp, body_row, event, frame_row, frame_row_to_third, header_three_bytes, record_event, record_row}
 use Rattle.gd_rows.specs.WorkedWorlds.{new_rect, ahead_move, ahead_first, ahead_gap, ahead_rest, frame_of, sure_frame, sure_late_frame}
 
 -- lines that ask for these
@@ -33,7 +33,7 @@ created_effects =
     Head second_header
     ∷ Print (codes "ready 2 of 3\n")
     ∷ Work 1 ∷ Record 11 (record_event ∷ []) ∷ Print (codes "ok 1.2\n")
-    ∷ Try 1 (frame_row_to 1) ∷ Try 3 (frame_row_to 3)
+    ∷ Try 1 frame_row ∷ Try 3 frame_row_to_third
     ∷ []
 
 -- a record that deletes the rect
@@ -43,11 +43,11 @@ delete_row = 0 ∷ 0 ∷ 0 ∷ 0 ∷ 0 ∷ 2 ∷ 2 ∷ 0 ∷ 2 ∷ 2 ∷ 0 ∷ 0
 abbrev pub delete_event : Event
 delete_event = event 2 2 2 (op.Delete (at_stamp 1 2))
 
--- the frame with both events
-abbrev pub undone_row_to : ℕ → List ℕ
-undone_row_to to =
+-- the frame with both events, which ends in that checksum
+abbrev pub undone_row_to : ℕ → List ℕ → List ℕ
+undone_row_to to checksum =
     71 ∷ 68 ∷ 79 ∷ 70 ∷ 3 ∷ 0 ∷ 0 ∷ 0 ∷ 7 ∷ 2 ∷ to ∷ 0 ∷ 0 ∷ 0 ∷ 2 ∷ 0 ∷ 0 ∷ 0 ∷ 0 ∷ 0 ∷ 2
-    ∷ 0 ∷ 0 ∷ 0 ∷ 0 ∷ 0 ∷ 0 ∷ 0 ∷ 0 ∷ 0 ∷ 0 ∷ 2 ∷ record_row ++ delete_row
+    ∷ 0 ∷ 0 ∷ 0 ∷ 0 ∷ 0 ∷ 0 ∷ 0 ∷ 0 ∷ 0 ∷ 0 ∷ 2 ∷ record_row ++ delete_row ++ checksum
 
 -- a record that puts the rect back as it was: black, not filled, of width 1, without a label, in no group, not
 -- dissolved, at the rank high 1.2; and no ties
@@ -62,10 +62,10 @@ restore_event =
     event 3 2 3 (op.Restore (at_stamp 1 2) (new_shape (at_stamp 1 2) Rect (pos 0) (pos 0) (pos 10) (pos 10) []) [])
 
 -- the frame with all three
-abbrev pub redone_row_to : ℕ → List ℕ
-redone_row_to to =
+abbrev pub redone_row_to : ℕ → List ℕ → List ℕ
+redone_row_to to checksum =
     71 ∷ 68 ∷ 79 ∷ 70 ∷ 3 ∷ 0 ∷ 0 ∷ 0 ∷ 7 ∷ 2 ∷ to ∷ 0 ∷ 0 ∷ 0 ∷ 3 ∷ 0 ∷ 0 ∷ 0 ∷ 0 ∷ 0 ∷ 3
-    ∷ 0 ∷ 0 ∷ 0 ∷ 0 ∷ 0 ∷ 0 ∷ 0 ∷ 0 ∷ 0 ∷ 0 ∷ 3 ∷ record_row ++ delete_row ++ restore_row
+    ∷ 0 ∷ 0 ∷ 0 ∷ 0 ∷ 0 ∷ 0 ∷ 0 ∷ 0 ∷ 0 ∷ 0 ∷ 3 ∷ record_row ++ delete_row ++ restore_row ++ checksum
 
 -- The edit, two undos and two redos. The first undo is an event like any other, behind the 29 bytes of the edit's
 -- gate and record, and so is the first redo, behind the 18 bytes of the undo's. The second ones are refused.
@@ -83,10 +83,10 @@ abbrev pub turned_effects : List Effect
 turned_effects =
     created_effects
     ++ Work 1 ∷ Record 40 (delete_event ∷ []) ∷ Print (codes "ok 2.2\n") ∷ Print (codes "end 1\n")
-    ∷ Try 1 (undone_row_to 1) ∷ Try 3 (undone_row_to 3)
+    ∷ Try 1 (undone_row_to 1 (227 ∷ 29 ∷ 246 ∷ 30 ∷ [])) ∷ Try 3 (undone_row_to 3 (91 ∷ 109 ∷ 148 ∷ 224 ∷ []))
     ∷ Print (codes "refused: NothingBack\n")
     ∷ Work 1 ∷ Record 58 (restore_event ∷ []) ∷ Print (codes "ok 3.2\n") ∷ Print (codes "end 1\n")
-    ∷ Try 1 (redone_row_to 1) ∷ Try 3 (redone_row_to 3)
+    ∷ Try 1 (redone_row_to 1 (85 ∷ 235 ∷ 37 ∷ 9 ∷ [])) ∷ Try 3 (redone_row_to 3 (58 ∷ 214 ∷ 194 ∷ 9 ∷ []))
     ∷ Print (codes "refused: NothingBack\n")
     ∷ []
 
@@ -99,9 +99,9 @@ turned_journal = second_header ++ 195 ∷ record_row ++ 195 ∷ delete_row ++ 19
 abbrev pub alone : List Entry → List HeardLine → List Effect
 alone entries lines = node_effects 1 1 7 entries lines
 
--- 65 datagrams of no byte, a pause, and one more
+-- 257 datagrams of no byte, a pause, and one more
 abbrev pub full_entries : List Entry
-full_entries = replicate 65 (Packet []) ++ Pause ∷ Packet [] ∷ []
+full_entries = replicate 257 (Packet []) ++ Pause ∷ Packet [] ∷ []
 
 abbrev pub short_frames : ℕ → List ℕ
 short_frames n = concat (replicate n (codes "frame refused: Short at 0\n"))
@@ -109,8 +109,8 @@ short_frames n = concat (replicate n (codes "frame refused: Short at 0\n"))
 abbrev pub full_printed : List ℕ
 full_printed =
     codes "ready 1 of 1\n"
-    ++ short_frames 64
-    ++ codes "polled 64\n"
+    ++ short_frames 256
+    ++ codes "polled 256\n"
     ++ short_frames 1
     ++ codes "polled 1\n"
     ++ short_frames 1
@@ -133,7 +133,7 @@ repeat_entries = Packet frame_row ∷ Packet frame_row ∷ Packet frame_row ∷ 
 abbrev pub answer_row : List ℕ
 answer_row =
     71 ∷ 68 ∷ 79 ∷ 70 ∷ 3 ∷ 0 ∷ 0 ∷ 0 ∷ 7 ∷ 1 ∷ 2 ∷ 0 ∷ 1 ∷ 0 ∷ 0 ∷ 0 ∷ 0 ∷ 0 ∷ 0 ∷ 0 ∷ 1
-    ∷ 0 ∷ 0 ∷ 0 ∷ 0 ∷ 0 ∷ 0 ∷ 0 ∷ 0 ∷ 0 ∷ 0 ∷ 0 ∷ []
+    ∷ 0 ∷ 0 ∷ 0 ∷ 0 ∷ 0 ∷ 0 ∷ 0 ∷ 0 ∷ 0 ∷ 0 ∷ 0 ∷ 69 ∷ 222 ∷ 230 ∷ 109 ∷ []
 
 abbrev pub repeat_effects : List Effect
 repeat_effects =
@@ -183,17 +183,19 @@ abbrev pub failing_printed : List ℕ
 failing_printed =
     codes "ready 1 of 2\necho 1.2 applied create rect 0 0 10 10\nlink fault after 2\necho 2.2 applied move 1.2 1 1\npolled 1\n"
 
--- what is no frame: no byte, another session, and one byte too many
+-- what isn't taken: no byte, another session, one byte too many, and one bit that is another
 abbrev pub refused_entries : List Entry
 refused_entries =
     Packet []
     ∷ Packet (frame_bytes (record ahead_first { head = record ahead_first.head { session = 8 } }))
-    ∷ Packet (frame_row ++ 0 ∷ [])
+    ∷ Packet (with_checksum (body_row ++ 0 ∷ []))
+    ∷ Packet (set frame_row 54 11)
     ∷ []
 
 abbrev pub refused_printed : List ℕ
 refused_printed =
-    codes "ready 1 of 2\nframe refused: Short at 0\nframe refused: Session\nframe refused: Trailing at 60\npolled 3\nend 0\n"
+    codes "ready 1 of 2\nframe refused: Short at 0\nframe refused: Session\nframe refused: Trailing at 60\n"
+    ++ codes "frame refused: Check at 60\npolled 4\nend 0\n"
 
 abbrev pub noting_lines : List HeardLine
 noting_lines =

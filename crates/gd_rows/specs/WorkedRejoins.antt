@@ -124,7 +124,7 @@ ellipse_row =
 abbrev pub edit_frame : List ℕ
 edit_frame =
     71 ∷ 68 ∷ 79 ∷ 70 ∷ 3 ∷ 0 ∷ 0 ∷ 0 ∷ 7 ∷ 1 ∷ 2 ∷ 0 ∷ 1 ∷ 0 ∷ 2 ∷ 0 ∷ 0 ∷ 0 ∷ 0 ∷ 0 ∷ 2
-    ∷ 0 ∷ 0 ∷ 0 ∷ 0 ∷ 0 ∷ 0 ∷ 0 ∷ 0 ∷ 0 ∷ 0 ∷ 2 ∷ ellipse_row ++ edit_row
+    ∷ 0 ∷ 0 ∷ 0 ∷ 0 ∷ 0 ∷ 0 ∷ 0 ∷ 0 ∷ 0 ∷ 0 ∷ 2 ∷ ellipse_row ++ edit_row ++ 108 ∷ 228 ∷ 99 ∷ 55 ∷ []
 
 abbrev pub edit_effects : List Effect
 edit_effects =

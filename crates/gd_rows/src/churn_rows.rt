@@ -5,7 +5,7 @@ ghost use Rattle.std.specs.Prelude.{◌≡◌, ◌++◌, ◌∷◌, [], Some, fa
 ghost use Rattle.gd_effects.specs.Effects.{Print, Work};
 ghost use Rattle.gd_reference.specs.Said.{all_said};
 ghost use Rattle.gd_reference.specs.World.{start};
-ghost use Rattle.gd_worlds.specs.Churn.{churn_effects, churned, ids_made, is_same, new_churning, no_counts, stepped, summary, times, with_reply};
+ghost use Rattle.gd_worlds.specs.Churn.{churn_effects, churned, ids_made, is_same, new_churning, no_counts, rounds_to_all, stepped, summary, times, with_reply};
 ghost use Rattle.gd_rows.specs.WorkedRehearsals.{empty_frame};
 ghost use Rattle.gd_rows.specs.WorkedChurns.{counted_replies, counts, counts_printed, drawn_by, drawn_table, eight_lines, eight_printed, eight_works, group_lines, group_made, idle_table, lines_drawn, making, nothing_printed, numbers, one_gone, one_made, seeded, sends, sent_to, seven_printed, seven_works, three_made, words};
 
@@ -30,8 +30,9 @@ pub fn steps_are_drawn()
     ensures made { (times 8 stepped (new_churning 2642265044)).made ≡ group_made }
 {}
 
-/// No step: four rounds of mail that says nothing, among the sites of session 1.
+/// No step: all hold all at once, and one round of mail that says nothing comes, among the sites of session 1.
 pub fn nothing_is_churned()
+    ensures none { rounds_to_all 4 (new_churning 1) ≡ new_churning 1 }
     ensures effects { churn_effects 1 0 ≡ map Print nothing_printed }
     ensures mail { slice_get (churned 1 0).world.mail 0 ≡ Some empty_frame }
 {}
@@ -41,7 +42,7 @@ pub fn seven_steps()
     ensures { churn_effects 181960431 7 ≡ map Work seven_works ++ map Print seven_printed }
 {}
 
-/// And deletes it again. The eighth step brings one round more.
+/// And deletes it again.
 pub fn eight_steps()
     ensures { churn_effects 181960431 8 ≡ map Work eight_works ++ map Print eight_printed }
 {}

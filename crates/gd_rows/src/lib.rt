@@ -5,6 +5,7 @@ pub mod back_rows;
 pub mod churn_rows;
 pub mod edit_rows;
 pub mod exit_rows;
+pub mod frame_rows;
 pub mod gesture_rows;
 pub mod input_rows;
 pub mod line_rows;

@@ -58,7 +58,7 @@ pub fn an_undo_and_a_redo()
     ensures journal { journal_after [] turned_effects ≡ turned_journal }
 {}
 
-/// A poll takes 64 datagrams at most, and ends behind a pause, which is no datagram.
+/// A poll takes 256 datagrams at most, and ends behind a pause, which is no datagram.
 pub fn a_poll_comes_to_its_end()
     ensures { printed (alone full_entries (asked (replicate 4 command.Poll))) ≡ full_printed }
 {}

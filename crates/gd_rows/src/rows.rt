@@ -19,7 +19,7 @@ ghost use Rattle.gd_json.specs.Worked.{tie_picture_json, tie_events_json};
 ghost use Rattle.gd_asked.specs.declared.command.Command.TheVariants.{Churn, Rehearse};
 ghost use Rattle.gd_options.specs.declared.format.Format.TheVariants.{Json, Events};
 ghost use Rattle.gd_lines.specs.Replies.{usage_line};
-ghost use Rattle.gd_rows.specs.Worked.{header, header_two, header_bytes, empty_log, tie_log, tie_events, tie_text, rank_events, ellipse_lowered, rank_text, effect_before_cause, end_alone, replay, replays, counted, tie_counts, prints_of, works_of, cut_text, moved_log, moved_events, moved_text, styled_log, styled_events, styled_text, grouped_log, grouped_events, regrouped_events, regrouped_text, nested_events, nested_text, frame_row, frame_value, at_stamp, moves_held, late_move, late_delete, tied_held, late_group, undone_by_the_group, log_faults, lowered_log, lowered_events, frame_faults, last_move};
+ghost use Rattle.gd_rows.specs.Worked.{header, header_two, header_bytes, empty_log, tie_log, tie_events, tie_text, rank_events, ellipse_lowered, rank_text, effect_before_cause, end_alone, replay, replays, counted, tie_counts, prints_of, works_of, cut_text, moved_log, moved_events, moved_text, styled_log, styled_events, styled_text, grouped_log, grouped_events, regrouped_events, regrouped_text, nested_events, nested_text, checked_faults, frame_row, frame_value, at_stamp, moves_held, late_move, late_delete, tied_held, late_group, undone_by_the_group, log_faults, lowered_log, lowered_events, frame_faults, last_move};
 ghost use Rattle.gd_rows.specs.WorkedChurns.{nothing_printed};
 
 /// A log without events prints no object, with its closed gate and without.
@@ -170,7 +170,9 @@ pub fn a_frame_is_read_and_written()
     ensures written { frame_bytes frame_value ≡ frame_row }
 {}
 
-/// The first fault of bytes that are no frame, with its place as the number of bytes that stand from it on.
+/// The first fault of bytes that are no frame, with its place as the number of bytes that stand from it on: up to the
+/// checksum, and where that is right.
 pub fn a_fault_of_a_frame_has_its_place()
-    ensures { AllByRecursion (λ r. frame r.0 ≡ Err r.1) frame_faults }
+    ensures checked { AllByRecursion (λ r. frame r.0 ≡ Err r.1) checked_faults }
+    ensures read { AllByRecursion (λ r. frame r.0 ≡ Err r.1) frame_faults }
 {}

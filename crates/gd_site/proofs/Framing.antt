@@ -1,46 +1,64 @@
--- The frame that a site makes is the reference site's.
-use Rattle.std.proofs.Common.{◌≡◌, ℕ, List, take, drop, length, sym, ap, ◌∙◌, subst}
+-- The frame that a site writes is the reference site's.
+use Rattle.std.proofs.Common.{◌≡◌, ℕ, ◌+◌, List, length, sym, ap, ap₂, ◌∙◌, subst}
 use Rattle.gd_aware.specs.Notes.{note_of}
 use Rattle.gd_base.specs.declared.note.Note.{Note}
 use Rattle.gd_events.specs.Events.{Event}
-use Rattle.gd_grammar.specs.FrameBytes.{Frame, IsFrame, most_frame_events}
-use Rattle.gd_reference.specs.Offers.{frame_for}
+use Rattle.gd_grammar.specs.FrameBytes.{Frame, IsFrame, frame_bytes}
+use Rattle.gd_reference.specs.Fitting.{in_a_frame}
+use Rattle.gd_reference.specs.Offers.{brought, frame_for, unacked}
 use Rattle.gd_reference.specs.SlowSite.{SlowSite, own, least_acked}
 use Rattle.gd_protocol.proofs.Least.{least_of_others-top, least_of_others-at}
 use Rattle.gd_base.proofs.SiteLemmas.{is_site-bounds}
 use Rattle.gd_protocol.proofs.SiteFrames.{well_frame}
 use Rattle.gd_stable.specs.Peers.{IsOther, of_site}
 use Rattle.gd_stable.specs.Outboxes.{first_above}
+use Rattle.gd_wire.specs.Frames.{FrameEventsValue, spelled_events}
 use Rattle.gd_site.specs.Sites.{SiteValue, IsOtherOf, StandsFor}
 use Rattle.gd_site.proofs.Noting.{own_note_is}
 use Rattle.gd_site.proofs.Numbered.{numbered-drop}
 use Rattle.gd_site.proofs.Stands.{other_of}
 
+abbrev framed : SiteValue → ℕ → ℕ → ℕ → Note → List Event → Frame
+framed s to me ack note events =
+    record {
+      head = record { session = s.session; from = me; to = to; ack = ack; count = s.made; clock = s.clock };
+      note = note;
+      events = events;
+    }
+
 abbrev pub frame_of : SiteValue → ℕ → Frame
 frame_of s to =
-    record {
-      head = record { session = s.session; from = s.peers.me; to = to; ack = of_site s.peers.counts to; count = s.made; clock = s.clock };
-      note = note_of s.notes s.peers.me;
-      events = first_above (of_site s.peers.acks to) s.outbox.events;
-    }
+    framed s to s.peers.me (of_site s.peers.counts to) (note_of s.notes s.peers.me)
+    (first_above (of_site s.peers.acks to) s.outbox.events)
 
 module _ (slow : SlowSite) (s : SiteValue) (stands : StandsFor slow s) (to : ℕ) (other : IsOther s.peers to) where
   there : IsOtherOf slow to
   there = other_of slow s stands to other
 
-  events_are : first_above (of_site s.peers.acks to) s.outbox.events ≡ take most_frame_events (drop (slow.acked to) (own slow))
+  events_are : first_above (of_site s.peers.acks to) s.outbox.events ≡ in_a_frame (unacked slow to)
   events_are =
       let bounds = is_site-bounds slow.sites to there.0 in
-      ap (λ (k : ℕ). first_above k s.outbox.events) (stands.acks to there) ∙ ap (first_above (slow.acked to)) stands.outbox_is
-      ∙ ap (take most_frame_events)
-      (numbered-drop slow.me (own slow) (least_acked slow) (slow.acked to) (stands.well.chains slow.me)
-      (least_of_others-at slow.acked slow.me (length (own slow)) slow.sites to bounds.0 bounds.1 there.1) (least_of_others-top slow.acked slow.me (length (own slow)) slow.sites))
+      let made = length (own slow) in
+      let least = least_of_others-at slow.acked slow.me made slow.sites to bounds.0 bounds.1 there.1 in
+      let few = least_of_others-top slow.acked slow.me made slow.sites in
+      ap (λ (k : ℕ). first_above k s.outbox.events) (stands.acks to there)
+      ∙ ap (first_above (slow.acked to)) stands.outbox_is
+      ∙ ap (λ (l : List Event). in_a_frame l)
+      (numbered-drop slow.me (own slow) (least_acked slow) (slow.acked to) (stands.well.chains slow.me) least few)
 
   pub frame_is : frame_of s to ≡ frame_for slow to
   unfolding frame_for
   frame_is = λ i.
       record {
-        head = record { session = stands.session i; from = stands.me i; to = to; ack = stands.counts to there i; count = stands.made i; clock = stands.clock_is i };
+        head =
+            record {
+              session = stands.session i;
+              from = stands.me i;
+              to = to;
+              ack = stands.counts to there i;
+              count = stands.made i;
+              clock = stands.clock_is i;
+            };
         note = own_note_is slow s stands i;
         events = events_are i;
       }
@@ -48,11 +66,36 @@ module _ (slow : SlowSite) (s : SiteValue) (stands : StandsFor slow s) (to : ℕ
   pub frame_good : IsFrame (frame_of s to)
   frame_good = subst IsFrame (sym frame_is) (well_frame slow to there.0 stands.well)
 
--- what the calls of `frame_for` give
-pub frame_from : (s : SiteValue) (to me ack : ℕ) (note : Note) (acked : ℕ) (events : List Event) → me ≡ s.peers.me → ack ≡ of_site s.peers.counts to → note ≡ note_of s.notes me → acked ≡ of_site s.peers.acks to
-    → events ≡ first_above acked s.outbox.events
-    → record { head = record { session = s.session; from = me; to = to; ack = ack; count = s.made; clock = s.clock }; note = note; events = events } ≡ frame_of s to
-frame_from s to me ack note acked events me_is ack_is note_is acked_is events_are =
-    let note_there = note_is ∙ ap (note_of s.notes) me_is in
-    let events_there = events_are ∙ ap (λ (k : ℕ). first_above k s.outbox.events) acked_is in
-    λ i. record { head = record { session = s.session; from = me_is i; to = to; ack = ack_is i; count = s.made; clock = s.clock }; note = note_there i; events = events_there i }
+-- what the calls of `write_frame` give
+pub record Framed (s : SiteValue) (to me ack : ℕ) (note : Note) (acked : ℕ) (events : FrameEventsValue) : Type 0 where
+  pub me_is : me ≡ s.peers.me
+  pub ack_is : ack ≡ of_site s.peers.counts to
+  pub note_is : note ≡ note_of s.notes me
+  pub acked_is : acked ≡ of_site s.peers.acks to
+  pub events_are : events ≡ spelled_events (first_above acked s.outbox.events)
+
+module _ (s : SiteValue) (to me ack : ℕ) (note : Note) (acked : ℕ) (events : FrameEventsValue)
+    (f : Framed s to me ack note acked events)
+    (slow : SlowSite) (stands : StandsFor slow s) (other : IsOther s.peers to) where
+  abbrev wanted : List Event
+  wanted = first_above acked s.outbox.events
+
+  framed_is : framed s to me ack note wanted ≡ frame_for slow to
+  framed_is =
+      let note_there = f.note_is ∙ ap (note_of s.notes) f.me_is in
+      let same : framed s to me ack note wanted ≡ frame_of s to =
+      λ i. framed s to (f.me_is i) (f.ack_is i) (note_there i) (first_above (f.acked_is i) s.outbox.events) in
+      same ∙ frame_is slow s stands to other
+
+  -- so these are its bytes
+  pub framed_bytes : (bytes : List ℕ)
+      → ((es : List Event) → events ≡ spelled_events es → bytes ≡ frame_bytes (framed s to me ack note es))
+      → bytes ≡ frame_bytes (frame_for slow to)
+  framed_bytes bytes are = are wanted f.events_are ∙ ap frame_bytes framed_is
+
+  -- and the other site has so many own events then
+  pub framed_brought : acked + events.count ≡ brought slow to
+  framed_brought =
+      let counted = ap (λ (v : FrameEventsValue). v.count) f.events_are in
+      let count_is = counted ∙ ap (λ (g : Frame). length g.events) framed_is in
+      ap₂ (λ (m n : ℕ). m + n) (f.acked_is ∙ stands.acks to (there slow s stands to other)) count_is

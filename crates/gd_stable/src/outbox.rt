@@ -1,9 +1,13 @@
-ghost use Rattle.std.specs.Prelude.{◌≡◌, ◌+◌, ◌≤◌, [], ◌∷◌, ◌++◌, length, drop, OnOk, OnErr};
-ghost use Rattle.gd_stable.specs.Outboxes.{numbered_above, first_above, with_above};
+ghost use Rattle.std.specs.Prelude.{◌≡◌, ◌+◌, ◌-◌, ◌≤◌, List, [], ◌∷◌, ◌++◌, length, drop, nat_le, if◌then◌else◌, OnOk, OnErr};
+ghost use Rattle.gd_events.specs.Events.{Event as EventValue};
+ghost use Rattle.gd_events.specs.Sound.{IsSound};
+ghost use Rattle.gd_grammar.specs.FrameBytes.{events_bytes};
+ghost use Rattle.gd_grammar.specs.declared.sizes.TheConstants.{FRAME_ROOM};
+ghost use Rattle.gd_wire.specs.Frames.{spelled_events};
+ghost use Rattle.gd_stable.specs.Outboxes.{numbered_above, first_above};
 ghost use Rattle.gd_stable.specs.Numbering.{follows, are_numbered_on, last_number, count_to};
 
 use gd_events::{Event, ListedEvent};
-use gd_grammar::FRAME_EVENTS;
 use gd_wire::FrameEvents;
 use std::alloc::{AllocError, Global};
 use std::collections::VecDeque;
@@ -76,16 +80,15 @@ impl Outbox {
         self.events.push_back_reserved(event);
     }
 
-    /// Copies of the first events that are numbered above `k`, as many as a frame has at most. It takes no memory.
+    /// The first events that are numbered above `k`, as many as fit into a frame, as their bytes. It takes no memory.
     pub fn after(&self, k: u16) -> FrameEvents
-        ensures { result ≡ first_above k self.now.events }
+        ensures { result ≡ spelled_events (first_above k self.now.events) }
     {
         let mut found = FrameEvents::new();
         for place in count_to(self.numbered_on, &self.events, k)..self.events.len() {
-            if found.as_slice().len() == FRAME_EVENTS {
+            if !put_above(&mut found, k, &self.events[place]) {
                 return found;
             }
-            add_above(&mut found, k, &self.events[place]);
         }
         found
     }
@@ -158,11 +161,22 @@ fn drop_first(events: &mut VecDeque<ListedEvent>, count: usize)
     drop(events.drain(..count));
 }
 
-/// Puts a copy of the event last, where it is numbered above `k` and there is room.
-fn add_above(found: &mut FrameEvents, k: u16, event: &ListedEvent)
-    ensures { found.new ≡ with_above k found.old event.now }
+/// Puts the event last, where it is numbered above `k`. False exactly where its bytes don't fit then, and nothing
+/// changes.
+fn put_above(found: &mut FrameEvents, k: u16, event: &ListedEvent) -> bool
+    ensures room { result ≡ nat_le
+        (length (events_bytes (numbered_above k (event.now ∷ []))))
+        (FRAME_ROOM - length found.old.text) }
+    ensures events { (es : List EventValue) → found.old ≡ spelled_events es
+        → found.new ≡ spelled_events
+        (if result then es ++ numbered_above k (event.now ∷ []) else es) }
+    ensures sound { IsSound event.now }
 {
-    if event.number() > k {
-        found.push(event.event());
+    let event = event.event();
+    // Brings the event's invariant into this proof; no effect at run time.
+    let _ = event.op();
+    if event.number() <= k {
+        return true;
     }
+    found.push(&event)
 }

@@ -22,6 +22,7 @@ use gd_outside::{End, Sink, Source, Status};
 use gd_view::write_text;
 use gd_viewer::Viewer;
 use gd_words::Reply;
+use std::alloc::Global;
 use std::sync::ledger::Ledger;
 
 /// How many items may come.
@@ -31,6 +32,7 @@ const MOST_ITEMS: u32 = 1_000_000;
 /// place is counted on from `place`. `Done` behind the drawing, `BadView` behind a fault, and `LineLimit` behind the line of an
 /// item that is one too many.
 pub(crate) fn show_items<S: Source, K: Sink, L: Ledger>(
+    alloc: Global,
     viewer: &mut Viewer,
     place: u64,
     input: &mut S,
@@ -65,7 +67,7 @@ pub(crate) fn show_items<S: Source, K: Sink, L: Ledger>(
             }
             Next::Item(count) => count,
         };
-        take_item(viewer, frame_of(&ahead, count), output, steps)?;
+        take_item(alloc, viewer, frame_of(&ahead, count), output, steps)?;
         ahead.skip(count + LENGTH_BYTES);
         place += (count + LENGTH_BYTES) as u64;
         left -= 1;

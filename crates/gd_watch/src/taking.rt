@@ -11,17 +11,20 @@ ghost use Rattle.gd_watch.specs.Taking.{AreInside};
 
 use gd_answers::{Arrived, say};
 use gd_base::Steps;
-use gd_events::Event;
+use gd_events::ListedEvent;
 use gd_outside::{End, Sink};
 use gd_viewer::Viewer;
-use gd_wire::{Frame, read_frame};
+use gd_wire::{Frame, FrameError, read_frame};
 use gd_words::Reply;
+use std::alloc::Global;
 use std::sync::ledger::Ledger;
 
 /// Has a viewer take the bytes of an item, which are a frame or none, and prints what comes of it.
 ///
-/// `NoMemory` where there was no memory for an event, and `WriteFault` where a write failed. Then what was done before stays.
+/// `NoMemory` where there was no memory for the frame or for an event, and `WriteFault` where a write failed. Then what was
+/// done before stays.
 pub(crate) fn take_item<K: Sink, L: Ledger>(
+    alloc: Global,
     viewer: &mut Viewer,
     bytes: &[u8],
     output: &mut K,
@@ -34,9 +37,10 @@ pub(crate) fn take_item<K: Sink, L: Ledger>(
     ensures stands { OnOk result ((slow : SlowViewer) → StandsFor slow viewer.old
         → StandsFor (after_item slow bytes.now) viewer.new) }
 {
-    match read_frame(bytes) {
+    match read_frame(alloc, bytes) {
         Ok(frame) => take_frame(viewer, &frame, output, steps),
-        Err(fault) => say(&Reply::BadFrame { fault }, output),
+        Err(FrameError::Fault(fault)) => say(&Reply::BadFrame { fault }, output),
+        Err(FrameError::Memory) => Err(End::NoMemory),
     }
 }
 
@@ -65,7 +69,7 @@ fn take_frame<K: Sink, L: Ledger>(
 /// Has it take events of sites of the session, one after another.
 fn take_events<K: Sink, L: Ledger>(
     viewer: &mut Viewer,
-    events: &[Event],
+    events: &[ListedEvent],
     output: &mut K,
     steps: &mut Steps<L>,
 ) -> Result<(), End>
@@ -87,21 +91,22 @@ fn take_events<K: Sink, L: Ledger>(
 /// Has it take an event of a site of the session, if it is the next one.
 fn take_event<K: Sink, L: Ledger>(
     viewer: &mut Viewer,
-    event: &Event,
+    listed: &ListedEvent,
     output: &mut K,
     steps: &mut Steps<L>,
 ) -> Result<(), End>
     requires met { (slow : SlowViewer) × StandsFor slow viewer.old }
-    requires inside { IsTrue (is_site viewer.old.heard.sites event.now.stamp.site) }
+    requires inside { IsTrue (is_site viewer.old.heard.sites listed.now.stamp.site) }
     ensures does { (slow : SlowViewer) → StandsFor slow viewer.old
-        → PrintsInSteps (K.seen output.old) steps.old (of_viewer_event slow event.now) result
+        → PrintsInSteps (K.seen output.old) steps.old (of_viewer_event slow listed.now) result
         (K.seen output.new) steps.new }
     ensures stands { OnOk result ((slow : SlowViewer) → StandsFor slow viewer.old
-        → StandsFor (viewer_arrived slow event.now) viewer.new) }
+        → StandsFor (viewer_arrived slow listed.now) viewer.new) }
     ensures sites { viewer.new.heard.sites ≡ viewer.old.heard.sites }
 {
+    let event = listed.event();
     let taken = viewer.arrive(event.copy(), steps)?;
-    match Arrived::of(&taken).reply(event) {
+    match Arrived::of(&taken).reply(&event) {
         Some(reply) => say(&reply, output),
         None => Ok(()),
     }

@@ -103,5 +103,5 @@ fn open<S: Source, K: Sink, L: Ledger>(
     ensures kinds { IfOk result IsShownEnd }
 {
     let mut viewer = Viewer::open(alloc, snapshot, steps)?;
-    show_items(&mut viewer, place, input, output, steps)
+    show_items(alloc, &mut viewer, place, input, output, steps)
 }

@@ -1,9 +1,11 @@
--- A churn ends with all sites showing the same: its draws come to steps of a world, its rounds to rounds of passages.
-use Rattle.std.proofs.Common.{◌≡◌, ℕ, zero, suc, ◌+◌, ◌/◌, ◌≤◌, Bool, true, not, ◌&&◌, List, [], ◌∷◌, ◌++◌, length, map, fold, Option, Some, None, Ok, bytes_eq, slice_get, refl, sym, ap, ◌∙◌, subst, length-append, arith, ◌==◌}
+-- A churn ends with every site holding every event, and so with all showing the same: its draws come to steps of a world, its
+-- rounds to rounds of passages.
+use Rattle.std.proofs.Common.{◌≡◌, ℕ, zero, suc, ◌+◌, ◌<◌, ◌≤◌, Bool, true, not, ◌&&◌, List, [], ◌∷◌, ◌++◌, length, map, fold, Option, Some, None, Ok, bytes_eq, slice_get, refl, sym, ap, ◌∙◌, subst, length-append, arith, eqb-true, eq-eqb, ◌==◌}
 use Rattle.std.specs.List.{concat, list_all}
 use Rattle.std.proofs.lemmas.Bool.{and_parts, cond_both}
 use Rattle.std.proofs.lemmas.List.{append_assoc}
 use Rattle.std.proofs.lemmas.Slice.Eq.{bytes_eq-Decides}
+use Rattle.gd_base.proofs.SiteLemmas.{is_site-bounds}
 use Rattle.gd_base.specs.Sites.{is_site}
 use Rattle.gd_effects.specs.Effects.{Effect}
 use Rattle.gd_events.specs.Events.{Event}
@@ -12,16 +14,20 @@ use Rattle.gd_lines.specs.declared.command.ScriptLine.{ScriptLine}
 use Rattle.gd_lines.specs.declared.command.ScriptLine.TheVariants as script
 use Rattle.gd_lines.specs.declared.reply.Reply.TheVariants as reply
 use Rattle.gd_model.specs.Drawing.{picture}
-use Rattle.gd_protocol.proofs.Rounds.{rounds_bring_agreement}
+use Rattle.gd_protocol.proofs.HeldByAll.{all_counted, counted_all, held_agree, held_passed, kept_passed}
+use Rattle.gd_protocol.proofs.Interleavings.{kept_after}
+use Rattle.gd_protocol.proofs.Rounds.{rounds_bring_all}
 use Rattle.gd_protocol.proofs.Runs.{Kept-start, sites-after}
-use Rattle.gd_protocol.specs.Passages.{AllAgree, Passage, all_passed, between, rounds}
+use Rattle.gd_protocol.specs.Kept.{Kept}
+use Rattle.gd_protocol.specs.Passages.{AllAgree, AllHoldAll, Passage, all_passed, between, rounds}
 use Rattle.gd_protocol.specs.Passages as protocol
 use Rattle.gd_reference.specs.DrawingText.{text}
 use Rattle.gd_reference.specs.Offers.{frame_for}
 use Rattle.gd_reference.specs.Said.{all_said, says}
+use Rattle.gd_reference.specs.SlowSite.{count, own}
 use Rattle.gd_reference.specs.Tally.{tally_reply}
 use Rattle.gd_reference.specs.World.{At, Deliver, Send, Step, World, after, after_from, delivered, happens, start, with_site}
-use Rattle.gd_worlds.specs.Churn.{Churning, churn_effects, churned, is_same, new_churning, passages, rounded, stepped, times, with_drawn, with_line}
+use Rattle.gd_worlds.specs.Churn.{Churning, all_hold_all, churn_effects, churn_sites, churned, holds_all_of, is_same, new_churning, passages, rounded, rounds_to_all, stepped, times, with_drawn, with_line}
 use Rattle.gd_worlds.specs.Churn as churn
 use Rattle.gd_worlds.specs.Rehearsal.{after_script, may_send, told_by}
 
@@ -123,13 +129,95 @@ world_all_passed (p ∷ ps) c four apart =
     let sites = ap (λ (w : World). w.sites) one ∙ sites_passed c.world (passage p) ∙ four in
     world_all_passed ps (churn.passed c p) sites parts.1 ∙ ap (λ (w : World). all_passed w (map passage ps)) one
 
-world_rounds : (n : ℕ) (c : Churning) → c.world.sites ≡ 4 → (times n rounded c).world ≡ all_passed c.world (rounds n)
-unfolding times rounds all_passed
-world_rounds zero c four = refl
-world_rounds (suc n) c four =
-    let one = world_all_passed passages c four refl in
-    let sites = ap (λ (w : World). w.sites) one ∙ sites_all_passed c.world (map passage passages) ∙ four in
-    world_rounds n (rounded c) sites ∙ ap (λ (w : World). all_passed w (rounds n)) one
+-- what a world of a churn keeps
+record IsFour (w : World) : Type 0 where
+  kept : Kept w
+  four : w.sites ≡ 4
+
+abbrev round : List Passage
+round = map passage passages
+
+round_is : (c : Churning) → c.world.sites ≡ 4 → (rounded c).world ≡ all_passed c.world round
+round_is c four = world_all_passed passages c four refl
+
+passed_four : (w : World) → IsFour w → IsFour (all_passed w round)
+passed_four w is = record { kept = kept_passed w is.kept round; four = sites_all_passed w round ∙ is.four }
+
+rounded_four : (c : Churning) → IsFour c.world → IsFour (rounded c).world
+rounded_four c is = subst IsFour (sym (round_is c is.four)) (passed_four c.world is)
+
+-- ---- a test of all four sites
+
+each_of_four : (test : ℕ → Bool) → test 1 ≡ true → test 2 ≡ true → test 3 ≡ true → test 4 ≡ true → (s : ℕ) → 0 < s → s ≤ 4 → test s ≡ true
+each_of_four test one two three four zero low high = absurd (omega (arith, low))
+each_of_four test one two three four (suc zero) low high = one
+each_of_four test one two three four (suc (suc zero)) low high = two
+each_of_four test one two three four (suc (suc (suc zero))) low high = three
+each_of_four test one two three four (suc (suc (suc (suc zero)))) low high = four
+each_of_four test one two three four (suc (suc (suc (suc (suc s))))) low high = absurd (omega (arith, high))
+
+each_passes : (test : ℕ → Bool) → list_all test churn_sites ≡ true → (s : ℕ) → is_site 4 s ≡ true → test s ≡ true
+each_passes test all s inside =
+    let bounds = is_site-bounds 4 s inside in
+    let first = and_parts (test 1) (test 2 && (test 3 && (test 4 && true))) all in
+    let second = and_parts (test 2) (test 3 && (test 4 && true)) first.1 in
+    let third = and_parts (test 3) (test 4 && true) second.1 in
+    each_of_four test first.0 second.0 third.0 (and_parts (test 4) true third.1).0 s bounds.0 bounds.1
+
+all_pass : (test : ℕ → Bool) → ((s : ℕ) → is_site 4 s ≡ true → test s ≡ true) → list_all test churn_sites ≡ true
+all_pass test each = rw (each 1 refl, each 2 refl, each 3 refl, each 4 refl) refl
+
+-- ---- a site that holds as many events as were made holds them all
+
+module _ (w : World) (is : IsFour w) where
+  inside : (s : ℕ) → is_site 4 s ≡ true → is_site w.sites s ≡ true
+  inside s s_in = subst (λ (n : ℕ). is_site n s ≡ true) (sym is.four) s_in
+
+  among : (s : ℕ) → is_site w.sites s ≡ true → is_site 4 s ≡ true
+  among s s_in = subst (λ (n : ℕ). is_site n s ≡ true) is.four s_in
+
+  held_by_test : all_hold_all w ≡ true → AllHoldAll w
+  held_by_test held =
+      counted_all w is.kept
+      (λ s t s_in t_in.
+      let of_one = each_passes (λ u. list_all (holds_all_of w u) churn_sites) held t (among t t_in) in
+      eqb-true (count (w.at t) s) (length (own (w.at s))) (each_passes (holds_all_of w t) of_one s (among s s_in)))
+
+  test_of_held : AllHoldAll w → all_hold_all w ≡ true
+  test_of_held all =
+      let counts = all_counted w is.kept all in
+      all_pass (λ t. list_all (holds_all_of w t) churn_sites)
+      (λ t t_in. all_pass (holds_all_of w t) (λ s s_in. eq-eqb (count (w.at t) s) (length (own (w.at s))) (counts s t (inside s s_in) (inside t t_in))))
+
+-- ---- the rounds go on until every site holds every event
+
+record IsEnd (w : World) : Type 0 where
+  is : IsFour w
+  held : AllHoldAll w
+
+rounds_end : (most : ℕ) (c : Churning) → IsFour c.world → AllHoldAll (all_passed c.world (rounds most)) → IsEnd (rounds_to_all most c).world
+unfolding rounds_to_all rounds all_passed
+rounds_end zero c is all = record { is = is; held = all }
+rounds_end (suc most) c is all =
+    cond_both (all_hold_all c.world) c (rounds_to_all most (rounded c)) (λ (d : Churning). IsEnd d.world)
+    (λ held. record { is = is; held = held_by_test c.world is held })
+    (λ other. rounds_end most (rounded c) (rounded_four c is) (subst (λ (w : World). AllHoldAll (all_passed w (rounds most))) (sym (round_is c is.four)) all))
+
+-- and one more keeps them
+ends : (seed steps : ℕ) → IsEnd (churned seed steps).world
+unfolding churned
+ends seed steps =
+    let led = leads_steps steps (new_churning seed) in
+    let c = times steps stepped (new_churning seed) in
+    let d = rounds_to_all (4 + steps) c in
+    let is : IsFour c.world = subst IsFour (sym led.is) (record { kept = kept_after 4 1 led.steps; four = sites_after led.steps }) in
+    let all : AllHoldAll (all_passed c.world (rounds (4 + steps))) =
+    subst (λ (w : World). AllHoldAll (all_passed w (rounds (4 + steps)))) (sym led.is) (rounds_bring_all 1 steps led.steps led.few) in
+    let end = rounds_end (4 + steps) c is all in
+    subst IsEnd (sym (round_is d end.is.four)) (record { is = passed_four d.world end.is; held = held_passed d.world end.is.kept end.held round })
+
+pub ends_with_all : (seed steps : ℕ) → all_hold_all (churned seed steps).world ≡ true
+ends_with_all seed steps = let end = ends seed steps in test_of_held (churned seed steps).world end.is end.held
 
 -- ---- sites that show the same drawing show the same text
 
@@ -144,20 +232,14 @@ same_for_all w four agree =
     rw (same 2 refl, same 3 refl, same 4 refl) refl
 
 pub ends_alike : (seed steps : ℕ) → is_same (churned seed steps).world ≡ true
-unfolding churned
 ends_alike seed steps =
-    let led = leads_steps steps (new_churning seed) in
-    let c = times steps stepped (new_churning seed) in
-    let w = after 4 1 led.steps in
-    let four : c.world.sites ≡ 4 = ap (λ (v : World). v.sites) led.is ∙ sites_after led.steps in
-    let rounds_are = world_rounds (4 + steps / 8) c four ∙ ap (λ (v : World). all_passed v (rounds (4 + steps / 8))) led.is in
-    subst (λ (v : World). is_same v ≡ true) (sym rounds_are)
-    (same_for_all (all_passed w (rounds (4 + steps / 8))) (sites_all_passed w (rounds (4 + steps / 8)) ∙ sites_after led.steps)
-    (rounds_bring_agreement 1 steps led.steps led.few))
+    let w = (churned seed steps).world in
+    let end = ends seed steps in
+    same_for_all w end.is.four (held_agree w end.is.kept end.held)
 
 -- the last line that is printed
 pub said_alike : (seed steps : ℕ) → (front : List Effect) × (churn_effects seed steps ≡ front ++ says (reply.Same true) ∷ [])
 said_alike seed steps =
     let c = churned seed steps in
-    let six : List Effect = all_said (map (churn.site_reply c.world) (1 ∷ 2 ∷ 3 ∷ 4 ∷ []) ++ reply.Churned c.counts.edits c.counts.refused c.counts.sent c.counts.delivered c.counts.idle ∷ tally_reply c.counts.arrivals ∷ []) in
+    let six : List Effect = all_said (map (churn.site_reply c.world) churn_sites ++ reply.Churned c.counts.edits c.counts.refused c.counts.sent c.counts.delivered c.counts.idle ∷ tally_reply c.counts.arrivals ∷ []) in
     (c.work ++ six, ap (λ (b : Bool). c.work ++ (six ++ says (reply.Same b) ∷ [])) (ends_alike seed steps) ∙ sym (append_assoc c.work six (says (reply.Same true) ∷ [])))

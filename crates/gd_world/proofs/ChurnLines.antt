@@ -48,11 +48,11 @@ events_few slow [] = omega arith
 events_few slow (e ∷ es) =
     omega (arith, offer_few slow.held e (offer slow e), events_few (arrived slow e) es, length-append (offer_replies slow.held e (offer slow e)) (events_replies (arrived slow e) es))
 
-frame_few : (slow : SlowSite) (f : Frame) (why : Option FrameFault) → IsFrame f → length (unless_refused_replies slow f why) ≤ 8
+frame_few : (slow : SlowSite) (f : Frame) (why : Option FrameFault) → IsFrame f → length (unless_refused_replies slow f why) ≤ 67
 frame_few slow f None h = omega (arith, events_few slow f.events, leb-true (length f.events) most_frame_events h.few)
 frame_few slow f (Some why) h = omega arith
 
-delivery_few : (w : World) (number : ℕ) (mail : Option Frame) → ((f : Frame) → mail ≡ Some f → IsFrame f) → length (delivery_replies w number mail) ≤ 9
+delivery_few : (w : World) (number : ℕ) (mail : Option Frame) → ((f : Frame) → mail ≡ Some f → IsFrame f) → length (delivery_replies w number mail) ≤ 68
 delivery_few w number None frame = omega arith
 delivery_few w number (Some f) frame =
     omega (arith, frame_few (w.at f.head.to) f (refusal (w.at f.head.to) f) (frame f refl), length-append (frame_replies (w.at f.head.to) f) (reply.Delivered number ∷ []))
@@ -65,31 +65,31 @@ mail_is_frame : (w : World) → Every IsFrame w.mail → (number : ℕ) (f : Fra
 mail_is_frame w h zero f e = absurd cc
 mail_is_frame w h (suc mail) f e = Every-at IsFrame w.mail mail f h e
 
-said_few : (there : Bool) (replies : List Reply) (other : Reply) → length replies ≤ 9 → length (cond there replies (other ∷ [])) ≤ 9
+said_few : (there : Bool) (replies : List Reply) (other : Reply) → length replies ≤ 68 → length (cond there replies (other ∷ [])) ≤ 68
 said_few true replies other few = few
 said_few false replies other few = omega arith
 
-done_few : (es : List Event) → length es ≤ 1 → length (done_replies es) ≤ 9
+done_few : (es : List Event) → length es ≤ 1 → length (done_replies es) ≤ 68
 done_few [] few = omega arith
 done_few (e ∷ []) few = omega arith
 done_few (e ∷ f ∷ es) few = absurd (omega (arith, few))
 
 -- each back is of one event at most, so an undo says at most two things
-turn_few : (slow : SlowSite) (which : Turn) → AreSingle slow.backs → length (turn_replies (turn slow which)) ≤ 9
+turn_few : (slow : SlowSite) (which : Turn) → AreSingle slow.backs → length (turn_replies (turn slow which)) ≤ 68
 unfolding turn
 turn_few slow which single = by (due which slow.backs) (single-due which slow.backs single)
   where
-    tests : (a b : Bool) (es : List Event) → length es ≤ 1 → length (turn_replies (cond a (Err (Refused ClockEnd)) (cond b (Err (Refused SessionFull)) (Ok es)))) ≤ 9
+    tests : (a b : Bool) (es : List Event) → length es ≤ 1 → length (turn_replies (cond a (Err (Refused ClockEnd)) (cond b (Err (Refused SessionFull)) (Ok es)))) ≤ 68
     tests true b es few = omega arith
     tests false true es few = omega arith
     tests false false es few = done_few es few
 
-    by : (all : List (List Op)) → Every (λ ops. length ops ≤ 1) all → length (turn_replies (turn_by slow all)) ≤ 9
+    by : (all : List (List Op)) → Every (λ ops. length ops ≤ 1) all → length (turn_replies (turn_by slow all)) ≤ 68
     by [] few = omega arith
     by (ops ∷ all) few = tests _ _ (done slow ops) (omega (arith, few.0, length-done slow ops))
 
 -- of a line that a churn plays
-pub replies_few : (w : World) (v : WorldValue) → StandsFor w v → (line : ScriptLine) → IsPlayed line → length (script_replies w (Ok line)) ≤ 9
+pub replies_few : (w : World) (v : WorldValue) → StandsFor w v → (line : ScriptLine) → IsPlayed line → length (script_replies w (Ok line)) ≤ 68
 replies_few w v h (script.At site (command.Edit edit)) played = said_few (is_site w.sites site) _ _ (omega arith)
 replies_few w v h (script.At site (command.Turn which)) played = said_few (is_site w.sites site) _ _ (turn_few (w.at site) which ((kept w v h).single site))
 replies_few w v h (script.Send from to) played = omega arith

@@ -1,5 +1,6 @@
 -- The work of a churn only grows, and is all steps.
-use Rattle.std.proofs.Common.{◌≡◌, ℕ, zero, suc, ◌+◌, ◌-◌, ◌<◌, List, [], ◌∷◌, ◌++◌, length, map, fold, take, get_or, refl, sym, ◌∙◌, ap, subst, append_assoc, add-one, zero-add, arith}
+use Rattle.std.proofs.Common.{◌≡◌, ℕ, zero, suc, ◌+◌, ◌-◌, ◌<◌, ◌≤◌, Bool, true, false, cond, List, [], ◌∷◌, ◌++◌, length, map, fold, take, get_or, refl, sym, ◌∙◌, ap, subst, append_assoc, add-one, zero-add, arith}
+use Rattle.std.proofs.lemmas.Bool.{cond_both}
 use Rattle.std.proofs.lemmas.List.{append-nil, map-append}
 use Rattle.std.proofs.lemmas.List.Sums.{fold_more}
 use Rattle.std.specs.List.{filter}
@@ -7,7 +8,7 @@ use Rattle.std.specs.Prelude.{Option, None, Some, Ok}
 use Rattle.gd_effects.specs.Effects.{Effect, Head, Print, Record, Try, Work}
 use Rattle.gd_lines.specs.declared.command.ScriptLine.{ScriptLine}
 use Rattle.gd_lines.specs.declared.command.ScriptLine.TheVariants as script
-use Rattle.gd_worlds.specs.Churn.{Churning, passages, passed, rounded, step, stepped, times, with_drawn, with_line}
+use Rattle.gd_worlds.specs.Churn.{Churning, all_hold_all, passages, passed, rounded, rounds_to_all, step, stepped, times, with_drawn, with_line}
 use Rattle.gd_worlds.specs.Rehearsal.{is_work, of_site}
 
 -- these steps were added
@@ -106,3 +107,66 @@ module _ (next : Churning → Churning) where
         let rest = all - (n + 1) in
         subst (λ (d : Churning). Grows (next (times n next c)) d) (sym (times_split (n + 1) rest all c (omega arith)))
         (subst (λ (b : Churning). Grows b (times rest next (times (n + 1) next c))) (times_one_more n c) (times_grows rest (times (n + 1) next c)))
+
+-- ---- rounds until every site holds every event
+
+-- every site holds every event of a churn
+abbrev pub is_done : Churning → Bool
+is_done c = all_hold_all c.world
+
+pub to_all_none : (c : Churning) → c ≡ rounds_to_all 0 c
+unfolding rounds_to_all
+to_all_none c = refl
+
+pub to_all_grows : (most : ℕ) (c : Churning) → Grows c (rounds_to_all most c)
+unfolding rounds_to_all
+to_all_grows zero c = grows_none c
+to_all_grows (suc most) c =
+    cond_both (is_done c) c (rounds_to_all most (rounded c)) (Grows c) (λ done. grows_none c) (λ other. grows_then (grows_round c) (to_all_grows most (rounded c)))
+
+chosen_first : (test : Bool) (c d : Churning) → test ≡ true → cond test c d ≡ c
+chosen_first true c d e = refl
+chosen_first false c d e = cc
+
+chosen_other : (test : Bool) (c d : Churning) → test ≡ false → cond test c d ≡ d
+chosen_other true c d e = cc
+chosen_other false c d e = refl
+
+-- none is left to be done
+to_all_stays : (most : ℕ) (c : Churning) → is_done c ≡ true → rounds_to_all most c ≡ c
+unfolding rounds_to_all
+to_all_stays zero c done = refl
+to_all_stays (suc most) c done = chosen_first (is_done c) c (rounds_to_all most (rounded c)) done
+
+to_all_one : (c : Churning) → is_done c ≡ false → rounds_to_all (suc zero) c ≡ rounded c
+unfolding rounds_to_all
+to_all_one c other = chosen_other (is_done c) c (rounded c) other
+
+-- where it is chosen among two, both lead to the same
+chosen_leads : (test : Bool) (n : ℕ) (all c near : Churning) → (test ≡ true → cond test c all ≡ rounds_to_all n c) → all ≡ rounds_to_all n near → cond test c all ≡ rounds_to_all n (cond test c near)
+chosen_leads true n all c near stays goes = stays refl
+chosen_leads false n all c near stays goes = goes
+
+to_all_split : (m n all : ℕ) (c : Churning) → all ≡ m + n → rounds_to_all all c ≡ rounds_to_all n (rounds_to_all m c)
+unfolding rounds_to_all
+to_all_split zero n all c e = ap (λ k. rounds_to_all k c) (e ∙ zero-add n)
+to_all_split (suc m) n zero c e = absurd (omega arith)
+to_all_split (suc m) n (suc all) c e =
+    chosen_leads (is_done c) n (rounds_to_all all (rounded c)) c (rounds_to_all m (rounded c))
+    (λ done. chosen_first (is_done c) c (rounds_to_all all (rounded c)) done ∙ sym (to_all_stays n c done))
+    (to_all_split m n all (rounded c) (omega arith))
+
+-- one round more
+pub to_all_more : (n : ℕ) (c : Churning) → is_done (rounds_to_all n c) ≡ false → rounds_to_all (n + 1) c ≡ rounded (rounds_to_all n c)
+to_all_more n c other = to_all_split n (suc zero) (n + 1) c (omega arith) ∙ to_all_one (rounds_to_all n c) other
+
+-- no more are done
+pub to_all_done : (n most : ℕ) (c : Churning) → n ≤ most → is_done (rounds_to_all n c) ≡ true → rounds_to_all n c ≡ rounds_to_all most c
+to_all_done n most c few done = sym (to_all_split n (most - n) most c (omega (arith, few)) ∙ to_all_stays (most - n) (rounds_to_all n c) done)
+
+-- one more than were done is a front of all
+pub to_all_front : (n most : ℕ) (c : Churning) → n < most → is_done (rounds_to_all n c) ≡ false → Grows (rounded (rounds_to_all n c)) (rounds_to_all most c)
+to_all_front n most c inside other =
+    let rest = most - (n + 1) in
+    subst (λ (d : Churning). Grows (rounded (rounds_to_all n c)) d) (sym (to_all_split (n + 1) rest most c (omega (arith, inside))))
+    (subst (λ (b : Churning). Grows b (rounds_to_all rest (rounds_to_all (n + 1) c))) (to_all_more n c other) (to_all_grows rest (rounds_to_all (n + 1) c)))

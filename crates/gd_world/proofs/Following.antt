@@ -55,7 +55,7 @@ pays_more g k = record {
 pub room_left : (v : Played) (steps : ℕ) (line : ScriptLine) (replies : List Reply) → IsReady 1 v steps → IsPlayed line
     → ((w : World) → StandsFor w v.world → replies ≡ script_replies w (Ok line)) → HaveRoom (length replies) v.counts
 room_left v steps line replies (lines, c, before, h, room) played is =
-    (9 * lines, h.few, omega (arith, ap length (is c.world h.world), replies_few c.world v.world h.world line played))
+    (68 * lines, h.few, omega (arith, ap length (is c.world h.world), replies_few c.world v.world h.world line played))
 
 module _ {lines before steps steps' : ℕ} {c : Churning} {v : Played} (line : ScriptLine) where
   -- the line wasn't answered, for want of memory
@@ -72,7 +72,7 @@ module _ {lines before steps steps' : ℕ} {c : Churning} {v : Played} (line : S
         → ((most : ℕ) → AreFew most v.counts → AreFew (most + length replies) v'.counts) → Follows (lines + 1) (with_line c line) before v' steps'
     unfolding with_line
     follows_line h played generator made counts few =
-        let said : length (script_replies c.world (Ok line)) ≤ 9 = replies_few c.world v.world h.world line played in
+        let said : length (script_replies c.world (Ok line)) ≤ 68 = replies_few c.world v.world h.world line played in
         let near = near_script c.world line in
         record {
           world = answered.1;
@@ -82,7 +82,7 @@ module _ {lines before steps steps' : ℕ} {c : Churning} {v : Played} (line : S
           counts = counts ∙ ap₂ (fold with_reply) h.counts answered.0;
           mail = omega (arith, near.mail, h.mail, ap length answered.1.mail, ap length h.world.mail);
           kept = omega (arith, ap length made, length-append v.made.items (ids_made line replies), made_few line replies, ap length answered.0, said, h.kept);
-          few = few_more (9 * (lines + 1)) (omega (arith, ap length answered.0, said)) (few (9 * lines) h.few);
+          few = few_more (68 * (lines + 1)) (omega (arith, ap length answered.0, said)) (few (68 * lines) h.few);
           paid = omega (arith, h.paid, answered.2, cost-append c.work (script_work c.world (Ok line)));
         }
 
@@ -147,7 +147,7 @@ module _ {lines before steps : ℕ} {c : Churning} {v : Played} (h : Follows lin
         counts = counted ∙ ap with_idle h.counts;
         mail = omega (arith, h.mail);
         kept = omega (arith, h.kept);
-        few = few_more (9 * (lines + 1)) (omega arith) (few (9 * lines) h.few);
+        few = few_more (68 * (lines + 1)) (omega arith) (few (68 * lines) h.few);
         paid = h.paid;
       })
 
@@ -155,6 +155,20 @@ module _ {lines before steps : ℕ} {c : Churning} {v : Played} (h : Follows lin
 
 pub ready_less : (more less steps : ℕ) (v : Played) → less ≤ more → IsReady more v steps → IsReady less v steps
 ready_less more less steps v fewer (lines, c, before, h, room) = (lines, c, before, h, omega arith)
+
+-- with a larger bound
+pub follows_more : {lines before steps : ℕ} {c : Churning} {v : Played} (most : ℕ) → lines ≤ most → Follows lines c before v steps → Follows most c before v steps
+follows_more most more h = record {
+  world = h.world;
+  sites = h.sites;
+  generator = h.generator;
+  made = h.made;
+  counts = h.counts;
+  mail = omega (arith, more, h.mail);
+  kept = omega (arith, more, h.kept);
+  few = few_more (68 * most) (omega (arith, more)) h.few;
+  paid = h.paid;
+}
 
 module _ (lines lines' before steps : ℕ) (c c' : Churning) (v : Played) (same : lines ≡ lines') (is : c ≡ c') where
   -- the same in other words

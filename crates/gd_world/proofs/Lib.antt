@@ -16,6 +16,7 @@ pub mod Members
 mod OutputAlone
 mod Paying
 pub mod Played
+mod ReadBack
 mod RehearsalEnds
 pub mod SaidAll
 mod Scripts

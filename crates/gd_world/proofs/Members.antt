@@ -1,10 +1,10 @@
 -- A world in memory stands for the next world once a step has changed one of its sites, or its mail alone.
-use Rattle.std.proofs.Common.{◌≡◌, ◌≢◌, ℕ, ◌+◌, ◌-◌, true, List, [], ◌∷◌, ◌++◌, length, set, slice_get, get_or, Some, refl, sym, ap, ◌∙◌, subst, subst₂, arith, inl, inr}
+use Rattle.std.proofs.Common.{◌≡◌, ◌≢◌, ℕ, ◌+◌, ◌-◌, ◌≤◌, true, List, [], ◌∷◌, ◌++◌, length, set, slice_get, get_or, Some, refl, sym, ap, ◌∙◌, subst, subst₂, arith, inl, inr}
 use Rattle.std.proofs.lemmas.Bool.{cases_eq}
 use Rattle.std.proofs.lemmas.List.{length-set, get_or-set_same, get_or-set_other}
 use Rattle.std.proofs.lemmas.Option.{slice_get_within, get_or_from_slice_get, slice_get-get_or, slice_get_read}
 use Rattle.gd_base.proofs.Lists.{Every-append}
-use Rattle.gd_base.proofs.SiteLemmas.{is_site-bounds}
+use Rattle.gd_base.proofs.SiteLemmas.{is_site-bounds, is_site-within}
 use Rattle.gd_base.specs.Sites.{is_site}
 use Rattle.gd_grammar.specs.FrameBytes.{Frame}
 use Rattle.gd_protocol.proofs.Interleavings.{kept_after}
@@ -14,8 +14,9 @@ use Rattle.gd_protocol.specs.Sites.{IsRun}
 use Rattle.gd_reference.specs.PerSite.{put}
 use Rattle.gd_reference.specs.SlowSite.{SlowSite}
 use Rattle.gd_reference.specs.World.{IsStep, Step, World, after, after_from, happens, start, with_site}
+use Rattle.gd_site.specs.Sites.{StandsFor as SiteStands}
 use Rattle.gd_takeback.specs.Standing.{StandsWith}
-use Rattle.gd_world.specs.Standing.{StandsFor, WorldValue}
+use Rattle.gd_world.specs.Standing.{HasWorld, StandsFor, WorldValue}
 use Rattle.gd_world.specs.declared.member.Member.{Member}
 
 after_from-push : (w : World) (steps : List Step) (step : Step) → after_from w (steps ++ step ∷ []) ≡ happens (after_from w steps) step
@@ -100,3 +101,22 @@ module _ (w : World) (v : WorldValue) (st : StandsFor w v) where
             each = each_changed;
             mail = st.mail;
           })
+
+-- ---- the site of a number, by what was read at its place
+
+module _ (v now : WorldValue) (view : v ≡ now) (site : ℕ) (low : 1 ≤ site) (high : site ≤ length now.members) (place : ℕ) (same : place ≡ site) (member : Member) (read : member ≡ get_or v.members (place - 1) member) where
+  module _ (w : World) (st : StandsFor w v) where
+    among : is_site (length v.members) site ≡ true
+    among = is_site-within (length v.members) site low (subst (λ (x : WorldValue). site ≤ length x.members) (sym view) high)
+
+    there : StandsWith (w.at site) member.site member.backs
+    there = member_of w v st site member (subst (λ (n : ℕ). is_site n site ≡ true) st.members among) (member_read v.members site place member among same read)
+
+  pub site_stands : (w : World) → StandsFor w now → SiteStands (w.at site) member.site
+  site_stands w st = (there w (subst (StandsFor w) (sym view) st)).site
+
+  -- it knows how many sites there are
+  pub site_counts : HasWorld v → member.site.peers.sites ≡ length now.members
+  site_counts has =
+      let named = (kept has.world v has.stands).named site in
+      (there has.world has.stands).site.sites ∙ named.sites ∙ sym has.stands.members ∙ ap (λ (x : WorldValue). length x.members) view

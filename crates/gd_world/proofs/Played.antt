@@ -1,7 +1,7 @@
 -- What a churn that was played owes, and how it ends.
 use Rattle.std.proofs.Common.{◌≡◌, ℕ, ◌+◌, List, [], ◌∷◌, ◌++◌, map, refl, sym, ◌∙◌, ap, ap₂, subst, arith}
 use Rattle.std.proofs.lemmas.List.{map-append}
-use Rattle.std.specs.Prelude.{Result, Ok, Err, IfOk, IsErrAnd, ⊤, ◌/◌}
+use Rattle.std.specs.Prelude.{Result, Ok, Err, IfOk, IsErrAnd, ⊤}
 use Rattle.std.specs.declared.alloc.AllocError.{AllocError}
 use Rattle.gd_answers.specs.Paying.{PaysFront}
 use Rattle.gd_effects.proofs.Doing.{cost-works, does_as, does_more, does_some_works, does_works}
@@ -16,8 +16,8 @@ use Rattle.gd_outside.specs.Seen.{SeenJournal, SeenLink, SeenSink, SeenSource}
 use Rattle.gd_outside.specs.declared.end.End.{End}
 use Rattle.gd_outside.specs.declared.end.End.TheVariants as early
 use Rattle.gd_outside.specs.declared.status.Status.TheVariants.{Done}
-use Rattle.gd_worlds.specs.Churn.{Churning, churned, new_churning, rounded, stepped, summary, times}
-use Rattle.gd_world.proofs.ChurnWork.{Grows, grows_round, grows_step, grows_then, times_grows}
+use Rattle.gd_worlds.specs.Churn.{Churning, churned, new_churning, rounded, rounds_to_all, stepped, summary, times}
+use Rattle.gd_world.proofs.ChurnWork.{Grows, grows_round, grows_step, grows_then, times_grows, to_all_grows}
 use Rattle.gd_world.proofs.Following.{pays_whole}
 use Rattle.gd_world.specs.Playing.{Plays}
 use Rattle.gd_world.specs.Rehearsing.{IsChurnEnd}
@@ -36,7 +36,7 @@ pub plays_end : (c : Churning) (before after : ℕ) (r : Result (List Reply) All
 plays_end c before after (Ok replies) is paid = (is, paid)
 plays_end c before after (Err e) is paid = pays_whole c.work paid
 
-pub churned_is : (seed count : ℕ) → times (4 + count / 8) rounded (times count stepped (new_churning seed)) ≡ churned seed count
+pub churned_is : (seed count : ℕ) → rounded (rounds_to_all (4 + count) (times count stepped (new_churning seed))) ≡ churned seed count
 unfolding churned
 churned_is seed count = refl
 
@@ -45,7 +45,8 @@ churned_is seed count = refl
 churned_grows : (seed count : ℕ) → Grows (new_churning seed) (churned seed count)
 churned_grows seed count =
     subst (λ (c : Churning). Grows (new_churning seed) c) (churned_is seed count)
-    (grows_then (times_grows stepped grows_step count (new_churning seed)) (times_grows rounded grows_round (4 + count / 8) (times count stepped (new_churning seed))))
+    (grows_then (times_grows stepped grows_step count (new_churning seed))
+    (grows_then (to_all_grows (4 + count) (times count stepped (new_churning seed))) (grows_round (rounds_to_all (4 + count) (times count stepped (new_churning seed))))))
 
 -- all its work is steps
 works_of : (seed count : ℕ) → (ns : List ℕ) × ((churned seed count).work ≡ map Work ns)

@@ -1,5 +1,5 @@
 -- The steps among effects: what is recorded, printed or tried takes none.
-use Rattle.std.proofs.Common.{◌≡◌, ℕ, zero, suc, ◌+◌, ◌==◌, Bool, true, false, cond, List, [], ◌∷◌, ◌++◌, map, refl, ◌∙◌, ap, append-nil}
+use Rattle.std.proofs.Common.{◌≡◌, ℕ, zero, suc, ◌+◌, ◌==◌, nat_lt, Bool, true, false, cond, List, [], ◌∷◌, ◌++◌, length, map, refl, ◌∙◌, ap, append-nil}
 use Rattle.std.proofs.lemmas.List.Elements.{filter-append}
 use Rattle.std.specs.List.{filter}
 use Rattle.std.specs.Prelude.{Option, None, Some}
@@ -12,10 +12,10 @@ use Rattle.gd_lines.specs.declared.command.Command.TheVariants as command
 use Rattle.gd_lines.specs.declared.reply.Reply.{Reply}
 use Rattle.gd_model.specs.Arrivals.{cost_of}
 use Rattle.gd_reference.specs.NodeRun.{of_received, received}
-use Rattle.gd_reference.specs.Offers.{arrived, frame_for, offer, refusal}
+use Rattle.gd_reference.specs.Offers.{arrived, brought, frame_for, offer, refusal}
 use Rattle.gd_reference.specs.Said.{all_said}
-use Rattle.gd_reference.specs.SiteEffects.{events_replies, of_frame, of_own, recording, taken, taken_as, tries, tries_behind, tries_with, try_for, unless_refused_of, unless_refused_replies, works_of}
-use Rattle.gd_reference.specs.SlowSite.{SlowSite, log_end}
+use Rattle.gd_reference.specs.SiteEffects.{events_replies, of_frame, of_own, recording, taken, taken_as, tries, tries_behind, tries_with, try_for, try_with, unless_refused_of, unless_refused_replies, works_of}
+use Rattle.gd_reference.specs.SlowSite.{SlowSite, log_end, own}
 use Rattle.gd_reference.specs.TakeBack.{with_events}
 use Rattle.gd_world.specs.Telling.{work_of}
 use Rattle.gd_worlds.specs.Rehearsal.{is_work}
@@ -40,18 +40,26 @@ none_for slow to = by (to == slow.me)
     by true = refl
     by false = refl
 
-none_behind : (slow : SlowSite) (site k : ℕ) → filter is_work (tries_behind slow site k) ≡ []
+none_with : (slow : SlowSite) (new to : ℕ) → filter is_work (try_with slow new to) ≡ []
+none_with slow new to = by (nat_lt (length (own slow)) (brought slow to + new))
+  where
+    by : (brings : Bool) → filter is_work (cond brings (try_for slow to) []) ≡ []
+    by true = none_for slow to
+    by false = refl
+
+none_behind : (try : ℕ → List Effect) → ((to : ℕ) → filter is_work (try to) ≡ []) → (site k : ℕ) → filter is_work (tries_behind try site k) ≡ []
 unfolding tries_behind
-none_behind slow site zero = refl
-none_behind slow site (suc k) =
-    none_both (try_for slow (site + 1)) (tries_behind slow (site + 1) k) (none_for slow (site + 1)) (none_behind slow (site + 1) k)
+none_behind try none site zero = refl
+none_behind try none site (suc k) = none_both (try (site + 1)) (tries_behind try (site + 1) k) (none (site + 1)) (none_behind try none (site + 1) k)
 
 none_tried : (slow : SlowSite) → filter is_work (tries slow) ≡ []
-none_tried slow = none_behind slow 0 slow.sites
+none_tried slow = none_behind (try_for slow) (none_for slow) 0 slow.sites
 
 none_tried_with : (slow : SlowSite) (es : List Event) → filter is_work (tries_with slow es) ≡ []
 none_tried_with slow [] = refl
-none_tried_with slow (e ∷ es) = none_tried (with_events slow (e ∷ es))
+none_tried_with slow (e ∷ es) =
+    let with = with_events slow (e ∷ es) in
+    none_behind (try_with with (length (e ∷ es))) (none_with with (length (e ∷ es))) 0 with.sites
 
 -- a world has no link, and a poll there takes nothing in
 pub none_polled : (slow : SlowSite) → work_of slow command.Poll ≡ []

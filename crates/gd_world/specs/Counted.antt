@@ -14,9 +14,9 @@ pub record AreFew (most : ℕ) (c : Counts) : Type 0 where
   pub all : counted c ≤ most
   pub undone : c.arrivals.undone ≤ 2 ^ 32 * most
 
--- so many more can be counted: a churn counts fewer than a million
+-- so many more can be counted: a churn counts fewer than 21 millions
 abbrev pub HaveRoom : ℕ → Counts → Type 0
-HaveRoom more c = (most : ℕ) × AreFew most c × (most + more ≤ 1000000)
+HaveRoom more c = (most : ℕ) × AreFew most c × (most + more ≤ 21000000)
 
 -- what is printed of all but the arrivals
 abbrev pub churned_reply : Counts → Reply

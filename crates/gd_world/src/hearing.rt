@@ -1,7 +1,7 @@
 //! What a site says of a frame that it is handed.
 
 ghost use Rattle.std.specs.Prelude.{◌≡◌, ◌++◌, IfOk, OnErr, OnOk};
-ghost use Rattle.gd_answers.specs.Arriving.{replies_of, reply_list};
+ghost use Rattle.gd_answers.specs.Arriving.{arrived_reply, replies_of, reply_list};
 ghost use Rattle.gd_reference.specs.SlowSite.{SlowSite};
 ghost use Rattle.gd_takeback.specs.Standing.{StandsWith};
 ghost use Rattle.gd_world.specs.Hearing.{Hears};
@@ -12,7 +12,7 @@ use crate::replies::Replies;
 use crate::telling::only;
 use gd_answers::{Arrived, take_frame};
 use gd_base::Steps;
-use gd_events::Event;
+use gd_events::ListedEvent;
 use gd_wire::Frame;
 use gd_words::Reply;
 use std::alloc::{AllocError, Global};
@@ -36,22 +36,23 @@ pub(crate) fn hear<L: Ledger>(
 }
 
 /// What is said of these events, in their order.
-fn echoes(alloc: Global, events: &[Event], heard: &[Arrived]) -> Result<Replies, WorldFault>
+fn echoes(alloc: Global, events: &[ListedEvent], heard: &[Arrived]) -> Result<Replies, WorldFault>
     ensures ok { IfOk result (λ replies. replies ≡ replies_of events.now heard.now) }
     ensures err { OnErr result (result ≡ Err WorldFault.NoMemory) }
 {
     let mut replies = Replies::new(alloc);
     for (event, arrived) in events.iter().zip(heard) {
-        push_some(&mut replies, arrived.reply(event))?;
+        push_echo(&mut replies, event, *arrived)?;
     }
     Ok(replies)
 }
 
-/// Puts a reply last, if there is one. `AllocError` where memory ran out.
-fn push_some(replies: &mut Replies, reply: Option<Reply>) -> Result<(), AllocError>
-    ensures { OnOk result (replies.new ≡ replies.old ++ reply_list reply) }
+/// Puts last what is said of an event, if anything is. `AllocError` where memory ran out.
+fn push_echo(replies: &mut Replies, event: &ListedEvent, arrived: Arrived) -> Result<(), AllocError>
+    ensures { OnOk result
+        (replies.new ≡ replies.old ++ reply_list (arrived_reply event.now arrived)) }
 {
-    match reply {
+    match arrived.reply(&event.event()) {
         Some(reply) => replies.push(reply),
         None => Ok(()),
     }

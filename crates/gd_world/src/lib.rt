@@ -16,7 +16,7 @@ mod world;
 
 pub use churning::churn;
 pub use fault::WorldFault;
-pub use laws::churns_end_alike;
+pub use laws::{churns_bring_all, churns_end_alike};
 pub use rehearsing::rehearse;
 pub use replies::Replies;
 pub use world::World;

@@ -6,7 +6,11 @@ ghost use Rattle.std.specs.List.{AllByRecursion};
 ghost use Rattle.gd_base.specs.declared.ranges.TheConstants.{SITES};
 ghost use Rattle.gd_lines.specs.InRange.{IsCommand};
 ghost use Rattle.gd_lines.specs.declared.command.ScriptLine.TheVariants as script;
+ghost use Rattle.gd_reference.specs.Offers.{frame_for};
+ghost use Rattle.gd_reference.specs.SlowSite.{SlowSite};
 ghost use Rattle.gd_reference.specs.World.{World as SlowWorld, start};
+ghost use Rattle.gd_site.specs.Sites.{StandsFor as SiteStandsFor};
+ghost use Rattle.gd_stable.specs.Peers.{IsOther};
 ghost use Rattle.gd_world.specs.Answers.{DeliverIs, IsEcho, LineIs, SendIs};
 ghost use Rattle.gd_world.specs.Calls.{Comes};
 ghost use Rattle.gd_world.specs.Standing.{AreNew};
@@ -22,6 +26,7 @@ use gd_base::Steps;
 use gd_lines::Command;
 use gd_site::Site;
 use gd_takeback::TakeBack;
+use gd_wire::{Frame, FrameBytes, FrameError, read_frame};
 use std::alloc::{AllocError, Global};
 use std::marker::Model;
 use std::sync::ledger::Ledger;
@@ -107,8 +112,9 @@ impl World {
         let Some(number) = number_after(self.mail.len()) else {
             return Err(WorldFault::NoMemory);
         };
-        let frame = self.members[usize::from(from) - 1].site.frame_for(to);
-        self.mail.push(&frame)?;
+        let alloc = self.alloc();
+        let frame = frame_for(alloc, &self.members[usize::from(from) - 1].site, to)?;
+        self.mail.push(frame)?;
         Ok(number)
     }
 
@@ -128,10 +134,10 @@ impl World {
         // No frame is refused, and no event of it is backdated.
         ensures echoes { IfOk result (λ replies. AllByRecursion IsEcho replies) }
     {
-        let frame = self.mail.get(mail).ok_or(WorldFault::NoMail)?;
         let alloc = self.alloc();
+        let frame = self.mail.get(mail).ok_or(WorldFault::NoMail)?;
         let member = &mut self.members[usize::from(frame.head().to) - 1];
-        let said = hear(alloc, member, &frame, steps);
+        let said = hear(alloc, member, frame, steps);
         if said.is_err() {
             self.members.clear();
             self.mail = Mail::new(alloc);
@@ -156,6 +162,23 @@ fn number_after(count: usize) -> Option<u32>
     ensures { IfSome result (λ number. number ≡ count + 1) }
 {
     u32::try_from(count).ok()?.checked_add(1)
+}
+
+/// The frame of a site for another one, as that one reads it. `AllocError` where memory ran out.
+fn frame_for(alloc: Global, site: &Site, to: u8) -> Result<Frame, AllocError>
+    requires { IsOther site.now.peers to }
+    ensures { (slow : SlowSite) → SiteStandsFor slow site.now
+        → IfOk result (λ frame. frame ≡ frame_for slow to) }
+{
+    // Brings the site's invariant into this proof; no effect at run time.
+    site.stands();
+    let mut bytes = FrameBytes::new();
+    site.write_frame(to, &mut bytes);
+    match read_frame(alloc, bytes.as_slice()) {
+        Ok(frame) => Ok(frame),
+        Err(FrameError::Memory) => Err(AllocError),
+        Err(FrameError::Fault(_)) => unreachable!(),
+    }
 }
 
 /// The new sites of a session.

@@ -7,11 +7,11 @@
 -- session so far, shown or not, in the order in which they were made. Where none was made yet the step is idle, and draws no
 -- more; so it is where there is no mail to deliver.
 --
--- Behind the steps come rounds, four and one more for every eight steps. In a round each site sends a frame to each other one,
--- and that mail is delivered at once. Then seven lines say where each site stands, how often an edit, an undo or a
+-- Behind the steps come rounds until every site holds every event, at most four and one more for each step, and then one more
+-- round. In a round each site sends a frame to each other one, and that mail is delivered at once. Then seven lines say where each site stands, how often an edit, an undo or a
 -- redo was accepted or refused, a mail sent or delivered, and a step idle, how the events went that were delivered, and whether
 -- all sites show the same.
-use Rattle.std.specs.Prelude.{ℕ, zero, suc, pos, ◌+◌, ◌/◌, ◌%◌, Bool, true, false, List, [], ◌∷◌, ◌++◌, length, map, fold, flat_map, Option, Some, None, Ok, slice_index_or, ◌==◌, nat_lt, bytes_eq, if◌then◌else◌}
+use Rattle.std.specs.Prelude.{ℕ, zero, suc, pos, ◌+◌, ◌%◌, Bool, true, false, List, [], ◌∷◌, ◌++◌, length, map, fold, flat_map, Option, Some, None, Ok, slice_index_or, ◌==◌, nat_lt, bytes_eq, if◌then◌else◌}
 use Rattle.std.specs.List.{concat, list_all}
 use Rattle.rand_core.specs.Pcg32Seed.{pcg32_seed}
 use Rattle.rand_pcg.specs.Lcg.{Lcg}
@@ -33,7 +33,7 @@ use Rattle.gd_lines.specs.declared.reply.Reply.TheVariants as reply
 use Rattle.gd_model.specs.Drawing.{picture}
 use Rattle.gd_reference.specs.DrawingText.{text}
 use Rattle.gd_reference.specs.Said.{all_said}
-use Rattle.gd_reference.specs.SlowSite.{status}
+use Rattle.gd_reference.specs.SlowSite.{count, own, status}
 use Rattle.gd_arrivals.specs.Tally.{Tally, no_tally}
 use Rattle.gd_reference.specs.Tally.{tally_reply}
 use Rattle.gd_reference.specs.World.{World, start}
@@ -252,8 +252,23 @@ unfoldable pub times : ℕ → (Churning → Churning) → Churning → Churning
 times zero next c = c
 times (suc n) next c = times n next (next c)
 
+abbrev pub churn_sites : List ℕ
+churn_sites = 1 ∷ 2 ∷ 3 ∷ 4 ∷ []
+
+-- a site holds as many events of another one as there are
+abbrev pub holds_all_of : World → ℕ → ℕ → Bool
+holds_all_of w t s = count (w.at t) s == length (own (w.at s))
+
+abbrev pub all_hold_all : World → Bool
+all_hold_all w = list_all (λ t. list_all (holds_all_of w t) churn_sites) churn_sites
+
+-- rounds until every site holds every event, at most so many
+unfoldable pub rounds_to_all : ℕ → Churning → Churning
+rounds_to_all zero c = c
+rounds_to_all (suc n) c = if all_hold_all c.world then c else rounds_to_all n (rounded c)
+
 unfoldable pub churned : ℕ → ℕ → Churning
-churned seed steps = times (4 + steps / 8) rounded (times steps stepped (new_churning seed))
+churned seed steps = rounded (rounds_to_all (4 + steps) (times steps stepped (new_churning seed)))
 
 -- ---- what is printed
 
@@ -269,7 +284,7 @@ is_same w = list_all (λ site. bytes_eq (shown_at w 1) (shown_at w site)) (2 ∷
 
 abbrev pub summary : World → Counts → List Reply
 summary w c =
-    map (site_reply w) (1 ∷ 2 ∷ 3 ∷ 4 ∷ [])
+    map (site_reply w) churn_sites
     ++ reply.Churned c.edits c.refused c.sent c.delivered c.idle
     ∷ tally_reply c.arrivals
     ∷ reply.Same (is_same w)

@@ -177,6 +177,7 @@ export function strangerWords(line) {
   if (why === "NotForMe" || why === "FromMe" || why === "NoSuchSite") {
     return "Somebody’s edits are meant for another person: did all start it with the addresses in the same order?";
   }
+  if (why === "Check") return "Edits came damaged over the network. They are passed over, and come again";
   return why ? "Something else on the network sends data to this drawing’s address. It is passed over" : null;
 }
 

@@ -70,6 +70,7 @@ test("where the node stands, in words", () => {
   assert.equal(stateOf({ ...fine, silent: true }).kind, "silent");
   const strangers = [
     ["frame refused: Session", /another drawing/], ["frame refused: NotForMe", /same order/], ["frame refused: Short at 0", /Something else on the network/],
+    ["frame refused: Check at 60", /damaged/],
     ["polled 1", null], ["echo 1.1 applied", null],
   ];
   for (const [line, words] of strangers) words ? assert.match(strangerWords(line), words) : assert.equal(strangerWords(line), null);

@@ -1,14 +1,15 @@
 //! The play of a churn: a session of four sites, one line after the other.
 
-ghost use Rattle.std.specs.Prelude.{◌≡◌, ℕ, ◌+◌, ◌*◌, ◌/◌, ◌≤◌, ◌++◌, IfOk, OnOk};
+ghost use Rattle.std.specs.Prelude.{◌≡◌, ℕ, ◌+◌, ◌*◌, ◌≤◌, ◌++◌, IfOk, OnOk};
 ghost use Rattle.gd_options.specs.declared.churn.TheConstants.{CHURN_STEPS};
 ghost use Rattle.gd_world.specs.Drawn.{IsPlayed};
 ghost use Rattle.gd_world.specs.Playing.{Follows, Gets, IsReady};
 ghost use Rattle.gd_worlds.specs.Churn.{Churning as SlowChurning, ids_made, is_making};
-ghost use Rattle.gd_worlds.specs.Churn.{new_churning, passed, rounded, stepped, times, with_line};
+ghost use Rattle.gd_worlds.specs.Churn.{new_churning, passed, rounded, rounds_to_all, stepped, times, with_line};
 
 use crate::churning::counting::Counts;
 use crate::churning::drawing;
+use crate::churning::holding::all_hold_all;
 use crate::world::World;
 use gd_base::{Edit, Stamp, Steps};
 use gd_lines::{Command, Reply, ScriptLine};
@@ -62,22 +63,23 @@ impl Churning {
         })
     }
 
-    /// So many steps, and then rounds. `AllocError` where memory ran out.
+    /// So many steps, then rounds until every site holds every event, and one more round. `AllocError` where memory ran out.
     pub(crate) fn run<L: Ledger>(
         &mut self,
         count: u32,
         steps: &mut Steps<L>,
     ) -> Result<(), AllocError>
         requires few { count ≤ CHURN_STEPS }
-        requires ready { IsReady (count + 24 * (4 + count / 8)) self.old steps.old }
+        requires ready { IsReady (count + 24 * (5 + count)) self.old steps.old }
         ensures { (lines : ℕ) (c : SlowChurning) (before : ℕ)
             → Follows lines c before self.old steps.old
-            → Gets (lines + count + 24 * (4 + count / 8))
-            (times (4 + count / 8) rounded (times count stepped c)) before
+            → Gets (lines + count + 24 * (5 + count))
+            (rounded (rounds_to_all (4 + count) (times count stepped c))) before
             result self.new steps.new }
     {
         self.steps(count, steps)?;
-        self.rounds(4 + count / 8, steps)
+        self.rounds_to_all(4 + count, steps)?;
+        self.round(steps)
     }
 
     fn steps<L: Ledger>(&mut self, count: u32, steps: &mut Steps<L>) -> Result<(), AllocError>
@@ -92,14 +94,22 @@ impl Churning {
         Ok(())
     }
 
-    fn rounds<L: Ledger>(&mut self, count: u32, steps: &mut Steps<L>) -> Result<(), AllocError>
-        requires { IsReady (24 * count) self.old steps.old }
+    /// Rounds until every site holds every event, at most so many.
+    fn rounds_to_all<L: Ledger>(
+        &mut self,
+        most: u32,
+        steps: &mut Steps<L>,
+    ) -> Result<(), AllocError>
+        requires { IsReady (24 * most) self.old steps.old }
         ensures { (lines : ℕ) (c : SlowChurning) (before : ℕ)
             → Follows lines c before self.old steps.old
-            → Gets (lines + 24 * count) (times count rounded c) before
+            → Gets (lines + 24 * most) (rounds_to_all most c) before
             result self.new steps.new }
     {
-        for done in 0..count {
+        for done in 0..most {
+            if all_hold_all(&self.world) {
+                return Ok(());
+            }
             self.round(steps)?;
         }
         Ok(())

@@ -114,11 +114,12 @@ impl World {
     }
 
     /// The site of that number.
-    fn site(&self, site: u8) -> &Site
+    pub(crate) fn site(&self, site: u8) -> &Site
         requires from { 1 ≤ site }
         requires to { site ≤ length self.now.members }
-        ensures { (w : SlowWorld) → StandsFor w self.now
+        ensures stands { (w : SlowWorld) → StandsFor w self.now
             → SiteStandsFor (w.at site) result.now }
+        ensures sites { result.now.peers.sites ≡ length self.now.members }
     {
         &self.members[usize::from(site) - 1].site
     }

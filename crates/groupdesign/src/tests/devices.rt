@@ -1,7 +1,7 @@
 //! Each call of each device of a node, failing in turn: how the node ends, what is printed, which frames are tried, and which
 //! log its journal holds.
 
-use super::frames::{Entry, FIRST, SECOND, link_with};
+use super::frames::{BEAT, Entry, FIRST, SECOND, link_with};
 use super::nodes::{Node, answered, answered_failing};
 use super::ran_over;
 use gd_outside::{Call, Fail, Status};
@@ -20,7 +20,7 @@ const LINES: [&str; 4] = [
 const BUFFER: usize = 73_728;
 
 /// A frame with an event, one without, a failure, and a frame with another event.
-const ENTRIES: [Entry; 4] = [Some(FIRST), Some((1, 1, &[])), None, Some(SECOND)];
+const ENTRIES: [Entry; 4] = [Some(FIRST), Some(BEAT), None, Some(SECOND)];
 
 /// What is printed where no call fails: a line, and then one for each event and for each poll.
 const TEXT: &str =
@@ -167,23 +167,23 @@ type Received = (&'static [Entry], &'static str, &'static str);
 
 const RECEIVES: [Received; 5] = [
     (
-        &[None, Some(FIRST), Some((1, 1, &[])), None, Some(SECOND)],
+        &[None, Some(FIRST), Some(BEAT), None, Some(SECOND)],
         "ready 1 of 2\nlink fault after 0\necho 1.2 applied create rect 0 0 10 10\nlink fault after 2\nok 2.1\nok 3.1\n",
         WITHOUT_SECOND,
     ),
     (
-        &[Some(FIRST), None, Some((1, 1, &[])), None, Some(SECOND)],
+        &[Some(FIRST), None, Some(BEAT), None, Some(SECOND)],
         "ready 1 of 2\necho 1.2 applied create rect 0 0 10 10\nlink fault after 1\nlink fault after 1\nok 2.1\nok 3.1\n",
         WITHOUT_SECOND,
     ),
     (
-        &[Some(FIRST), Some((1, 1, &[])), None, None, Some(SECOND)],
+        &[Some(FIRST), Some(BEAT), None, None, Some(SECOND)],
         "ready 1 of 2\necho 1.2 applied create rect 0 0 10 10\nlink fault after 2\nlink fault after 0\nok 2.1\nok 3.1\n",
         WITHOUT_SECOND,
     ),
     (&ENTRIES, TEXT, FOUR),
     (
-        &[Some(FIRST), Some((1, 1, &[])), None, Some(SECOND), None],
+        &[Some(FIRST), Some(BEAT), None, Some(SECOND), None],
         "ready 1 of 2\necho 1.2 applied create rect 0 0 10 10\nlink fault after 2\necho 2.2 applied move 1.2 1 1\nlink fault after 1\nok 3.1\nok 4.1\n",
         FOUR,
     ),

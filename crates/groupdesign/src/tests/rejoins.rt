@@ -1,6 +1,6 @@
 //! Nodes that go on from their journals: what a crash left, and each call of each device failing in turn.
 
-use super::frames::{FIRST, ROOM, link_with};
+use super::frames::ROOM;
 use super::nodes::{Node, answered_failing, gone_on};
 use super::ran_over;
 use gd_outside::{Call, Fail, MemoryJournal, MemoryLink, Status};

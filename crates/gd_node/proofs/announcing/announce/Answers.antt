@@ -36,4 +36,4 @@ returns g c steps =
           (put.does (journal_header slow) slow.held (ahead_ruled slow es a) a.log input link steps);
       log = λ slow a. put.log (journal_header slow) slow.held (ahead_ruled slow es a) a.log;
       name = put.name;
-    }) c.send_frames.ensures.takes (λ slow stands. c.send_frames.ensures.sends (with_events slow es) stands)
+    }) c.send_newest.ensures.takes (λ slow stands. c.send_newest.ensures.sends (with_events slow es) stands)

@@ -1,4 +1,4 @@
-use Rattle.std.proofs.Common.{◌≡◌, List, ◌++◌, sym, ap, ◌∙◌, subst}
+use Rattle.std.proofs.Common.{List, ◌++◌, sym, ap, ◌∙◌, subst}
 use Rattle.std.specs.Prelude.{Err, replicate}
 use Rattle.gd_base.proofs.Lists.{Every-prefix}
 use Rattle.gd_base.specs.declared.refusal.Refusal.TheVariants.{GestureFull}

@@ -14,4 +14,4 @@ returns-then-is_empty-clause-takes g c = takes_none _
 pub returns-clause-sends : goal.returns-clause-sends
 returns-clause-sends g c slow stands input output journal steps =
     let es = c.args.events.now in
-    does_as (tries_some slow es (sym c.if-is_empty.ensures)) (c.send_frames.ensures.sends (with_events slow es) stands input output journal steps)
+    does_as (tries_some slow es (sym c.if-is_empty.ensures)) (c.send_newest.ensures.sends (with_events slow es) stands input output journal steps)

@@ -1,5 +1,6 @@
-use Rattle.std.proofs.Common.{[], ◌∷◌, sym, ◌∙◌, ap, subst}
+use Rattle.std.proofs.Common.{[], ◌∷◌, refl, sym, ◌∙◌, ap, subst}
 use Rattle.gd_effects.proofs.Doing.{does_as, on_ok}
+use Rattle.gd_effects.proofs.OneRecord.{none_done}
 use Rattle.gd_lines.specs.declared.reply.Reply.TheVariants as reply
 use Rattle.gd_reference.specs.Said.{says}
 use Rattle.gd_viewer.specs.Viewers.{StandsFor}
@@ -21,12 +22,17 @@ returns-in-Ok-clause-stands g c =
     {Q = (slow : SlowViewer) → StandsFor slow c.args.viewer.now → StandsFor (after_item slow c.args.bytes.now) c.take_frame.new.viewer} _
     (λ reached slow stands. subst (λ (s : SlowViewer). StandsFor s c.take_frame.new.viewer) (sym (ap (after_item_read slow) c.in-Ok.ensures.read)) (reached slow stands)) c.take_frame.ensures.stands
 
-pub returns-in-Err-clause-does : goal.returns-in-Err-clause-does
-returns-in-Err-clause-does g c slow stands input journal link =
-    let read = c.in-Err.ensures.read in
-    does_as (ap (of_item_read slow c.args.bytes.now) read.1 ∙ ap (λ fault. says (reply.BadFrame fault) ∷ []) (sym read.2)) (c.say.ensures input journal link c.args.steps.now)
+pub returns-in-Err-Fault-clause-does : goal.returns-in-Err-Fault-clause-does
+returns-in-Err-Fault-clause-does g c slow stands input journal link =
+    let read = rw c.in-Err-Fault.field-0-is at c.in-Err-Fault.ensures.read in
+    does_as (ap (of_item_read slow c.args.bytes.now) read.1 ∙ ap (λ fault. says (reply.BadFrame fault) ∷ []) (sym read.2))
+    (c.say.ensures input journal link c.args.steps.now)
 
-pub returns-in-Err-clause-stands : goal.returns-in-Err-clause-stands
-returns-in-Err-clause-stands g c =
+pub returns-in-Err-Fault-clause-stands : goal.returns-in-Err-Fault-clause-stands
+returns-in-Err-Fault-clause-stands g c =
+    let read = rw c.in-Err-Fault.field-0-is at c.in-Err-Fault.ensures.read in
     on_ok {P = (slow : SlowViewer) → StandsFor slow c.args.viewer.now → StandsFor (after_item slow c.args.bytes.now) c.args.viewer.now} _
-    (λ slow stands. subst (λ (s : SlowViewer). StandsFor s c.args.viewer.now) (sym (ap (after_item_read slow) c.in-Err.ensures.read.1)) stands)
+    (λ slow stands. subst (λ (s : SlowViewer). StandsFor s c.args.viewer.now) (sym (ap (after_item_read slow) read.1)) stands)
+
+pub returns-in-Err-Memory-clause-does : goal.returns-in-Err-Memory-clause-does
+returns-in-Err-Memory-clause-does g c slow stands input journal link = none_done input _ journal link _ refl

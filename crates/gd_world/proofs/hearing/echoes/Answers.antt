@@ -20,7 +20,7 @@ loop-event-preserved c =
     (ap (λ z. iter_rest (zip_second z)) gives ∙ zipped.second.0) c.loop-event.yielded_by (event, arrived) c.in-Some.is c.next.ensures.steps in
     rw (length_push c.loop-event.yielded (event, arrived))
     (said_more c.args.events.now c.args.heard.now _ c.loop-event.replies c.loop-event.invariant event.now arrived.now t.0 t.1 (t.2 event.now) (t.3 arrived.now) _
-    (rw c.reply.ensures at c.in_ok-push_some.ensures))
+    c.in_ok-push_echo.ensures)
 
 pub returns-clause-ok : goal.returns-clause-ok
 returns-clause-ok c =

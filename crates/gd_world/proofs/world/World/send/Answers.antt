@@ -4,8 +4,8 @@ use Rattle.gd_world.proofs.Sends.{receiver_is_other, sent_stands}
 use Rattle.gd_world.specs.Standing.{StandsFor}
 use Rattle.gd_world.proofs.world.World.send.Goals as goal
 
-pub frame_for-frame-requires : goal.frame_for-frame-requires
-frame_for-frame-requires c =
+pub frame_for-requires : goal.frame_for-requires
+frame_for-requires c =
     let i = has_site _ c.args.self.now c.self.view_is c.args.from (sym c.is_site.ensures ∙ c.if-not-is_site.false) c.self.invariant in
     let apart : c.args.from ≢ c.args.to = search rules in
     let other = receiver_is_other i.world _ c.args.self.now c.self.view_is i.stands c.args.from c.args.to (sym c.is_site.ensures ∙ c.if-not-is_site.false)
@@ -23,7 +23,7 @@ invariant_of-self-2 c =
       world = _;
       stands = sent_stands i.world _ c.args.self.now c.self.view_is i.stands c.args.from c.args.to (sym c.is_site.ensures ∙ c.if-not-is_site.false)
           (sym c.is_site-else-not-is_site.ensures ∙ c.if-not-is_site-2.false) apart c.from.result c.from.ensures c.index.result.now c.index.ensures
-          c.frame_for-frame.result c.frame_for-frame.ensures _ c.in_ok-push.ensures.ok;
+          c.in_ok-frame.frame c.in_ok-frame.ensures _ c.in_ok-push.ensures.ok;
     })
 
 pub returns-clause-comes : goal.returns-clause-comes
@@ -31,6 +31,6 @@ returns-clause-comes c w st steps =
     let apart : c.args.from ≢ c.args.to = search rules in (
       sent_stands w _ c.args.self.now c.self.view_is (subst (StandsFor w) (sym c.self.view_is) st) c.args.from c.args.to (sym c.is_site.ensures ∙ c.if-not-is_site.false)
           (sym c.is_site-else-not-is_site.ensures ∙ c.if-not-is_site-2.false) apart c.from.result c.from.ensures c.index.result.now c.index.ensures
-          c.frame_for-frame.result c.frame_for-frame.ensures _ c.in_ok-push.ensures.ok,
+          c.in_ok-frame.frame c.in_ok-frame.ensures _ c.in_ok-push.ensures.ok,
       omega arith,
     )

@@ -1,0 +1,36 @@
+//! Frames that are full, computed on worked rows.
+#![tactic(auto, unfolding(crate::proofs::Computing::computing))]
+
+ghost use Rattle.std.specs.List.{AllByRecursion};
+ghost use Rattle.std.specs.Prelude.{◌≡◌, ◌∷◌, [], Ok, codes, length};
+ghost use Rattle.gd_check.specs.Checks.{check};
+ghost use Rattle.gd_grammar.specs.FrameBytes.{frame, frame_bytes};
+ghost use Rattle.gd_lines.specs.declared.command.Command.TheVariants as command;
+ghost use Rattle.gd_reference.specs.Fitting.{in_a_frame};
+ghost use Rattle.gd_reference.specs.NodeRun.{answers};
+ghost use Rattle.gd_rows.specs.WorkedFrames.{check_value, deleted, deleted_effects, fits, full_site, moved, moved_effects, moves_frame, moves_from, moves_row};
+ghost use Rattle.gd_rows.specs.WorkedNodes.{asked};
+
+/// The checksum is CRC-32C.
+pub fn nine_digits_are_checked()
+    ensures { check 0 (codes "123456789") ≡ check_value }
+{}
+
+/// A frame has as many of the first events as fit.
+pub fn the_first_events_fit()
+    ensures { AllByRecursion (λ r. length (in_a_frame r.0) ≡ r.1) fits }
+{}
+
+/// A frame with as many moves as fit is read from its bytes, and written as them.
+pub fn a_full_frame_is_read_and_written()
+    ensures brought { in_a_frame (moves_from 2 46) ≡ moves_frame.events }
+    ensures read { frame moves_row ≡ Ok moves_frame }
+    ensures written { frame_bytes moves_frame ≡ moves_row }
+{}
+
+/// An edit sends nothing to a site for which older events fill the frame, and a poll sends these. One that fits is sent.
+pub fn an_edit_behind_older_ones()
+    ensures waits { answers full_site [] (asked (command.Edit moved ∷ command.Poll ∷ []))
+        ≡ moved_effects }
+    ensures goes { answers full_site [] (asked (command.Edit deleted ∷ [])) ≡ deleted_effects }
+{}
