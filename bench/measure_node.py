@@ -117,27 +117,27 @@ def times_of_gestures(program, room):
 
 
 def catch_up(program, room):
-    """How many polls of each site it took until one that comes held all moves that were made while it was away, and how many
-    seconds: each site polls as soon as the other one has."""
+    """How many polls of each site it took until one that comes held all moves that were made while it was away, how many seconds,
+    and how many of these its own polls took: each site polls as soon as the other one has."""
     addresses = free_addresses(2)
     first = Node(program, 1, addresses, room / "there.log")
     first.ask("create rect 0 0 10 10")
     for start in range(0, AWAY, TOGETHER):
         first.ask("\n".join(["begin", *(f"move 1.1 {at} 0" for at in range(start, start + TOGETHER)), "end"]))
     other = Node(program, 2, addresses, room / "away.log")
-    polls, start = 0, time.perf_counter()
+    polls, taking, start = 0, 0, time.perf_counter()
     while other.held() <= AWAY:
         if polls == AWAY:
             sys.exit(f"behind {polls} polls the site that was away holds {other.held()} events")
         first.poll()
-        other.poll()
+        taking += timed(other.poll)[1]
         polls += 1
     took = time.perf_counter() - start
     if first.ask("show") != other.ask("show"):
         sys.exit("the two sites show different drawings")
     for node in (first, other):
         node.quit()
-    return polls, took
+    return polls, took, taking
 
 
 def echo(port):
@@ -176,15 +176,14 @@ def times_of_syncs(edits, room):
     file = os.open(room / "plain", os.O_CREAT | os.O_RDWR)
     place = 0
     for _, size in edits:
-        # The event, its check and a closed gate.
-        record = bytes(size + 5)
+        record = bytes(size + 1)
         start = time.perf_counter_ns()
         os.pwrite(file, record, place + 1)
         os.fsync(file)
         os.pwrite(file, b"\xC3", place)
         os.fsync(file)
         times.append(time.perf_counter_ns() - start)
-        place += size + 5
+        place += size + 1
     os.close(file)
     return times
 
@@ -215,10 +214,12 @@ def measure(program, count, where):
         row(f"{TOGETHER} moves, one after the other", apart, TOGETHER)
         print(f"a gesture of {TOGETHER} moves takes {median(together) / median(lone):.1f} times as long as a move, and "
               f"{as_one / 1e6:.2f} ms of a processor; as many moves alone {alone / 1e6:.2f} ms")
-        polls, took = catch_up(program, room)
+        polls, took, taking = catch_up(program, room)
         met = "is met" if polls <= POLLS and took <= SECONDS else "is not met"
         print(f"{AWAY:,} moves that were made while it was away come to a site in {polls} polls of each and {took:.2f} s: the bar, at most "
               f"{POLLS} and {SECONDS} s, {met}")
+        print(f"its own polls took {taking / AWAY / 1e3:.1f} us a move, and those that take eight edits, each in a datagram of its own, "
+              f"{median(taken) / EDITS * AWAY / taking:.1f} times as long")
         print(f"an edit to its answer takes {median(typed) / median(echoes):.1f} times as long as a datagram there and back")
         print(f"and {median(typed) / median(syncs):.1f} times as long as the writes and syncs; an edit of a poll of eight "
               f"{median(taken) / EDITS / median(syncs):.1f} times")

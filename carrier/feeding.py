@@ -54,8 +54,7 @@ class Feeding:
     def send(self, loan, held):
         """Hands the node some frames behind the records that it holds. Gives the number of the last record."""
         first, seat, last = held + 1 - loan.first, loan.head.seat, held
-        check = self.feeds[seat].check(held)
-        made = frames(self.session, seat, self.seat, held + 1, loan.records[first:], loan.clocks[first:], check)
+        made = frames(self.session, seat, self.seat, held + 1, loan.records[first:], loan.clocks[first:])
         for each in islice(made, FRAMES):
             self.deliver(seat, each)
             last = count_of(each)

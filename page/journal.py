@@ -6,8 +6,6 @@ from struct import Struct
 HEADER = 11
 GATE = 0xC3
 VERSIONS = (1, 2, 3)
-# From that version on so many bytes of a check stand behind each event.
-CHECKED, CHECK = 3, 4
 KINDS = {1: "rect", 2: "ellipse", 3: "line", 4: "text"}
 OBJECT_KINDS = {**KINDS, 5: "group"}
 HEIGHTS = {0: "low", 1: "high"}
@@ -194,10 +192,6 @@ class Journal:
                 raise BadJournal(f"no event stands at {self.place + at + 1}") from None
             except (IndexError, struct.error):
                 # Its bytes aren't all there: it is read when they are.
-                break
-            if self.version >= CHECKED:
-                end += CHECK
-            if end > len(data):
                 break
             events.append(event)
             at = end

@@ -68,19 +68,13 @@ def item_of(line):
 
 
 def note_of(line):
-    """What a line of `who` says of a site's note."""
+    """What a line of `who` says of a site."""
     _, site, name, _, focus = line.split(" ")
     return {"site": int(site), "name": None if name == "-" else name, "focus": None if focus == "-" else focus}
 
 
-def notes_of(answer):
-    """The notes that the answer to `who` tells. Its other lines say from whom the node has parted."""
-    return [note_of(line) for line in answer if line.startswith("who ")]
-
-
 def standing_of(line):
-    """What the answer to `status` says: how many events are held and kept, the line, the clock, and, where there are any, from how
-    many the node has parted."""
+    """What the answer to `status` says: how many events are held and kept, the line, and the clock."""
     words = line.split(" ")
     return {name: int(number) for name, number in zip(words[::2], words[1::2])}
 

@@ -6,16 +6,12 @@ from tests.echoes import applied, echoes
 from tests.nodes import answered, started
 from tests.program import DONE, Case, at_a_time
 from tests.read import frame_events
-from tests.spelled import CHECKSUM, OPEN, body_of, changed, checked, crc32c, little, log, rechecked, square
+from tests.spelled import body_of, changed, checked, crc32c, log, rechecked, square
 from tests.test_changes import CHANGES
 from tests.worked import CHECK, EVENT, FRAME
 
 # It is taken, and its event is applied.
 TAKEN = "taken"
-# It shows that its one event is another than the one whose check it has, and brings nothing.
-PARTED = "parted from 2 at 1"
-# The place of that check in a frame.
-HEAD_CHECK = 21
 # The bytes of a frame, and its events, are at most so many.
 MOST, MOST_EVENTS = 1_200, 67
 
@@ -45,7 +41,7 @@ def count_of_events(value):
     """The number of events, in front of one."""
     if value == 0:
         return bad("Trailing", EVENT)
-    return bad("Short", CHECK) if value <= MOST_EVENTS else bad("Field", 35)
+    return bad("Short", CHECK) if value <= MOST_EVENTS else bad("Field", 31)
 
 
 def front(at, value):
@@ -68,65 +64,53 @@ def front(at, value):
         case 14 | 20:
             # The last byte of the count or of the clock, both of which are 1 for the event.
             return TAKEN if value else disorder()
-        case 27 | 28 | 29 | 30 | 31 | 32:
+        case 23 | 24 | 25 | 26 | 27 | 28:
             # A focus has a clock and a site, or neither.
-            return bad("Field", 33)
-        case 33:
-            return bad("Field", 27)
-        case 34:
+            return bad("Field", 29)
+        case 29:
+            return bad("Field", 23)
+        case 30:
             # The length of the name, in front of bytes of which the first is a control character.
-            return bad("Field", 35 if value <= 16 else 34)
-        case 35:
+            return bad("Field", 31 if value <= 16 else 30)
+        case 31:
             return count_of_events(value)
     return TAKEN
 
 
 def tag(value):
     """The tag. What stands behind it is no id, and no group of two."""
-    return bad("Field", 46 if value == 7 else 52 if 2 <= value <= 14 else 45)
+    return bad("Field", 42 if value == 7 else 48 if 2 <= value <= 14 else 41)
 
 
 def event(at, value):
     """What comes of a byte of the event."""
     match at:
-        case 36 | 37 | 38 | 39 | 40 | 43:
+        case 32 | 33 | 34 | 35 | 36 | 39:
             return disorder()
-        case 41 | 44:
+        case 37 | 40:
             # The last byte of the clock or the number: either is 1, and none is above 1 here.
-            return disorder() if value else bad("Field", at - 5 if at == 41 else 43)
-        case 42:
-            return disorder() if is_site(value) else bad("Field", 42)
-        case 45:
+            return disorder() if value else bad("Field", at - 5 if at == 37 else 39)
+        case 38:
+            return disorder() if is_site(value) else bad("Field", 38)
+        case 41:
             return tag(value)
-        case 46:
-            return field(46, 1 <= value <= 4)
-        case 47 | 51:
+        case 42:
+            return field(42, 1 <= value <= 4)
+        case 43 | 47:
             # A place is from C4653600 to 3B9ACA00, and a size from FFF0BDC0 to 000F4240.
             return field(at, value <= 0x3B or value >= 0xC5)
-        case 55 | 59:
+        case 51 | 55:
             return field(at, value == 0)
-        case 56 | 60:
+        case 52 | 56:
             return field(at - 1, value <= 0x0F)
-        case 63:
+        case 59:
             # The length of the label, behind which nothing stands.
-            return bad("Short", CHECK) if value <= 200 else bad("Field", 63)
+            return bad("Short", CHECK) if value <= 200 else bad("Field", 59)
     return TAKEN
 
 
-def retold(change):
-    """The worked frame with that change, the check of its event as it is then, and the checksum."""
-    body = changed(body_of(FRAME), [change])
-    return checked(body[:HEAD_CHECK] + little(crc32c(body[EVENT:])) + body[HEAD_CHECK + CHECKSUM :])
-
-
-def places():
-    """The places in front of the checksum but those of the check of the event."""
-    return [at for at in range(CHECK) if not HEAD_CHECK <= at < HEAD_CHECK + CHECKSUM]
-
-
 def line_of(at, value):
-    """What is printed of the worked frame where that byte, which is none of the check of its event, has that value, which is
-    another one, and that check and the checksum are right."""
+    """What is printed of the worked frame where that byte has that value, which is another one, and the checksum is right."""
     return front(at, value) if at < EVENT else event(at, value)
 
 
@@ -146,8 +130,7 @@ class Frames(Case):
         for (datagram, line), node in zip(rows, at_a_time(received, [(datagram,) for datagram, _ in rows])):
             printed = applied(frame_events(datagram)[0]) if line == TAKEN else line
             self.assertEqual((node.text, node.status), (f"ready 1 of 2\n{printed}\npolled 1\n", DONE), datagram.hex())
-            event = body_of(datagram)[EVENT:] if line == TAKEN else b""
-            event = OPEN + event + little(crc32c(event)) if event else b""
+            event = b"\xC3" + body_of(datagram)[EVENT:] if line == TAKEN else b""
             self.assertEqual(node.journal, log([], closed=False) + event + b"\0", datagram.hex())
 
     def test_the_frame_of_a_node_is_the_worked_one(self):
@@ -176,15 +159,8 @@ class Frames(Case):
         self.expect_received([(each, bad("Check", CHECK)) for each in rows])
 
     def test_a_changed_byte_with_its_checksum_is_refused_or_taken(self):
-        rows = [(at, FRAME[at] ^ change) for at in places() for change in CHANGES]
-        self.expect_received([(retold(row), line_of(*row)) for row in rows])
-
-    # The check of the event is another one, or the event is.
-    def test_another_event_than_the_one_that_is_checked_shows_a_parting(self):
-        rows = [(at, FRAME[at] ^ change) for at in range(HEAD_CHECK, HEAD_CHECK + CHECKSUM) for change in CHANGES]
-        events = [(at, FRAME[at] ^ change) for at in range(EVENT, CHECK) for change in CHANGES]
-        rows += [row for row in events if line_of(*row) == TAKEN]
-        self.expect_received([(rechecked(FRAME, [row]), PARTED) for row in rows])
+        rows = [(at, was ^ change) for at, was in enumerate(body_of(FRAME)) for change in CHANGES]
+        self.expect_received([(rechecked(FRAME, [(at, value)]), line_of(at, value)) for at, value in rows])
 
     # The version; the sender; the site of the event, its count, its clock and its number; its kind; its width, to one more than
     # the greatest; the length of its label; and a byte that is added.
@@ -195,15 +171,15 @@ class Frames(Case):
                 ([(4, 1)], "Version", 4),
                 ([(4, 2)], "Version", 4),
                 ([(9, 0x11)], "Field", 9),
-                ([(42, 1)], "Disorder", 36),
-                ([(13, 0), (14, 0)], "Disorder", 36),
-                ([(20, 0)], "Disorder", 36),
-                ([(43, 0), (44, 0)], "Field", 43),
-                ([(46, 5)], "Field", 46),
-                ([(56, 0x0F), (57, 0x42), (58, 0x41)], "Field", 55),
-                ([(63, 1)], "Short", CHECK),
+                ([(38, 1)], "Disorder", 32),
+                ([(13, 0), (14, 0)], "Disorder", 32),
+                ([(20, 0)], "Disorder", 32),
+                ([(39, 0), (40, 0)], "Field", 39),
+                ([(42, 5)], "Field", 42),
+                ([(52, 0x0F), (53, 0x42), (54, 0x41)], "Field", 51),
+                ([(59, 1)], "Short", 60),
             ]
-        ] + [(checked(body_of(FRAME) + b"\0"), bad("Trailing", CHECK))])
+        ] + [(checked(body_of(FRAME) + b"\0"), bad("Trailing", 60))])
 
     def test_a_frame_that_is_cut_is_short_or_has_another_checksum(self):
         rows = [(FRAME[:length], bad("Short", length)) for length in range(5)]

@@ -2,8 +2,6 @@
 
 import struct
 
-from carrier.frames import CHECKSUM, crc32c
-
 KINDS = {"rect": 1, "ellipse": 2, "line": 3, "text": 4}
 
 
@@ -27,13 +25,8 @@ def create(name, number, kind, x, y, w, h, label=""):
 
 
 def log(head, *records, gate=b"\x00"):
-    """A log of records, with its closing gate. In version three the check of its site's records stands behind each."""
-    checks, gated = {}, []
-    for each in records:
-        site = each[6]
-        checks[site] = crc32c(each, checks.get(site, 0))
-        gated.append(b"\xc3" + each + (CHECKSUM.pack(checks[site]) if head[4] == 3 else b""))
-    return head + b"".join(gated) + gate
+    """A log of records, with its closing gate."""
+    return head + b"".join(b"\xc3" + each for each in records) + gate
 
 
 def large(count, session=7, site=1, sites=2, columns=100, step=30, size=20):

@@ -61,13 +61,9 @@ class Reading(WithFolder):
 
     def test_each_version_reads_alike(self):
         data = bytearray(bytes.fromhex(HEAD + "".join(WORKED) + "00"))
-        for version in (1, 2):
+        for version in (1, 2, 3):
             data[4] = version
             self.assertEqual(self.events(data), MADE)
-        records = [bytes.fromhex(each)[1:] for each in WORKED]
-        data = log(header(), *records)
-        self.assertEqual(data[40:44], bytes.fromhex("4F 60 36 53"))
-        self.assertEqual(self.events(data), MADE)
 
     def test_a_look(self):
         for bytes_of, wanted in LOOK.items():
@@ -128,7 +124,7 @@ class ReadingOn(WithFolder):
         with open(self.journal, "r+b") as file:
             # The event and a closed gate behind it, and then the gate in front of it is opened.
             file.seek(gate + 1)
-            file.write(log(header(), first, second)[gate + 1 :])
+            file.write(second + b"\x00")
             file.flush()
             self.assertEqual(journal.read_on(), [])
             file.seek(gate)
@@ -137,14 +133,12 @@ class ReadingOn(WithFolder):
         self.assertEqual(journal.read_on(), [])
 
     def test_what_was_read_isn_t_read_again(self):
-        first, second = (create(f"{clock}.1", clock, "rect", 0, 0, 1, 1) for clock in (1, 2))
-        self.journal.write_bytes(log(header(), first, gate=b""))
+        self.journal.write_bytes(log(header(), create("1.1", 1, "rect", 0, 0, 1, 1), gate=b""))
         journal = Journal(self.journal)
         journal.read_on()
         with open(self.journal, "r+b") as file:
-            size = self.journal.stat().st_size
-            file.write(b"\xff" * size)
-            file.write(log(header(), first, second, gate=b"")[size:])
+            file.write(b"\xff" * self.journal.stat().st_size)
+            file.write(b"\xc3" + create("2.1", 2, "rect", 0, 0, 1, 1))
         self.assertEqual([event["id"] for event in journal.read_on()], ["2.1"])
 
 

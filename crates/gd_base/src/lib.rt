@@ -23,7 +23,6 @@ mod site_status;
 mod stamp;
 mod steps;
 mod ties;
-mod verdict;
 mod version;
 
 pub use content::{Content, Height, Side, is_within};
@@ -49,5 +48,4 @@ pub use site_status::SiteStatus;
 pub use stamp::Stamp;
 pub use steps::Steps;
 pub use ties::{Tie, Ties};
-pub use verdict::Verdict;
 pub use version::Version;

@@ -12,7 +12,3 @@ version_byte Three = 3
 -- whether a version has what came with the other one
 abbrev pub has_version : Version → Version → Bool
 has_version version first = nat_le (version_byte first) (version_byte version)
-
--- whether a log of that version has a check behind each event, and gates of two values alone
-abbrev pub has_checks : Version → Bool
-has_checks version = has_version version Three

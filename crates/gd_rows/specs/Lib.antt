@@ -14,4 +14,3 @@ pub mod WorkedSnapshots
 pub mod WorkedOps
 pub mod WorkedPairs
 pub mod WorkedViews
-pub mod WorkedChecks

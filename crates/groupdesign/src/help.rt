@@ -187,13 +187,11 @@ Exit statuses: 0, 2, 5, 8, 13.
 example: groupdesign churn --seed 1 --steps 100
 ";
 
-const REPLAY: &str =
-    "usage: groupdesign replay [--format text|json|events] [--counts] [--upto-fault] < LOG
+const REPLAY: &str = "usage: groupdesign replay [--format text|json|events] [--counts] < LOG
 
 Print the drawing of a log, as text (without --format) or JSON, or its events as JSON.
 
-  --counts      print last how many events were applied, covered and repaired
-  --upto-fault  of a log with a fault, print what stands before it, and then the fault
+  --counts  print last how many events were applied, covered and repaired
 
 Exit statuses: 0, 2, 3, 4, 5, 8, 13.
 

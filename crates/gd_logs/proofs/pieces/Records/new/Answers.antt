@@ -1,5 +1,0 @@
-use Rattle.gd_logs.proofs.GestureLemmas.{records-none}
-use Rattle.gd_logs.proofs.pieces.Records.new.Goals as goal
-
-pub returns-clause-none : goal.returns-clause-none
-returns-clause-none g c = λ seen are. rw (c.new.ensures, c.copy.ensures, c.chains.ensures) (records-none g.K.LogKind.kind seen _ are)
