@@ -19,7 +19,7 @@ from make_examples import RECT, STROKE, create, group, log, move, raise_up, rest
 
 ORDERS = ["stamps", "sites", "shuffle"]
 SEED = 7
-# The newest version of a log.
+# The version of the logs: the newest, but where a program beside is older.
 VERSION = 3
 # The most events of a site.
 MOST = 65_535

@@ -35,9 +35,10 @@ TIMES, STEP = 10, 0.7e-6
 def frame_of(first, deed):
     """A frame of site 2 to site 1 with its events from `first` on."""
     numbers = range(first, first + EVENTS)
+    made = [stamp(2 + number, 2) + pack(">H", number) + deed(number) for number in range(1, FRAMES * EVENTS + 1)]
     head = b"GDOF" + bytes([VERSION]) + pack(">I", SESSION) + bytes([2, 1]) + pack(">HH", 0, FRAMES * EVENTS)
-    head += (2 + FRAMES * EVENTS).to_bytes(6, "big") + bytes(2 + 7 + 1) + bytes([EVENTS])
-    body = head + b"".join(stamp(2 + number, 2) + pack(">H", number) + deed(number) for number in numbers)
+    head += (2 + FRAMES * EVENTS).to_bytes(6, "big") + pack("<I", crc32c(b"".join(made))) + bytes(2 + 7 + 1) + bytes([EVENTS])
+    body = head + b"".join(made[number - 1] for number in numbers)
     return body + pack("<I", crc32c(body))
 
 

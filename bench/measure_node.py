@@ -176,14 +176,15 @@ def times_of_syncs(edits, room):
     file = os.open(room / "plain", os.O_CREAT | os.O_RDWR)
     place = 0
     for _, size in edits:
-        record = bytes(size + 1)
+        # The event, its check and a closed gate.
+        record = bytes(size + 5)
         start = time.perf_counter_ns()
         os.pwrite(file, record, place + 1)
         os.fsync(file)
         os.pwrite(file, b"\xC3", place)
         os.fsync(file)
         times.append(time.perf_counter_ns() - start)
-        place += size + 1
+        place += size + 5
     os.close(file)
     return times
 

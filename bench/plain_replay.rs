@@ -162,12 +162,16 @@ fn events(bytes: &[u8]) -> Option<Vec<(Stamp, Operation)>> {
     if bytes.take(4)? != b"GDOL" {
         return None;
     }
-    bytes.take(7)?;
+    let has_checks = bytes.byte()? == 7;
+    bytes.take(6)?;
     let mut events = Vec::new();
     while let Some(0xC3) = bytes.byte() {
         let stamp = bytes.stamp()?;
         bytes.take(2)?;
         events.push((stamp, bytes.operation()?));
+        if has_checks {
+            bytes.take(4)?;
+        }
     }
     Some(events)
 }

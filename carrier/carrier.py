@@ -16,7 +16,7 @@ from carrier.ways import Ways
 from page.addresses import parts_of
 
 # Where the two seats stand in a frame, how it begins, and how many bytes it has at least.
-MAGIC, FROM, TO, LEAST = b"GDOF", 9, 10, 36
+MAGIC, FROM, TO, LEAST = b"GDOF", 9, 10, 40
 STRANGE = "something came that no seat of this session has sealed: it was passed over"
 
 

@@ -54,7 +54,8 @@ class Feeding:
     def send(self, loan, held):
         """Hands the node some frames behind the records that it holds. Gives the number of the last record."""
         first, seat, last = held + 1 - loan.first, loan.head.seat, held
-        made = frames(self.session, seat, self.seat, held + 1, loan.records[first:], loan.clocks[first:])
+        check = self.feeds[seat].check(held)
+        made = frames(self.session, seat, self.seat, held + 1, loan.records[first:], loan.clocks[first:], check)
         for each in islice(made, FRAMES):
             self.deliver(seat, each)
             last = count_of(each)

@@ -7,7 +7,8 @@ import hashlib
 import struct
 from array import array
 
-from page.journal import GATE, HEADER, event_at
+from carrier.frames import crc32c
+from page.journal import CHECK, GATE, HEADER, event_at
 
 DIGEST = 32
 # What reading bytes that are no whole record raises.
@@ -33,9 +34,10 @@ def records_of(data):
 
 
 class Feed:
-    """One seat's records: where each stands, and the digests."""
+    """One seat's records: where each stands, the digests, and the checks."""
 
     def __init__(self, first):
+        self.checks = array("I", [0])
         self.digests, self.places, self.lengths, self.clock = bytearray(first), array("Q"), array("H"), 0
 
     @property
@@ -46,7 +48,12 @@ class Feed:
         """The digest of the first so many records."""
         return bytes(self.digests[DIGEST * count : DIGEST * (count + 1)])
 
+    def check(self, count):
+        """The check of the first so many records, as frames and journals have it."""
+        return self.checks[count]
+
     def add(self, place, record, clock):
+        self.checks.append(crc32c(record, self.checks[-1]))
         self.digests += next_digest(self.digest(self.count), record)
         self.places.append(place)
         self.lengths.append(len(record))
@@ -83,12 +90,14 @@ class Feeds:
             except FAULTS:
                 # Its bytes aren't all there, or the file is none of a node, which then says so.
                 break
+            if end + CHECK > len(data):
+                break
             feed = self.feeds.get(event["site"])
             if feed is None or event["seq"] != feed.count + 1:
                 break
             feed.add(self.place + at + 1, data[at + 1 : end], event["clock"])
             grown.add(event["site"])
-            at = end
+            at = end + CHECK
         self.place += at if len(data) >= at else 0
         return grown
 

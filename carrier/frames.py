@@ -3,9 +3,9 @@
 import struct
 
 MAGIC = b"GDOF\x03"
-# Magic and version, session, from, to, acknowledgement, count, clock; then no note, no focus, no name. Behind the records stands the
-# checksum.
-HEAD, CHECKSUM = struct.Struct(">5sIBBHHHI10x"), struct.Struct("<I")
+# Magic and version, session, from, to, acknowledgement, count, clock. Behind it stand the check of the sender's records, no note, no
+# focus and no name, and behind the records the checksum.
+HEAD, NOTHING, CHECKSUM = struct.Struct(">5sIBBHHHI"), bytes(10), struct.Struct("<I")
 COUNT = slice(13, 15)
 # The records of a frame have at most so many bytes.
 ROOM = 1_144
@@ -25,17 +25,19 @@ def fallen(register):
 FALLEN = [fallen(byte) for byte in range(256)]
 
 
-def crc32c(given):
-    register = 0xFFFFFFFF
+def crc32c(given, check=0):
+    """The CRC-32C of what has that check, with these bytes behind it."""
+    register = check ^ 0xFFFFFFFF
     for byte in given:
         register = FALLEN[(register ^ byte) & 0xFF] ^ register >> 8
     return register ^ 0xFFFFFFFF
 
 
-def frame(session, sender, to, records, count, clock):
-    """A frame with records that fit. It acknowledges nothing, and `count` and `clock` say up to where it speaks."""
+def frame(session, sender, to, records, count, clock, check):
+    """A frame with records that fit. It acknowledges nothing, and `count` and `clock` say up to where it speaks, and `check` is that of
+    the sender's records up to there."""
     head = HEAD.pack(MAGIC, session, sender, to, 0, count, clock >> 32, clock & 0xFFFFFFFF)
-    body = head + bytes([len(records)]) + b"".join(records)
+    body = head + CHECKSUM.pack(check) + NOTHING + bytes([len(records)]) + b"".join(records)
     return body + CHECKSUM.pack(crc32c(body))
 
 
@@ -48,12 +50,13 @@ def fitting(records, first):
     return end
 
 
-def frames(session, sender, to, first, records, clocks):
-    """The frames of records that are numbered from `first` on, with their clocks."""
+def frames(session, sender, to, first, records, clocks, check):
+    """The frames of records that are numbered from `first` on, with their clocks. `check` is that of the records before them."""
     at = 0
     while at < len(records):
         end = fitting(records, at)
-        yield frame(session, sender, to, records[at:end], first + end - 1, clocks[end - 1])
+        check = crc32c(b"".join(records[at:end]), check)
+        yield frame(session, sender, to, records[at:end], first + end - 1, clocks[end - 1], check)
         at = end
 
 
@@ -62,6 +65,6 @@ def count_of(frame):
     return int.from_bytes(frame[COUNT], "big")
 
 
-def closing(session, sender, to, count):
-    """A frame that says that a seat has so many records, and never more."""
-    return frame(session, sender, to, [], count, LAST_CLOCK)
+def closing(session, sender, to, count, check):
+    """A frame that says that a seat has so many records, which have that check, and never more."""
+    return frame(session, sender, to, [], count, LAST_CLOCK, check)

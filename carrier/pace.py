@@ -2,9 +2,9 @@
 
 # Seconds until the same frame goes out again: at first, and at most. A seat that isn't there is only sent one so often.
 FIRST, LONGEST = 1.0, 10.0
-# Where a frame says how many events its seat has, and its clock. One that has nothing else that is new, but for its checksum,
+# Where a frame says how many events its seat has, its clock, and the check of these. One that has nothing else new but its checksum
 # tells a seat what it may be sure of, which can wait so long.
-BEAT, CHECKSUM, BETWEEN = slice(13, 21), 4, 0.5
+BEAT, CHECKSUM, BETWEEN = slice(13, 25), 4, 0.5
 # A seat that said nothing for so many seconds isn't there.
 GONE = 2.5 * LONGEST
 

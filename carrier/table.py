@@ -101,7 +101,8 @@ class Table:
         self.carrier.ways.held = frozenset(self.closed)
         for seat, count in [*dict.fromkeys(free, 0).items(), *ready.items()]:
             if seat != self.own:
-                self.carrier.ways.hand(seat, closing(self.carrier.seat.roster.number, seat, self.own, count))
+                check = self.standing.feeds.feeds[seat].check(count)
+                self.carrier.ways.hand(seat, closing(self.carrier.seat.roster.number, seat, self.own, count, check))
         self.carrier.wake()
 
     # What the page is told.

@@ -5,7 +5,7 @@ import struct
 import subprocess
 import time
 
-from carrier.frames import frames
+from carrier.frames import crc32c, frames
 from carrier.roster import SEATS
 
 LENGTH = struct.Struct(">H")
@@ -19,7 +19,7 @@ class NoView(Exception):
 
 def empty_log(session):
     """A log of a session in which nothing was drawn yet."""
-    return b"GDOL\x03" + session.to_bytes(4, "big") + bytes([1, SEATS, 0])
+    return b"GDOL\x07" + session.to_bytes(4, "big") + bytes([1, SEATS, 0])
 
 
 async def printed(program, command, given):
@@ -35,9 +35,9 @@ async def printed(program, command, given):
     return out
 
 
-def items(session, seat, first, records, clocks):
-    """Records of a seat as the items that stand behind a snapshot: frames, each behind its length."""
-    return b"".join(LENGTH.pack(len(each)) + each for each in frames(session, seat, seat, first, records, clocks))
+def items(session, seat, first, records, clocks, check):
+    """Records of a seat, behind others of that check, as the items that stand behind a snapshot: frames, each behind its length."""
+    return b"".join(LENGTH.pack(len(each)) + each for each in frames(session, seat, seat, first, records, clocks, check))
 
 
 def shown(lines):
@@ -51,7 +51,7 @@ class Viewing:
 
     def __init__(self, program, session, show):
         self.program, self.session, self.show = program, session, show
-        self.base, self.items, self.changed, self.task = b"", [], asyncio.Event(), None
+        self.base, self.items, self.checks, self.changed, self.task = b"", [], {}, asyncio.Event(), None
 
     async def start(self):
         """Has the program make the snapshot that all frames stand behind. Raises `NoView`."""
@@ -65,7 +65,9 @@ class Viewing:
 
     def add(self, seat, first, records, clocks):
         """More records of a seat, behind those that were added before."""
-        self.items.append(items(self.session, seat, first, records, clocks))
+        check = self.checks.get(seat, 0)
+        self.items.append(items(self.session, seat, first, records, clocks, check))
+        self.checks[seat] = crc32c(b"".join(records), check)
         self.changed.set()
 
     async def run(self):

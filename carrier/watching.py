@@ -12,6 +12,7 @@ from pathlib import Path
 from carrier import commands
 from carrier.broker import Broker, login_of, topic
 from carrier.feeds import Feed, first_digest, next_digest, records_of
+from carrier.frames import CHECKSUM, crc32c
 from carrier.heads import Heads
 from carrier.keys import Keys, public_bytes
 from carrier.retiring import SIZE as STATEMENT, retired_of
@@ -30,6 +31,8 @@ from page.server import Server
 
 # What comes is taken so often.
 LOOK = 0.1
+# The place of the seat in a record.
+SEAT = 6
 OTHER_KEY = "the founder lets nobody look on with this link: ask for another one"
 
 
@@ -37,13 +40,19 @@ class Log:
     """The file in which the records lie that came, as a log of the program."""
 
     def __init__(self, path, session):
-        self.path = Path(path)
+        self.path, self.checks = Path(path), {}
         self.path.write_bytes(empty_log(session))
 
     def add(self, records):
         with open(self.path, "r+b") as file:
             file.seek(-1, os.SEEK_END)
-            file.write(b"".join(b"\xc3" + each for each in records) + b"\0")
+            file.write(b"".join(b"\xc3" + each + self.check(each) for each in records) + b"\0")
+
+    def check(self, record):
+        """The bytes of the check behind the next record of a seat."""
+        seat = record[SEAT]
+        self.checks[seat] = crc32c(record, self.checks.get(seat, 0))
+        return CHECKSUM.pack(self.checks[seat])
 
 
 class Feeds:

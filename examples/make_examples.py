@@ -3,9 +3,10 @@
 
 A log is a header, then each event behind an open gate, then a closed gate. Numbers are big-endian.
 
-    header   the letters GDOL; version 1, 2 or 3 (1 byte); the number of the session, which all its sites share (4);
+    header   the letters GDOL; version 1, 2 or 3 (1 byte: 01, 02 or 07); the number of the session, which all its sites share (4);
              the site that keeps the log (1); how many sites there are (1)
-    gate     C3: an event follows; anything else, or the end of the file: the log ends
+    gate     C3: an event follows; 00, or the end of the file: the log ends (before version 3 any byte but C3
+             ends it)
     event    stamp (7); its number among the events of its site (2); tag (1); a body, which the tag tells
     stamp    clock (6); site (1)
 
@@ -49,16 +50,26 @@ STORED_INPUT = HERE.parent / "crates/groupdesign/stdin"
 RECT, ELLIPSE, LINE, TEXT, GROUP = 1, 2, 3, 4, 5
 STROKE, FILL, WIDTH = 1, 2, 3
 NONE = 0xFFFFFFFF
+# The byte of each version of a log.
+VERSION_BYTES = {1: 1, 2: 2, 3: 7}
 OPEN, CLOSED = b"\xC3", b"\x00"
 
 
-def crc32c(given):
-    """The checksum of a frame, bit by bit."""
-    register = 0xFFFFFFFF
+def fallen(register):
+    """A register behind eight bits."""
+    for _ in range(8):
+        register = register >> 1 ^ (0x82F63B78 if register & 1 else 0)
+    return register
+
+
+FALLEN = [fallen(byte) for byte in range(256)]
+
+
+def crc32c(given, check=0):
+    """The check of what has that check, with these bytes behind it."""
+    register = check ^ 0xFFFFFFFF
     for byte in given:
-        register ^= byte
-        for _ in range(8):
-            register = register >> 1 ^ (0x82F63B78 if register & 1 else 0)
+        register = FALLEN[(register ^ byte) & 0xFF] ^ register >> 8
     return register ^ 0xFFFFFFFF
 
 
@@ -167,15 +178,19 @@ def remove_card(clock, site):
 
 
 def header(drawing, site, sites, version=1, magic=b"GDOL"):
-    return magic + bytes([version]) + pack(">I", drawing) + bytes([site, sites])
+    return magic + bytes([VERSION_BYTES[version]]) + pack(">I", drawing) + bytes([site, sites])
 
 
 def log(drawing, site, sites, events, version=1, magic=b"GDOL"):
-    """The bytes of a log. An event is (clock, site, what it does); its number is counted here."""
-    counts, parts = {}, [header(drawing, site, sites, version, magic)]
+    """The bytes of a log. An event is (clock, site, what it does); its number and its check are counted here."""
+    counts, checks, parts = {}, {}, [header(drawing, site, sites, version, magic)]
     for clock, by, what in events:
         counts[by] = counts.get(by, 0) + 1
-        parts.append(OPEN + stamp(clock, by) + pack(">H", counts[by]) + what)
+        event = stamp(clock, by) + pack(">H", counts[by]) + what
+        parts.append(OPEN + event)
+        if version == 3:
+            checks[by] = crc32c(event, checks.get(by, 0))
+            parts.append(pack("<I", checks[by]))
     return b"".join(parts) + CLOSED
 
 
@@ -200,10 +215,12 @@ TWO_SHAPES_SNAPSHOT = (
     + pack(">I", 0)
 )
 
-# A frame of site 2 to site 1, with its second event, which moves the ellipse, and its checksum.
+# A frame of site 2 to site 1, with its second event, which moves the ellipse; the check of both its events, and the frame's checksum.
+MOVE = stamp(2, 2) + pack(">H", 2) + move(1, 1, 7, 8)
+BOTH = crc32c(stamp(1, 2) + pack(">H", 1) + TWO_EVENTS[0][2] + MOVE)
 MOVED_BODY = (
-    b"GDOF" + b"\x03" + pack(">I", 7) + bytes([2, 1]) + pack(">HH", 0, 2) + (2).to_bytes(6, "big") + bytes(2 + 7 + 1)
-    + b"\x01" + stamp(2, 2) + pack(">H", 2) + move(1, 1, 7, 8)
+    b"GDOF" + b"\x03" + pack(">I", 7) + bytes([2, 1]) + pack(">HH", 0, 2) + (2).to_bytes(6, "big") + pack("<I", BOTH) + bytes(2 + 7 + 1)
+    + b"\x01" + MOVE
 )
 MOVED = MOVED_BODY + pack("<I", crc32c(MOVED_BODY))
 TWO_SHAPES_VIEW = TWO_SHAPES_SNAPSHOT + pack(">H", len(MOVED)) + MOVED

@@ -36,6 +36,8 @@ class Desk:
         self.picture, self.news, self.names = Picture(), News(), NameFile(journal)
         self.history, self.peers = History(self.journal, self.note_event), Peers(number, 0)
         self.name, self.who, self.standing, self.end, self.told_peers = "", [], {}, None, None
+        # From which sites the node has parted, and whether others know of own edits that it hasn't.
+        self.parted, self.is_older = [], False
         self.site, self.sites, self.is_demo, self.desks = number, number, False, [number]
         # Edits that earlier runs of the node took, and the number of the last one that was shown.
         self.edits_before, self.shown, self.was_silent, self.is_fault_told = 0, -1, False, False
@@ -81,6 +83,7 @@ class Desk:
             self.told_events = len(self.history.events)
             self.name = self.names.read()
         self.peers.resume()
+        self.take_parted([], False)
         if self.name:
             self.node.type(b"name " + word_of(self.name).encode())
 
@@ -210,11 +213,20 @@ class Desk:
         self.who = who
         self.tell("who", who=who)
 
+    def take_parted(self, sites, is_older):
+        """Tells whose edits are others here than there, or that the own ones are, where that is news. It is so until the node is
+        begun anew."""
+        if (sites, is_older) != (self.parted, self.is_older):
+            self.parted, self.is_older = sites, is_older
+            self.tell("parted", sites=sites, older=is_older)
+
     def take_news(self, came, last):
         """Tells what a poll said, and gives its echoes."""
         news = [lines.news_of(line) for line in came]
         if last.startswith("link fault"):
             news.append({"what": "said", "line": last})
+        if any(map(lines.is_older, came)):
+            self.take_parted(self.parted, True)
         echoes = [each for each in news if each["what"] in lines.ECHOES]
         for each in echoes:
             self.history.came(each)
@@ -290,6 +302,7 @@ class Desk:
         yield message("news", desk=self.number, news=list(self.news.entries), earlier=True)
         yield message("who", desk=self.number, who=self.who)
         yield message("standing", desk=self.number, standing=self.standing)
+        yield message("parted", desk=self.number, sites=self.parted, older=self.is_older)
         silence = self.node.silence() if self.node else 0
         yield message("peers", desk=self.number, **self.peers.told(self.called(), silence))
         # Before the node has shown the drawing there is none, which isn't the same as an empty one: a page would show that.

@@ -123,7 +123,8 @@ def demo_desks(given, audience, room):
 def advice(status, desk):
     """What to do where a node ended at once with a status; it may be nothing."""
     if status == 3:
-        return f" Is {desk.journal} another file? Where it is one of groupdesign, put back a whole copy of it under another name."
+        shown = f"`{desk.program} replay --upto-fault < {desk.journal}` shows what it has up to there"
+        return f" Is {desk.journal} another file? Where it is one of groupdesign, {shown}; go on with its newest whole copy, under another name."
     if status == 11:
         return f" Give the session, the site and all addresses with which {desk.journal} was begun, or name another file."
     if status == 6:

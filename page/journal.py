@@ -5,7 +5,10 @@ from struct import Struct
 
 HEADER = 11
 GATE = 0xC3
-VERSIONS = (1, 2, 3)
+# The versions of a log, each by its byte.
+VERSIONS = {1: 1, 2: 2, 7: 3}
+# From that version on so many bytes of a check stand behind each event.
+CHECKED, CHECK = 3, 4
 KINDS = {1: "rect", 2: "ellipse", 3: "line", 4: "text"}
 OBJECT_KINDS = {**KINDS, 5: "group"}
 HEIGHTS = {0: "low", 1: "high"}
@@ -193,6 +196,10 @@ class Journal:
             except (IndexError, struct.error):
                 # Its bytes aren't all there: it is read when they are.
                 break
+            if self.version >= CHECKED:
+                end += CHECK
+            if end > len(data):
+                break
             events.append(event)
             at = end
         self.place += at or 0
@@ -204,5 +211,5 @@ class Journal:
             return None
         if data[:4] != b"GDOL" or data[4] not in VERSIONS:
             raise BadJournal("it is no log")
-        self.version = data[4]
+        self.version = VERSIONS[data[4]]
         return HEADER

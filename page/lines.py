@@ -68,13 +68,29 @@ def item_of(line):
 
 
 def note_of(line):
-    """What a line of `who` says of a site."""
+    """What a line of `who` says of a site's note."""
     _, site, name, _, focus = line.split(" ")
     return {"site": int(site), "name": None if name == "-" else name, "focus": None if focus == "-" else focus}
 
 
+def notes_of(answer):
+    """The notes that the answer to `who` tells."""
+    return [note_of(line) for line in answer if line.startswith("who ")]
+
+
+def parted_of(answer):
+    """From whom the node has parted, by the answer to `who`: these sites."""
+    return [int(line.split(" ")[2]) for line in answer if line.startswith("parted from ")]
+
+
+def is_older(line):
+    """Whether a line of a poll's answer says that others know of own edits that the node hasn't."""
+    return line.startswith("frame refused: OverAck ")
+
+
 def standing_of(line):
-    """What the answer to `status` says: how many events are held and kept, the line, and the clock."""
+    """What the answer to `status` says: how many events are held and kept, the line, the clock, and, where there are any, from how
+    many the node has parted."""
     words = line.split(" ")
     return {name: int(number) for name, number in zip(words[::2], words[1::2])}
 

@@ -113,6 +113,7 @@ class Rounds:
     async def ask_notes(self):
         """Asks for the notes of all and for the numbers."""
         self.notes_due, self.asked_at = False, time.monotonic()
-        notes = [lines.note_of(line) for line in (await self.ask(b"who"))[:-1]]
-        self.desk.take_notes([{**each, "name": read_word(each["name"])} for each in notes])
+        answer = await self.ask(b"who")
+        self.desk.take_notes([{**each, "name": read_word(each["name"])} for each in lines.notes_of(answer)])
+        self.desk.take_parted(lines.parted_of(answer), self.desk.is_older)
         await self.ask_standing()

@@ -4,15 +4,15 @@ import os
 import subprocess
 from pathlib import Path
 
-# A log begins with four letters and its version (docs/FORMATS.md, section 1).
-MAGIC, NEWEST = b"GDOL", 3
+# A log begins with four letters and the byte of its version, which of an older one is its number (docs/FORMATS.md, section 1).
+MAGIC, OLDER = b"GDOL", (1, 2)
 
 
 def version_of(journal):
     """The version of a log, or None where the file isn't one of a version that is older than the newest."""
     with open(journal, "rb") as file:
         start = file.read(5)
-    return start[4] if len(start) == 5 and start[:4] == MAGIC and 1 <= start[4] < NEWEST else None
+    return start[4] if len(start) == 5 and start[:4] == MAGIC and start[4] in OLDER else None
 
 
 def synced(path):

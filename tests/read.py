@@ -1,6 +1,6 @@
 """Events that are read from logs and frames, from docs/FORMATS.md alone: only what is sound is handed to this."""
 
-from tests.spelled import HEIGHTS, NO_FILL, OBJECT_KINDS, STYLES, TAGS, header
+from tests.spelled import CHECKSUM, HEIGHTS, NO_FILL, OBJECT_KINDS, STYLES, TAGS, VERSION, VERSION_BYTES, header
 
 NAMES = {tag: name for name, tag in TAGS.items() if name not in STYLES}
 KIND_NAMES = {byte: name for name, byte in OBJECT_KINDS.items()}
@@ -8,7 +8,7 @@ HEIGHT_NAMES = {byte: name for name, byte in HEIGHTS.items()}
 STYLE_NAMES = {byte: name for name, byte in STYLES.items()}
 RESTYLE = 5
 # The place of the events in a frame without a name, and that of the length of the name.
-EVENTS, NAME = 32, 30
+EVENTS, NAME = 36, 34
 
 
 class Reader:
@@ -85,10 +85,22 @@ class Reader:
 
 def events_of(log):
     """The events of a log, each its stamp, its number and its operation."""
-    reader, events = Reader(log, len(header())), []
+    reader, events, has_checks = Reader(log, len(header())), [], log[4] == VERSION_BYTES[VERSION]
     while reader.take(1) == b"\xC3":
         events.append(reader.event())
+        reader.take(CHECKSUM * has_checks)
     return events
+
+
+def places_of(journal):
+    """The places of the gates of a log of version three, the closing one too, and those of its checks."""
+    reader, gates, checks = Reader(journal, len(header())), [len(header())], []
+    while reader.take(1) == b"\xC3":
+        reader.event()
+        checks.append(reader.at)
+        reader.take(CHECKSUM)
+        gates.append(reader.at)
+    return gates, checks
 
 
 def frame_events(datagram):

@@ -8,7 +8,8 @@ STYLES = {"stroke": 1, "fill": 2, "width": 3}
 # What an object of a restore is: a shape, or a group.
 OBJECT_KINDS = KINDS | {"group": 5}
 HEIGHTS = {"low": 0, "high": 1}
-VERSION = 3
+# The newest version of each format, and the byte of each version of a log.
+VERSION, VERSION_BYTES = 3, {1: 1, 2: 2, 3: 7}
 NO_FILL = 0xFFFFFFFF
 OPEN, CLOSED = b"\xC3", b"\0"
 # That of CRC-32C, 1EDC6F41, from its lowest bit to its highest.
@@ -88,13 +89,39 @@ def record(id, turn, op):
 
 
 def header(session=7, site=1, sites=2, version=VERSION, magic=b"GDOL"):
-    return magic + number(version, 1) + number(session, 4) + number(site, 1) + number(sites, 1)
+    return magic + number(VERSION_BYTES[version], 1) + number(session, 4) + number(site, 1) + number(sites, 1)
+
+
+def checks(events, behind=()):
+    """For each event, where these stand before them all, the check of its site's events up to it."""
+    found, of_sites = [], {}
+    for event in [*behind, *events]:
+        site = event[0][1]
+        of_sites[site] = crc32c(record(*event), of_sites.get(site, 0))
+        found.append(of_sites[site])
+    return found[len(behind) :]
+
+
+def chain(events):
+    """The check of the events of one site, from its first one on."""
+    return crc32c(b"".join(record(*event) for event in events))
+
+
+def little(check):
+    """A check of four bytes, the lowest first."""
+    return check.to_bytes(CHECKSUM, "little")
+
+
+def checked_records(events, behind=()):
+    """What stands behind the gate of each event in a log of version three, where these events stand before them."""
+    return [record(*event) + little(check) for event, check in zip(events, checks(events, behind))]
 
 
 def log(events, closed=True, **of):
-    """A log of these events, each a stamp, a number and an operation."""
-    records = b"".join(OPEN + record(*event) for event in events)
-    return header(**of) + records + (CLOSED if closed else b"")
+    """A log of these events, each a stamp, a number and an operation. In version three its check stands behind each."""
+    events, has_checks = list(events), of.get("version", VERSION) == 3
+    records = checked_records(events) if has_checks else [record(*event) for event in events]
+    return header(**of) + b"".join(OPEN + each for each in records) + (CLOSED if closed else b"")
 
 
 def square(id, turn):
@@ -112,8 +139,9 @@ def fallen(register):
 FALLEN = [fallen(byte) for byte in range(256)]
 
 
-def crc32c(given):
-    register = 0xFFFFFFFF
+def crc32c(given, check=0):
+    """The CRC-32C of bytes, or, of what has that check, with them behind it."""
+    register = check ^ 0xFFFFFFFF
     for byte in given:
         register = FALLEN[(register ^ byte) & 0xFF] ^ register >> 8
     return register ^ 0xFFFFFFFF
@@ -121,7 +149,7 @@ def crc32c(given):
 
 def checked(body):
     """A frame: what stands in front of its checksum, and that."""
-    return body + crc32c(body).to_bytes(CHECKSUM, "little")
+    return body + little(crc32c(body))
 
 
 def body_of(datagram):
@@ -129,12 +157,15 @@ def body_of(datagram):
     return datagram[:-CHECKSUM]
 
 
-def frame(events=(), sender=2, to=1, held=0, count=None, clock=None, note=0, focus=(0, 0), name=b"", session=7):
-    """A frame. Its count and its clock are those of its last event, where none are given."""
+def frame(
+    events=(), sender=2, to=1, held=0, count=None, clock=None, note=0, focus=(0, 0), name=b"", session=7, before=(), check=None
+):
+    """A frame. Its count and its clock are those of its last event, where none are given, and its check is that of the events
+    before its own ones and of these."""
     count = count if count is not None else events[-1][1] if events else 0
     clock = clock if clock is not None else events[-1][0][0] if events else 0
     front = b"GDOF" + number(VERSION, 1) + number(session, 4) + number(sender, 1) + number(to, 1) + number(held, 2) + number(count, 2)
-    front += number(clock, 6) + number(note, 2) + stamp(focus) + number(len(name), 1) + name
+    front += number(clock, 6) + little(chain([*before, *events]) if check is None else check) + number(note, 2) + stamp(focus) + number(len(name), 1) + name
     return checked(front + number(len(events), 1) + b"".join(record(*event) for event in events))
 
 

@@ -25,13 +25,13 @@ ANSWER = frame(sender=1, to=2, held=1, clock=1)
 TURNS = [
     # The second frame lacks an event, which the third one has.
     (
-        [frame([RECT]), frame([THIRD, FOURTH]), frame([SECOND, THIRD, FOURTH])],
+        [frame([RECT]), frame([THIRD, FOURTH], before=[RECT, SECOND]), frame([SECOND, THIRD, FOURTH], before=[RECT])],
         "poll\nstatus\n",
         echoes(RECT, SECOND, THIRD, FOURTH) + "polled 3\nheld 4 kept 0 line 4 clock 4\n",
     ),
     # The first frame promises that nothing up to clock 9 is to come.
     (
-        [frame([RECT, SECOND], clock=9), frame([((9, 2), 3, ("raise", (1, 2)))])],
+        [frame([RECT, SECOND], clock=9), frame([((9, 2), 3, ("raise", (1, 2)))], before=[RECT, SECOND])],
         "poll\nstatus\n",
         echoes(RECT, SECOND) + "event 9.2 refused: Backdated 9 9\npolled 2\nheld 2 kept 0 line 2 clock 2\n",
     ),
@@ -56,7 +56,7 @@ TURNS = [
 ]
 
 # The front of the worked frame, which has no events.
-BEAT = frame(count=1, clock=1)
+BEAT = frame(count=1, clock=1, before=[RECT])
 
 
 class Arrivals(Case):
@@ -85,7 +85,7 @@ class Arrivals(Case):
             bytes(8193),
         ]
         printed = (
-            "frame refused: Short at 0\nframe refused: Trailing at 60\nframe refused: Magic at 0\nframe refused: Check at 60\n"
+            "frame refused: Short at 0\nframe refused: Trailing at 64\nframe refused: Magic at 0\nframe refused: Check at 64\n"
             "frame refused: Session\nframe refused: OverAck 1 0\nframe refused: TooLong\npolled 7\nheld 0 kept 0 line 0 clock 0\n"
         )
         node = self.expect_poll(datagrams, "poll\nstatus\nquit\n", printed)

@@ -29,14 +29,15 @@ LOOKS = ["openat", "statx", "flock"]
 @dataclass(frozen=True)
 class Plan:
     """A short session of site 1 of two: its journal when it starts, if there is one, what is typed, the events of the other site that
-    have come by then, in one frame, the events that the journal has in the end, as they are recorded together, and what is printed
-    where no call fails: each line with the number of the events that it tells of."""
+    have come by then, in one frame, the events that the journal has in the end, as they are recorded together, what is printed
+    where no call fails, each line with the number of the events that it tells of, and the other site's events in that journal."""
 
     contents: bytes | None
     typed: bytes
     theirs: list
     recorded: list
     lines: list
+    before: tuple = ()
 
     @property
     def events(self):
@@ -73,6 +74,7 @@ AGAIN = Plan(
     [RAISE],
     [KEPT, [square((2, 1), 2)], [RAISE], [((3, 1), 3, ("move", (2, 1), 5, 5))]],
     [("ready 1 of 2", 2), ("ok 2.1", 3), (applied(RAISE), 4), ("polled 1", 4), ("ok 3.1", 5), ("polled 0", 5)],
+    (OTHERS,),
 )
 # Several edits as one, a frame of several events, and an undo; and a gesture that never ends.
 MADE = [square((1, 1), 1), square((2, 1), 2), ((3, 1), 3, ("fill", (1, 1), 0xFF00))]
@@ -124,7 +126,7 @@ def session(plan, *strace):
             with Node(1, [*free_addresses(1), peer.address], folder / "j", *flags, under=under) as node:
                 first = node.read_line()
                 if first:
-                    peer.send(node, frame(plan.theirs))
+                    peer.send(node, frame(plan.theirs, before=plan.before))
                 printed, status, _ = node.end(plan.typed)
         finally:
             peer.close()

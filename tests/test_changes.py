@@ -72,7 +72,7 @@ def header(at, value):
     if at < 4:
         return 0, "Magic"
     if at == 4:
-        return None if value in (2, 3) else (4, "Version")
+        return None if value == 2 else (40, "Check") if value == 7 else (4, "Version")
     return header_site(value) if at == 9 else sites(value) if at == 10 else None
 
 

@@ -4,19 +4,26 @@ from tests.echoes import applied, echoes
 from tests.nodes import answered, started
 from tests.program import DONE, Case
 from tests.read import frame_events
-from tests.spelled import GREATEST_CLOCK, body_of, changed, checked, frame, log, number, rechecked, record, square
-from tests.test_frames import AT_ONCE, TAKEN, bad, line_of, noticed
+from tests.spelled import CHECKSUM, GREATEST_CLOCK, OPEN, chain, changed, checked, crc32c, frame, little, log, number, rechecked, record
+from tests.spelled import square
+from tests.test_frames import AT_ONCE, HEAD_CHECK, PARTED, TAKEN, bad, line_of, noticed, places, retold
 from tests.worked import CHECK, EVENT, FRAME
 
 BODY = EVENT + 10
 SIXTEEN, FARTHEST = b"sixteen-letters!", 1_000_000_000
 
 
-def numbered(turn, body):
-    """The worked frame and its event where that has that number and clock, and that body behind its tag."""
-    clock = number(turn, 6)
-    event = clock + FRAME[38:39] + number(turn, 2) + FRAME[41:BODY] + body
-    return checked(FRAME[:13] + number(turn, 2) + clock + FRAME[21:EVENT] + event), event
+def numbered(bodies):
+    """For each body the worked frame and its event where that has it behind its tag, is numbered in turn, and has that clock; and the
+    check of all events up to it."""
+    rows, check = [], 0
+    for turn, body in enumerate(bodies, 1):
+        clock = number(turn, 6)
+        event = clock + FRAME[EVENT + 6 : EVENT + 7] + number(turn, 2) + FRAME[EVENT + 9 : BODY] + body
+        check = crc32c(event, check)
+        front = FRAME[:13] + number(turn, 2) + clock + little(check) + FRAME[HEAD_CHECK + CHECKSUM : EVENT]
+        rows.append((checked(front + event), event + little(check)))
+    return rows
 
 
 class Datagrams(Case):
@@ -44,17 +51,21 @@ class Datagrams(Case):
 
     # The frame was taken before. So each changed one with its checksum is refused, with its line, or brings nothing new.
     def test_each_other_byte_in_each_place_with_its_checksum(self):
-        rows = [(at, value) for at, was in enumerate(body_of(FRAME)) for value in range(256) if value != was]
+        rows = [(at, value) for at in places() for value in range(256) if value != FRAME[at]]
+        checks = [(at, value) for at in range(HEAD_CHECK, HEAD_CHECK + CHECKSUM) for value in range(256) if value != FRAME[at]]
         told = {row: line_of(*row) for row in rows}
         refused = [row for row in rows if told[row] != TAKEN]
         taken = [row for row in rows if told[row] == TAKEN]
         with started((1, 2)) as (node, peers):
             self.assertTrue(node.is_ready())
             self.assertEqual(self.polled(node, peers[2], [FRAME]), [applied(square((1, 2), 1))])
-            lines = self.polled(node, peers[2], [rechecked(FRAME, [row]) for row in refused])
+            lines = self.polled(node, peers[2], [retold(row) for row in refused])
             for row, line in zip(refused, lines, strict=True):
                 self.assertEqual(line, told[row], row)
             self.assertEqual(self.polled(node, peers[2], [rechecked(FRAME, [row]) for row in taken]), [])
+            # Another check of one event is said once.
+            self.assertEqual(self.polled(node, peers[2], [rechecked(FRAME, [row]) for row in checks]), [PARTED])
+            self.assertEqual(node.ask("status"), ["held 1 kept 0 line 1 clock 1 parted 1"])
             self.assertEqual(node.journal.read_bytes(), log([square((1, 2), 1)]))
 
     def test_each_body_that_is_taken_is_journalled_as_it_came(self):
@@ -63,12 +74,12 @@ class Datagrams(Case):
             for at in range(BODY, CHECK) for value in range(256)
             if value != FRAME[at] and line_of(at, value) == TAKEN
         ]
-        pairs = [numbered(turn, body) for turn, body in enumerate(bodies, 1)]
+        pairs = numbered(bodies)
         with started((1, 2)) as (node, peers):
             self.assertTrue(node.is_ready())
             lines = self.polled(node, peers[2], [datagram for datagram, _ in pairs])
             self.assertEqual(lines, [applied(frame_events(datagram)[0]) for datagram, _ in pairs])
-            events = b"".join(b"\xC3" + event for _, event in pairs)
+            events = b"".join(OPEN + event for _, event in pairs)
             self.assertTrue(node.journal.read_bytes() == log([], closed=False) + events + b"\0", "another journal")
 
     # An event of its own id, and a group that names one id twice.
@@ -78,7 +89,7 @@ class Datagrams(Case):
             frame([((2, 2), 1, ("group", ((1, 2), 0, 0), ((1, 2), 0, 0)))]),
         ]
         node = answered((1, 2), "poll\n", datagrams)
-        printed = "frame refused: FutureId at 42\nframe refused: MemberOrder at 58\npolled 2\n"
+        printed = "frame refused: FutureId at 46\nframe refused: MemberOrder at 62\npolled 2\n"
         self.assertEqual((node.text, node.status), (f"ready 1 of 2\n{printed}", DONE))
 
 
@@ -94,7 +105,7 @@ class Longest(Case):
         put_back = (base + 101, 16), 1, ("restore", (base + 50, 16), whole, *ties)
         of = {"clock": GREATEST_CLOCK, "note": 65_535, "focus": (GREATEST_CLOCK, 16), "name": SIXTEEN}
         of |= {"session": 2**32 - 1, "sender": 16}
-        rects = [((base + 102, 16), 2, ("create", "rect", 0, 0, 10, 10, "a" * letters)) for letters in (114, 115)]
+        rects = [((base + 102, 16), 2, ("create", "rect", 0, 0, 10, 10, "a" * letters)) for letters in (110, 111)]
         (longest, longer), event = [frame([put_back, rect], **of) for rect in rects], record(*put_back)
         self.assertEqual((len(longest), len(longer), len(event)), (1_200, 1_201, 1_006))
         self.assertEqual(event[:18], bytes.fromhex("FFFFFFFFFFF8 10 0001 0B FFFFFFFFFFC5 10 02"))
@@ -113,9 +124,9 @@ class Longest(Case):
     def test_most_events_are_taken(self):
         events = [((clock, 2), clock - 1, ("delete", (1, 1))) for clock in range(2, 70)]
         most, more = (frame(events[:count]) for count in (67, 68))
-        self.assertEqual((len(most), len(more)), (1_175, 1_192))
+        self.assertEqual((len(most), len(more)), (1_179, 1_196))
         node = answered((1, 2), "poll\n", [more, most])
-        printed = f"{bad('Field', 31)}\n{echoes(*events[:67])}polled 2\n"
+        printed = f"{bad('Field', 35)}\n{echoes(*events[:67])}polled 2\n"
         self.assertEqual((node.text, node.status), (f"ready 1 of 2\n{printed}", DONE))
 
     def acknowledged(self, node, peer, made):
@@ -155,20 +166,22 @@ class Longest(Case):
             self.assertEqual(held, 256)
             self.assertEqual([node.ask("name sixteen-letters!"), node.ask("focus 256.2")], [["noted 1"], ["noted 2"]])
             grouping = [f"group {' '.join(f'{clock}.{site}' for clock, site in part)}" for part in ids]
+            before = [square((clock, 2), clock) for clock in range(1, 257)]
             for events, lines, fit, end, sizes in [
-                (groups, grouping, 2, [], [1_034] * 4),
-                (disbands, ["undo"] * 8, 4, ["end 1"], [1_148] * 2),
-                (restores, ["redo"] * 8, 1, ["end 1"], [843] * 8),
+                (groups, grouping, 2, [], [1_038] * 4),
+                (disbands, ["undo"] * 8, 4, ["end 1"], [1_152] * 2),
+                (restores, ["redo"] * 8, 1, ["end 1"], [847] * 8),
             ]:
                 for turn, line in enumerate(lines):
                     clock = events[turn][0][0]
                     self.assertEqual(node.ask(line), [f"ok {clock}.2", *end])
                     self.assertEqual(node.held(), clock)
                     # Of those that fit each sends the ones before it, too.
-                    told = [frame(events[: turn + 1], **of)] if turn < fit else []
+                    told = [frame(events[: turn + 1], before=before, **of)] if turn < fit else []
                     self.assertEqual(peers[1].received(), told, clock)
                 sent, held = self.acknowledged(node, peers[1], held)
                 parts = [events[first : first + fit] for first in range(0, 8, fit)]
-                told = [frame(part, **of | {"count": held, "clock": held}) for part in parts]
+                before += events
+                told = [frame(part, check=chain(before), **of | {"count": held, "clock": held}) for part in parts]
                 self.assertEqual([datagram for datagram, _ in sent], told)
                 self.assertEqual([len(datagram) for datagram, _ in sent], sizes)

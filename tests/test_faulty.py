@@ -5,7 +5,7 @@ import subprocess
 
 from tests.nodes import Node, free_addresses, node_words, room
 from tests.program import DONE, JOURNAL_FAULT, LINK_FAULT, LONGEST, PROGRAM, USAGE, WRITE_FAULT, Case, at_a_time, run_program
-from tests.spelled import CLOSED, OPEN, log, record, square
+from tests.spelled import CLOSED, OPEN, checked_records, log, square
 from tests.test_calls import OTHERS, STRACE, Plan, may_trace, read_in_pieces, session
 from tests.test_statuses import limited
 from tests.worked import TIE
@@ -14,10 +14,11 @@ ONE, TWO = square((1, 1), 1), ((2, 1), 2, ("create", "rect", 5, 5, 10, 10, ""))
 TYPED = b"create rect 0 0 10 10\ncreate rect 5 5 10 10\nquit\n"
 LINES = [("ready 1 of 2", 0), ("ok 1.1", 1), ("ok 2.1", 2)]
 APPENDED = Plan(None, TYPED, [OTHERS], [[ONE], [TWO]], LINES)
+FIRST_RECORD, SECOND_RECORD = checked_records([ONE, TWO])
 # A record stands behind the closed gate before that gate is opened.
 HEADER, FIRST, BOTH = log([]), log([ONE]), log([ONE, TWO])
-SECOND_WRITTEN = FIRST[:-1] + CLOSED + record(*TWO) + CLOSED
-FIRST_WRITTEN = HEADER + record(*ONE) + CLOSED
+SECOND_WRITTEN = FIRST[:-1] + CLOSED + SECOND_RECORD + CLOSED
+FIRST_WRITTEN = HEADER + FIRST_RECORD + CLOSED
 
 # The call that fails and which of its name it is, how many lines are printed, and what the journal is then: none before the
 # header was synced, and its name in the folder. Two syncs come behind the first write, and one behind each other. The last
@@ -37,7 +38,7 @@ TOGETHER = Plan(
     [[ONE, TWO]],
     [("ready 1 of 2", 0), ("ok 1.1", 2), ("ok 2.1", 2), ("end 2", 2)],
 )
-BOTH_WRITTEN = HEADER + record(*ONE) + OPEN + record(*TWO) + CLOSED
+BOTH_WRITTEN = HEADER + FIRST_RECORD + OPEN + SECOND_RECORD + CLOSED
 GESTURE_FAULTS = [
     ("pwrite64", 2, 1, HEADER), ("fsync", 3, 1, BOTH_WRITTEN), ("pwrite64", 3, 1, BOTH_WRITTEN), ("fsync", 4, 1, BOTH),
     ("pwrite64", 4, 4, BOTH), ("fsync", 5, 4, BOTH),

@@ -1,17 +1,22 @@
 """A node's frames on their way to another node: cut, with each bit changed, and made of other bytes with their checksum."""
 
+import random
 from contextlib import ExitStack
 
 from tests.echoes import applied, echoes
 from tests.nodes import answered, started
 from tests.program import DONE, Case, at_a_time
 from tests.read import frame_events
-from tests.spelled import body_of, changed, checked, crc32c, log, rechecked, square
+from tests.spelled import CHECKSUM, OPEN, body_of, changed, checked, crc32c, little, log, rechecked, square
 from tests.test_changes import CHANGES
 from tests.worked import CHECK, EVENT, FRAME
 
 # It is taken, and its event is applied.
 TAKEN = "taken"
+# It shows that its one event is another than the one whose check it has, and brings nothing.
+PARTED = "parted from 2 at 1"
+# The place of that check in a frame.
+HEAD_CHECK = 21
 # The bytes of a frame, and its events, are at most so many.
 MOST, MOST_EVENTS = 1_200, 67
 
@@ -41,7 +46,7 @@ def count_of_events(value):
     """The number of events, in front of one."""
     if value == 0:
         return bad("Trailing", EVENT)
-    return bad("Short", CHECK) if value <= MOST_EVENTS else bad("Field", 31)
+    return bad("Short", CHECK) if value <= MOST_EVENTS else bad("Field", 35)
 
 
 def front(at, value):
@@ -64,53 +69,65 @@ def front(at, value):
         case 14 | 20:
             # The last byte of the count or of the clock, both of which are 1 for the event.
             return TAKEN if value else disorder()
-        case 23 | 24 | 25 | 26 | 27 | 28:
+        case 27 | 28 | 29 | 30 | 31 | 32:
             # A focus has a clock and a site, or neither.
-            return bad("Field", 29)
-        case 29:
-            return bad("Field", 23)
-        case 30:
+            return bad("Field", 33)
+        case 33:
+            return bad("Field", 27)
+        case 34:
             # The length of the name, in front of bytes of which the first is a control character.
-            return bad("Field", 31 if value <= 16 else 30)
-        case 31:
+            return bad("Field", 35 if value <= 16 else 34)
+        case 35:
             return count_of_events(value)
     return TAKEN
 
 
 def tag(value):
     """The tag. What stands behind it is no id, and no group of two."""
-    return bad("Field", 42 if value == 7 else 48 if 2 <= value <= 14 else 41)
+    return bad("Field", 46 if value == 7 else 52 if 2 <= value <= 14 else 45)
 
 
 def event(at, value):
     """What comes of a byte of the event."""
     match at:
-        case 32 | 33 | 34 | 35 | 36 | 39:
+        case 36 | 37 | 38 | 39 | 40 | 43:
             return disorder()
-        case 37 | 40:
+        case 41 | 44:
             # The last byte of the clock or the number: either is 1, and none is above 1 here.
-            return disorder() if value else bad("Field", at - 5 if at == 37 else 39)
-        case 38:
-            return disorder() if is_site(value) else bad("Field", 38)
-        case 41:
-            return tag(value)
+            return disorder() if value else bad("Field", at - 5 if at == 41 else 43)
         case 42:
-            return field(42, 1 <= value <= 4)
-        case 43 | 47:
+            return disorder() if is_site(value) else bad("Field", 42)
+        case 45:
+            return tag(value)
+        case 46:
+            return field(46, 1 <= value <= 4)
+        case 47 | 51:
             # A place is from C4653600 to 3B9ACA00, and a size from FFF0BDC0 to 000F4240.
             return field(at, value <= 0x3B or value >= 0xC5)
-        case 51 | 55:
+        case 55 | 59:
             return field(at, value == 0)
-        case 52 | 56:
+        case 56 | 60:
             return field(at - 1, value <= 0x0F)
-        case 59:
+        case 63:
             # The length of the label, behind which nothing stands.
-            return bad("Short", CHECK) if value <= 200 else bad("Field", 59)
+            return bad("Short", CHECK) if value <= 200 else bad("Field", 63)
     return TAKEN
 
 
+def retold(change):
+    """The worked frame with that change, the check of its event as it is then, and the checksum."""
+    body = changed(body_of(FRAME), [change])
+    return checked(body[:HEAD_CHECK] + little(crc32c(body[EVENT:])) + body[HEAD_CHECK + CHECKSUM :])
+
+
+def places():
+    """The places in front of the checksum but those of the check of the event."""
+    return [at for at in range(CHECK) if not HEAD_CHECK <= at < HEAD_CHECK + CHECKSUM]
+
+
 def line_of(at, value):
-    """What is printed of the worked frame where that byte has that value, which is another one, and the checksum is right."""
+    """What is printed of the worked frame where that byte, which is none of the check of its event, has that value, which is
+    another one, and that check and the checksum are right."""
     return front(at, value) if at < EVENT else event(at, value)
 
 
@@ -130,7 +147,8 @@ class Frames(Case):
         for (datagram, line), node in zip(rows, at_a_time(received, [(datagram,) for datagram, _ in rows])):
             printed = applied(frame_events(datagram)[0]) if line == TAKEN else line
             self.assertEqual((node.text, node.status), (f"ready 1 of 2\n{printed}\npolled 1\n", DONE), datagram.hex())
-            event = b"\xC3" + body_of(datagram)[EVENT:] if line == TAKEN else b""
+            event = body_of(datagram)[EVENT:] if line == TAKEN else b""
+            event = OPEN + event + little(crc32c(event)) if event else b""
             self.assertEqual(node.journal, log([], closed=False) + event + b"\0", datagram.hex())
 
     def test_the_frame_of_a_node_is_the_worked_one(self):
@@ -159,8 +177,15 @@ class Frames(Case):
         self.expect_received([(each, bad("Check", CHECK)) for each in rows])
 
     def test_a_changed_byte_with_its_checksum_is_refused_or_taken(self):
-        rows = [(at, was ^ change) for at, was in enumerate(body_of(FRAME)) for change in CHANGES]
-        self.expect_received([(rechecked(FRAME, [(at, value)]), line_of(at, value)) for at, value in rows])
+        rows = [(at, FRAME[at] ^ change) for at in places() for change in CHANGES]
+        self.expect_received([(retold(row), line_of(*row)) for row in rows])
+
+    # The check of the event is another one, or the event is.
+    def test_another_event_than_the_one_that_is_checked_shows_a_parting(self):
+        rows = [(at, FRAME[at] ^ change) for at in range(HEAD_CHECK, HEAD_CHECK + CHECKSUM) for change in CHANGES]
+        events = [(at, FRAME[at] ^ change) for at in range(EVENT, CHECK) for change in CHANGES]
+        rows += [row for row in events if line_of(*row) == TAKEN]
+        self.expect_received([(rechecked(FRAME, [row]), PARTED) for row in rows])
 
     # The version; the sender; the site of the event, its count, its clock and its number; its kind; its width, to one more than
     # the greatest; the length of its label; and a byte that is added.
@@ -171,15 +196,15 @@ class Frames(Case):
                 ([(4, 1)], "Version", 4),
                 ([(4, 2)], "Version", 4),
                 ([(9, 0x11)], "Field", 9),
-                ([(38, 1)], "Disorder", 32),
-                ([(13, 0), (14, 0)], "Disorder", 32),
-                ([(20, 0)], "Disorder", 32),
-                ([(39, 0), (40, 0)], "Field", 39),
-                ([(42, 5)], "Field", 42),
-                ([(52, 0x0F), (53, 0x42), (54, 0x41)], "Field", 51),
-                ([(59, 1)], "Short", 60),
+                ([(42, 1)], "Disorder", 36),
+                ([(13, 0), (14, 0)], "Disorder", 36),
+                ([(20, 0)], "Disorder", 36),
+                ([(43, 0), (44, 0)], "Field", 43),
+                ([(46, 5)], "Field", 46),
+                ([(56, 0x0F), (57, 0x42), (58, 0x41)], "Field", 55),
+                ([(63, 1)], "Short", CHECK),
             ]
-        ] + [(checked(body_of(FRAME) + b"\0"), bad("Trailing", 60))])
+        ] + [(checked(body_of(FRAME) + b"\0"), bad("Trailing", CHECK))])
 
     def test_a_frame_that_is_cut_is_short_or_has_another_checksum(self):
         rows = [(FRAME[:length], bad("Short", length)) for length in range(5)]
@@ -214,6 +239,17 @@ SESSIONS = [
 ]
 # So many datagrams of some hundred bytes wait at a socket.
 AT_ONCE = 64
+# So many bits are flipped of the frames of a longer session, each by itself.
+FLIPS = 2_000
+
+
+def usual_lines(draw):
+    """Lines of somebody who makes shapes with and without words, moves them, writes on them, takes back, and polls."""
+    for turn in range(1, 120):
+        id, place = f"{draw.randrange(1, turn + 1)}.2", f"{draw.randrange(1_000)} {draw.randrange(1_000)}"
+        made = f"create {draw.choice(['rect', 'ellipse', 'line', 'text'])} {place} 80 40 {'words ' * draw.randrange(30)}"
+        yield draw.choice([made, f"move {id} {place}", f"text {id} some words", f"fill {id} DAE6FF", f"raise {id}", "undo", "name Bob", f"focus {id}", "poll"])
+    yield "poll"
 
 
 class Flips(Case):
@@ -240,3 +276,27 @@ class Flips(Case):
                 to_one[2].send(one, sent)
                 self.assertEqual(one.ask("poll"), [*echoes(*frame_events(sent)).splitlines(), "polled 1"])
                 self.assertEqual(one.ask("show"), drawn)
+
+    # One bit of each, of frames without an event, with one, with some, and of full ones.
+    def test_flipped_bits_of_a_longer_session_are_noticed(self):
+        draw = random.Random(7)
+        with ExitStack() as stack:
+            one, to_one = stack.enter_context(started((1, 2)))
+            two, to_two = stack.enter_context(started((2, 2)))
+            self.assertTrue(one.is_ready() and two.is_ready())
+            sent = to_two[1].received()
+            for line in usual_lines(draw):
+                two.ask(line)
+                sent += to_two[1].received()
+            self.assertGreater(max(map(len, sent)), 1_100)
+            self.assertGreater(len({len(each) for each in sent}), 12)
+            for _ in range(0, FLIPS, 50):
+                lines = []
+                for _ in range(50):
+                    datagram, bit = draw.choice(sent), draw.randrange(8)
+                    at = draw.randrange(len(datagram))
+                    to_one[2].send(one, changed(datagram, [(at, datagram[at] ^ 1 << bit)]))
+                    lines.append(noticed(at, len(datagram)))
+                self.assertEqual(one.ask("poll"), [*lines, f"polled {len(lines)}"])
+            self.assertEqual(one.ask("status"), ["held 0 kept 0 line 0 clock 0"])
+            self.assertEqual(one.ask("who"), ["end 0"])

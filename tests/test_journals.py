@@ -2,7 +2,7 @@
 
 from tests.nodes import answered, replayed
 from tests.program import BAD_LOG, DONE, OTHER_JOURNAL, Case
-from tests.spelled import changed, frame, log, number, square
+from tests.spelled import changed, frame, log, square
 from tests.worked import RECT
 
 OWN_RECT = RECT.format("1.1", "{}") + "end 1\n"
@@ -19,14 +19,14 @@ JOURNAL = log([
 # The lengths at which that journal is a whole log, with what is printed of it.
 FRONTS = {
     11: "end 0\n",
-    40: OWN_RECT.format("0 0"),
-    66: OWN_RECT.format("5 5"),
-    95: RECT.format("1.1", "5 5") + OTHERS_RECT + "end 2\n",
-    113: OTHERS_RECT + "end 1\n",
-    114: OTHERS_RECT + "end 1\n",
+    44: OWN_RECT.format("0 0"),
+    74: OWN_RECT.format("5 5"),
+    107: RECT.format("1.1", "5 5") + OTHERS_RECT + "end 2\n",
+    129: OTHERS_RECT + "end 1\n",
+    130: OTHERS_RECT + "end 1\n",
 }
 
-# The log of session 7, site 1 of 2, with a rect of site 2. Its closing gate stands at 40.
+# The log of session 7, site 1 of 2, with a rect of site 2. Its closing gate stands at 44, behind its check.
 ONE = log([square((1, 2), 1)])
 # What is typed at a node that goes on from it, and what is printed.
 LINES = "status\ncreate rect 0 0 10 10\nstatus\n"
@@ -56,9 +56,9 @@ class GoneOn(Case):
         for session, contents, status, text in [
             (7, ONE, DONE, "ready 1 of 2\nheld 1 kept 0 line 1 clock 1\n"),
             (8, ONE, OTHER_JOURNAL, "other journal\n"),
-            (7, ONE[:40], BAD_LOG, "bad log at 40: Short\n"),
-            (7, ONE[:39], BAD_LOG, "bad log at 39: Short\n"),
-            (8, ONE[:40], BAD_LOG, "bad log at 40: Short\n"),
+            (7, ONE[:44], BAD_LOG, "bad log at 44: Short\n"),
+            (7, ONE[:43], BAD_LOG, "bad log at 43: Short\n"),
+            (8, ONE[:44], BAD_LOG, "bad log at 44: Short\n"),
             (7, b"", BAD_LOG, "bad log at 0: Short\n"),
             # Another site, another number of sites, versions one and two, no log, an event that is bad.
             (7, changed(ONE, [(9, 2)]), OTHER_JOURNAL, "other journal\n"),
@@ -67,21 +67,26 @@ class GoneOn(Case):
             (7, changed(ONE, [(4, 2)]), OTHER_JOURNAL, "other journal\n"),
             (7, changed(ONE, [(0, 0)]), BAD_LOG, "bad log at 0: Magic\n"),
             (7, changed(ONE, [(22, 5)]), BAD_LOG, "bad log at 22: Field\n"),
+            # Another x, another check, and gates that are neither open nor closed; a fault comes before another session.
+            (7, changed(ONE, [(26, 1)]), BAD_LOG, "bad log at 40: Check\n"),
+            (8, changed(ONE, [(43, 0)]), BAD_LOG, "bad log at 40: Check\n"),
+            (7, changed(ONE, [(11, 0xC2)]), BAD_LOG, "bad log at 11: Behind\n"),
+            (7, changed(ONE, [(44, 0x80)]), BAD_LOG, "bad log at 44: Behind\n"),
         ]:
             node = answered((1, 2), "status\n", contents=contents, session=session)
             self.assertEqual((node.text, node.status), (text, status), (session, len(contents)))
             self.assertEqual((node.journal, node.sent), (contents, 0), (session, len(contents)))
 
     def test_what_stood_behind_the_closing_gate_stays(self):
-        for closing, behind in [(0, 0), (0xFF, 1), (1, 29), (0, 40)]:
-            contents = ONE[:40] + number(closing, 1) + b"\x09" * behind
+        for behind in (0, 1, 33, 40):
+            contents = ONE + b"\x09" * behind
             node = answered((1, 2), LINES, contents=contents)
             self.assertEqual((node.text, node.status), (TEXT, DONE), behind)
-            self.assertEqual(node.journal, ONE[:40] + OWN + b"\x09" * (behind - 29), behind)
+            self.assertEqual(node.journal, ONE[:44] + OWN + b"\x09" * (behind - 33), behind)
 
     # An append that was torn: the event behind a closing gate was never there, whatever a crash left of its bytes.
     def test_what_a_crash_left_is_gone_on_from(self):
-        for left in [b"\0" * 30, b"\xC3" * 30, b"\xFF" * 30, OWN[1:] + b"\0", b""]:
+        for left in [b"\0" * 34, b"\xC3" * 34, b"\xFF" * 34, OWN[1:] + b"\0", b""]:
             node = answered((1, 2), "status\n", contents=log([]) + left)
             self.assertEqual((node.text, node.status), ("ready 1 of 2\nheld 0 kept 0 line 0 clock 0\n", DONE), left)
 

@@ -124,7 +124,7 @@ class Large(Case):
         for clock in range(1, MOST + 1):
             stamp, turn = number(clock, 6), number(clock, 2)
             events += [stamp + number(site, 1) + turn + move for site in range(1, 17) if (clock, site) != (1, 1)]
-        given = header(sites=16) + OPEN + OPEN.join(events) + CLOSED
+        given = header(sites=16, version=2) + OPEN + OPEN.join(events) + CLOSED
         counts = f"arrivals applied {16 * MOST} dropped 0 reworked 0 undone 0\n"
         ended = run_program(["replay", "--counts"], given)
         self.assertEqual((ended.text, ended.status), (SQUARE.format("1.1", "-", "7 8") + "end 1\n" + counts, DONE))

@@ -1,9 +1,9 @@
 """Logs that are replayed: rows that were worked by hand, cuts, labels, groups, what an undo makes, and the three versions."""
 
 from tests.program import BAD_LOG, DONE, Case
-from tests.spelled import changed, header, label, log, number, record, signed, square, stamp
+from tests.spelled import changed, crc32c, header, little, log, number, record, signed, square, stamp
 from tests.worked import (
-    EFFECT_FIRST, EMPTY, LOOK, LOOK_TEXT, RANKS, RANKS_TEXT, RECT, TIE, TIE_TEXT, tie_of,
+    CHECKED_TIE, EFFECT_FIRST, EMPTY, LOOK, LOOK_TEXT, RANKS, RANKS_TEXT, RECT, TIE, TIE_TEXT, tie_of,
 )
 
 SQUARE = "rect {} in {} at {} size 10 10 stroke 000000 fill none width 1{}\n"
@@ -38,7 +38,7 @@ class Logs(Case):
             (changed(RANKS, [(4, 1), (79, 10)]), bad_log(79)),
             (changed(RANKS, [(4, 2), (79, 11)]), bad_log(79)),
             (changed(RANKS, [(4, 2), (79, 14)]), bad_log(79)),
-            (changed(RANKS, [(4, 3), (79, 15)]), bad_log(79)),
+            (changed(RANKS, [(4, 7), (79, 15)]), bad_log(40, "Check")),
             # A third site in a session of two, a number that isn't next, and two events of one site with one clock.
             (changed(TIE, [(18, 3)]), bad_log(18, "NoSite")),
             (changed(TIE, [(20, 2)]), bad_log(19, "Turn")),
@@ -124,8 +124,8 @@ class Cuts(Case):
 
 def labelled(version, text, length):
     """A log of one rect whose label has these bytes, and says that it has so many."""
-    front = header(version=version, sites=1) + b"\xC3" + stamp((1, 1)) + number(1, 2) + b"\x01\x01" + signed(0, 0, 10, 10)
-    return front + number(length, 1) + text
+    event = stamp((1, 1)) + number(1, 2) + b"\x01\x01" + signed(0, 0, 10, 10) + number(length, 1) + text
+    return header(version=version, sites=1) + b"\xC3" + event + (little(crc32c(event)) if version == 3 else b"")
 
 
 # The characters on both sides of each edge of the forbidden ones, the greatest of each length in UTF-8, and bytes that are no
@@ -256,7 +256,7 @@ class TakenBack(Case):
     def test_each_field_of_a_restore_has_its_fault(self):
         whole = ("rect", 1, 2, 3, 4, 0xAB0C, None, 64, "", ((2, 1), 5, -6), False, ("high", (2, 1)))
         given = log([((9, 1), 1, ("restore", (1, 1), whole, ((3, 1), None), ((4, 1), ((5, 1), 7, -8))))])
-        self.assertEqual((given[21], given[22:29], given[56:64], len(given)), (11, stamp((1, 1)), b"\1" + stamp((2, 1)), 114))
+        self.assertEqual((given[21], given[22:29], given[56:64], len(given)), (11, stamp((1, 1)), b"\1" + stamp((2, 1)), 118))
         self.expect_all([(["replay"], changed(given, [row[:2]]), BAD_LOG, bad_log(*row[2:])) for row in [
             (28, 17, 28, "Field"), (27, 9, 22, "FutureId"), (29, 0, 29, "Field"), (29, 6, 29, "Field"), (30, 0x7F, 30, "Field"),
             (46, 1, 46, "Field"), (50, 1, 50, "Field"), (54, 0, 54, "Field"), (54, 65, 54, "Field"), (55, 201, 55, "Field"),
@@ -280,22 +280,24 @@ class TakenBack(Case):
             self.expect_cut(given)
 
     def expect_cut(self, given):
-        """The record, which is the only one, is whole at its end alone."""
+        """The record, which is the only one, is whole behind its check alone."""
         self.expect_all([(["replay"], given[:size], BAD_LOG, bad_log(size, "Short")) for size in range(12, len(given) - 1)])
 
 
 class Versions(Case):
     def long_of(self, version):
-        """The tie's log with that version, where the rect's label is 65 letters `a`."""
-        return changed(TIE[:39] + label("a" * 65) + TIE[40:], [(4, version)])
+        """The tie's log in that version, where the rect's label is 65 letters `a`."""
+        rect, ellipse = ("create", "rect", 5, 5, 10, 10, "a" * 65), ("create", "ellipse", 0, 0, 20, 20, "")
+        return log([((1, 2), 1, rect), ((1, 1), 1, ellipse)], version=version)
 
     def test_each_version_is_read_and_no_other(self):
         self.expect_all(
             rows_of("replay", *[(tie_of(version), TIE_TEXT) for version in (1, 2, 3)])
-            + [([word], tie_of(version), BAD_LOG, bad_log(4, "Version")) for version in (0, 4) for word in ("replay", "upgrade")]
+            + [([word], changed(tie, [(4, byte)]), BAD_LOG, bad_log(4, "Version"))
+               for tie in (TIE, CHECKED_TIE) for byte in (0, 3, 4, 5, 6, 8, 0x87) for word in ("replay", "upgrade")]
         )
 
-    def test_an_upgraded_log_has_the_version_three_and_its_gate(self):
+    def test_an_upgraded_log_has_the_version_three_its_checks_and_its_gate(self):
         self.expect_all([
             *((["upgrade"], tie_of(version), DONE, tie_of(3)) for version in (1, 2, 3)),
             (["upgrade"], TIE[:11], DONE, header() + b"\0"),

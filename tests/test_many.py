@@ -52,12 +52,15 @@ class Many(Case):
             (folder / "j").write_bytes(log(numbered(stamps), sites=3))
             with started((1, 3), "--resume", journal=folder / "j") as (node, peers):
                 self.assertTrue(node.is_ready())
+                made = []
                 for turn, line in enumerate(LINES):
-                    peers[3].send(node, frame(sender=3, count=turn, clock=line))
+                    peers[3].send(node, frame(sender=3, count=turn, clock=line, before=made))
                     self.assertEqual(node.ask("poll"), ["polled 1"])
                     held, kept = 2 * EACH + turn, 2 * (EACH - line)
                     self.assertEqual(node.ask("status"), [f"held {held} kept {kept} line {line} clock {EACH}"])
-                    peers[3].send(node, frame([square((line + 1, 3), turn + 1)], sender=3, clock=line + 1))
+                    event = square((line + 1, 3), turn + 1)
+                    peers[3].send(node, frame([event], sender=3, clock=line + 1, before=made))
+                    made.append(event)
                     self.assertEqual(node.ask("poll"), [f"echo {line + 1}.3 applied create rect 0 0 10 10", "polled 1"])
                     self.assertEqual(node.ask("status")[0].split()[3], str(kept - 2))
                 shown = node.ask("show")

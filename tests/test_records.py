@@ -62,7 +62,7 @@ TURNED = list(zip(OPS[-5:], [
 
 
 class Records(Case):
-    def test_each_operation_is_written_as_it_was_read_and_is_short_without_its_last_byte(self):
+    def test_each_operation_is_written_as_it_was_read_and_is_short_without_all_of_its_check(self):
         for op in OPS:
             given = log([((9, 1), 1, op)])
             cut = given[:-2]

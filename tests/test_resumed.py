@@ -3,15 +3,16 @@
 from tests.echoes import applied
 from tests.nodes import answered, started
 from tests.program import BAD_LOG, DONE, OTHER_JOURNAL, Case, at_a_time
-from tests.spelled import CLOSED, OPEN, changed, frame, log, record, square
+from tests.spelled import CLOSED, OPEN, changed, checked_records, frame, log, square
 
-# A rect of site 1 and an ellipse of site 2, in session 7 of two sites, kept by site 1. The gates stand at 11, at 40 and at 69.
+# A rect of site 1 and an ellipse of site 2, in session 7 of two sites, kept by site 1. The gates stand at 11,
+# at 44 and at 77, and the checks at 40 and at 73.
 EVENTS = [
     ((1, 1), 1, ("create", "rect", 5, 5, 10, 10, "")),
     ((2, 2), 1, ("create", "ellipse", 0, 0, 20, 20, "")),
 ]
 LOG = log(EVENTS)
-GATES = [11, 40, 69]
+GATES = [11, 44, 77]
 # Where the site stands that goes on at each gate.
 STATUSES = ["held 0 kept 0 line 0 clock 0", "held 1 kept 1 line 0 clock 1", "held 2 kept 0 line 2 clock 2"]
 # The turn and the clock of its next event there.
@@ -23,22 +24,23 @@ def closed_at(gate, closing, behind=b""):
 
 
 # What a crash leaves where the record of an event, or the gate in front of it, was being written behind so many events: what
-# stands in the range of that write, and of how many events it is then the log.
+# stands in the range of that write, and of how many events it is then the log. A gate is one byte, which is there or isn't.
 def torn(count):
-    front, gate, event = LOG[: GATES[count]], LOG[GATES[count] : GATES[count] + 1], record(*EVENTS[count])
+    front, gate = LOG[: GATES[count]], LOG[GATES[count] : GATES[count] + 1]
+    (event,) = checked_records(EVENTS[count : count + 1], EVENTS[:count])
     assert gate == OPEN
     rows = [(front + CLOSED + bytes([fill]) * (len(event) + 1), count) for fill in (0, 0xC3, 0xFF)]
     rows += [(front + CLOSED + event + CLOSED, count)]
-    rows += [(front + bytes([fill]) + event + CLOSED, count + (fill == 0xC3)) for fill in (0, 0xC3, 0xFF)]
+    rows += [(front + OPEN + event + CLOSED, count + 1)]
     return rows
 
 
 # The same where both events were being written behind one gate: they are there together, or neither is.
 def torn_together():
-    together = OPEN.join(record(*event) for event in EVENTS)
+    together = OPEN.join(checked_records(EVENTS))
     front = LOG[: GATES[0]]
-    rows = [(front + CLOSED + together[:cut] + bytes([fill]) * (len(together) - cut), 0) for cut in range(0, 58, 7) for fill in (0, 0xC3)]
-    rows += [(front + bytes([fill]) + together + CLOSED, 2 * (fill == 0xC3)) for fill in (0, 0xC3, 0xFF)]
+    rows = [(front + CLOSED + together[:cut] + bytes([fill]) * (len(together) - cut), 0) for cut in range(0, 66, 7) for fill in (0, 0xC3)]
+    rows += [(front + CLOSED + together + CLOSED, 0), (front + OPEN + together + CLOSED, 2)]
     return rows
 
 
@@ -55,10 +57,17 @@ class Resumed(Case):
 
     def test_a_log_goes_on_at_its_closing_gate(self):
         self.expect_resumed([
-            (closed_at(gate, closing, behind), held)
+            (closed_at(gate, 0, behind), held)
             for held, gate in enumerate(GATES)
-            for closing in (0, 1, 0xFF)
             for behind in (b"", LOG[gate + 1 :])
+        ])
+
+    # Before any event, between both, and behind the last.
+    def test_a_gate_that_is_neither_open_nor_closed_is_refused(self):
+        self.expect_refused([
+            (closed_at(gate, value, LOG[gate + 1 :]), BAD_LOG, f"bad log at {gate}: Behind\n")
+            for gate in GATES
+            for value in (1, 0x43, 0x80, 0xC2, 0xC7, 0xFF)
         ])
 
     def test_what_a_crash_left_of_an_append_is_gone_on_from(self):
@@ -89,7 +98,8 @@ class Resumed(Case):
         self.expect_refused([
             (changed(LOG, [(place, byte)]), BAD_LOG, f"bad log at {at}: {why}\n")
             for place, byte, at, why in [
-                (0, ord("X"), 0, "Magic"), (4, 4, 4, "Version"), (10, 1, 47, "NoSite"), (49, 2, 48, "Turn"),
+                (0, ord("X"), 0, "Magic"), (4, 4, 4, "Version"), (10, 1, 51, "NoSite"), (53, 2, 52, "Turn"),
+                (26, 6, 40, "Check"), (42, 0, 40, "Check"), (71, 21, 73, "Check"), (76, 1, 73, "Check"),
             ]
         ])
 

@@ -3,7 +3,7 @@
 from tests.echoes import applied, echoes
 from tests.nodes import answered, started
 from tests.program import DONE, Case
-from tests.spelled import GREATEST_CLOCK, frame, log, rechecked, square
+from tests.spelled import GREATEST_CLOCK, chain, frame, log, rechecked, square
 from tests.tables import dialogues
 from tests.test_rehearsals import rehearse
 from tests.worked import FRAME, RECT
@@ -22,14 +22,14 @@ FRAMES = [
         f"{echoes(SQUARE)}polled 3\nheld 1 kept 0 line 1 clock 1\n",
     ),
     (
-        [frame([SQUARE]), frame([THIRD, FOURTH]), frame([SECOND, THIRD, FOURTH])],
+        [frame([SQUARE]), frame([THIRD, FOURTH], before=[SQUARE, SECOND]), frame([SECOND, THIRD, FOURTH], before=[SQUARE])],
         "poll\nstatus\nshow\n",
         f"{echoes(SQUARE, SECOND, THIRD, FOURTH)}polled 3\n"
         f"held 4 kept 0 line 4 clock 4\n{RECT.format('1.2', '3 3')}end 1\n",
     ),
     # The first frame promises that nothing up to clock 8 is to come.
     (
-        [frame([SQUARE, SECOND], clock=8), frame([((9, 2), 3, ("raise", (1, 2)))])],
+        [frame([SQUARE, SECOND], clock=8), frame([((9, 2), 3, ("raise", (1, 2)))], before=[SQUARE, SECOND])],
         "poll\nstatus\n",
         f"{echoes(SQUARE, SECOND)}echo 9.2 applied raise 1.2\npolled 2\nheld 3 kept 0 line 9 clock 9\n",
     ),
@@ -56,8 +56,8 @@ FAULTS = [
     ([(8, 8)], "Session"),
     ([(8, 8), (10, 2), (12, 1)], "Session"),
     ([(10, 2), (12, 1)], "NotForMe"),
-    ([(9, 1), (38, 1), (12, 1)], "FromMe"),
-    ([(9, 3), (38, 3), (12, 1)], "NoSuchSite"),
+    ([(9, 1), (42, 1), (12, 1)], "FromMe"),
+    ([(9, 3), (42, 3), (12, 1)], "NoSuchSite"),
     ([(12, 1)], "OverAck 1 0"),
 ]
 
@@ -217,7 +217,7 @@ class Told(Case):
                 peers[site].received()
                 peers[site].send(node, frame(sender=site, held=said))
                 self.assertEqual(node.ask("poll"), ["polled 1"])
-                told = frame(events[known : known + 40], sender=1, to=site, count=60, clock=60)
+                told = frame(events[known : known + 40], sender=1, to=site, count=60, clock=60, check=chain(events))
                 self.assertEqual(peers[site].received(), [told], (site, said))
             peers[2].send(node, frame(held=61))
             self.assertEqual(node.ask("poll"), ["frame refused: OverAck 61 60", "polled 1"])
@@ -243,10 +243,11 @@ class Told(Case):
                 for peer in peers.values():
                     peer.received()
                 self.assertEqual(node.ask(line), ["ok 7.1"])
+                check = chain([*events, last])
                 self.assertEqual(node.held(), 7)
                 for to, peer in peers.items():
-                    self.assertEqual(peer.received(), [frame(told[to], sender=1, to=to)] if told[to] else [], (line, to))
+                    self.assertEqual(peer.received(), [frame(told[to], sender=1, to=to, check=check)] if told[to] else [], (line, to))
                 self.assertEqual(node.ask("poll"), ["polled 0"])
                 polled = {2: told[2] or events, 3: [last]}
                 for to, peer in peers.items():
-                    self.assertEqual(peer.received(), [frame(polled[to], sender=1, to=to, count=7, clock=7)], (line, to))
+                    self.assertEqual(peer.received(), [frame(polled[to], sender=1, to=to, count=7, clock=7, check=check)], (line, to))

@@ -41,11 +41,11 @@ class Snapshots(Case):
             (["view"], stream(datagram), DONE, line + TIE_TEXT)
             for datagram, line in [
                 (b"", "frame refused: Short at 0\n"),
-                (changed(MOVE, [(52, 6)]), "frame refused: Check at 57\n"),
+                (changed(MOVE, [(56, 6)]), "frame refused: Check at 61\n"),
                 (rechecked(MOVE, [(8, 8)]), "frame refused: Session\n"),
-                (checked(changed(body_of(MOVE), [(9, 3), (31, 0)])[:32]), "frame refused: NoSuchSite\n"),
-                (rechecked(MOVE, [(14, 3), (40, 3)]), ""),
-                (rechecked(MOVE, [(37, 1)]), "event 1.2 refused: Backdated 1 1\n"),
+                (checked(changed(body_of(MOVE), [(9, 3), (35, 0)])[:36]), "frame refused: NoSuchSite\n"),
+                (rechecked(MOVE, [(14, 3), (44, 3)]), ""),
+                (rechecked(MOVE, [(41, 1)]), "event 1.2 refused: Backdated 1 1\n"),
             ]
         ])
 
@@ -67,9 +67,9 @@ class Snapshots(Case):
                 ([], b"\x04", "bad view at 124: Short\n"),
                 ([], b"\x04\xB1\0", "bad view at 123: Long\n"),
                 ([], b"\x04\xB0", "bad view at 125: Short\n"),
-                ([MOVE], b"\0", MOVED + "bad view at 187: Short\n"),
-                ([MOVE], b"\0\x02\x01", MOVED + "bad view at 189: Short\n"),
-                ([MOVE], b"\xFF\xFF", MOVED + "bad view at 186: Long\n"),
+                ([MOVE], b"\0", MOVED + "bad view at 191: Short\n"),
+                ([MOVE], b"\0\x02\x01", MOVED + "bad view at 193: Short\n"),
+                ([MOVE], b"\xFF\xFF", MOVED + "bad view at 190: Long\n"),
             ]
         ])
 

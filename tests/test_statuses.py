@@ -175,15 +175,15 @@ class Journals(Case):
                 (log([], version=2), OTHER_JOURNAL, "other journal\n"),
                 (header(), BAD_LOG, "bad log at 11: Short\n"),
                 (b"GDOX", BAD_LOG, "bad log at 0: Magic\n"),
-                (log([square((1, 1), 1)])[:-5], BAD_LOG, "bad log at 36: Short\n"),
+                (log([square((1, 1), 1)])[:-5], BAD_LOG, "bad log at 40: Short\n"),
             ]:
                 (folder / "j").write_bytes(contents)
                 self.expect_fault(folder / "j", "--resume", status=status, printed=printed)
                 self.assertEqual((folder / "j").read_bytes(), contents)
 
-    # A limit on files stands for a full disk. The header takes 12 bytes, and an event 29 and its gate.
+    # A limit on files stands for a full disk. The header takes 12 bytes, and an event 32 with its check, and its gate.
     def test_a_journal_that_can_take_no_more_ends_the_node(self):
-        rows = [(0, 0, None), (5, 0, None), (12, 1, 0), (12 + 10, 1, 0), (12 + 28, 1, 0), (12 + 29, 2, 1), (12 + 40, 2, 1)]
+        rows = [(0, 0, None), (5, 0, None), (12, 1, 0), (12 + 10, 1, 0), (12 + 32, 1, 0), (12 + 33, 2, 1), (12 + 44, 2, 1)]
         for size, answers, held in rows:
             with room() as folder:
                 words = node_words(1, free_addresses(1), folder / "j")
@@ -245,14 +245,14 @@ def small_disk(folder, size):
 
 
 class FullDisk(Case):
-    # Each event takes 29 bytes, so the disk is full long before all are typed.
+    # Each event takes 33 bytes with its gate and its check, so the disk is full long before all are typed.
     def test_a_node_on_a_full_disk_holds_what_it_answered(self):
         with room(on_disk=True) as folder, small_disk(folder, "32k"):
             words = node_words(1, free_addresses(1), folder / "j")
             ended = run_program(words, b"create rect 0 0 10 10\n" * 3_000)
             answered = ended.text.count("ok ")
             self.assertEqual((ended.status, ended.text.splitlines()[0]), (JOURNAL_FAULT, "ready 1 of 1"))
-            self.assertTrue(1_000 < answered < 1_130, answered)
+            self.assertTrue(900 < answered < 1_000, answered)
             subprocess.run(["mount", "-o", "remount,size=1m", folder], check=True)
             again = run_program([*words, "--resume"], b"create rect 0 0 10 10\nstatus\n")
             held = answered + 1

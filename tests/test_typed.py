@@ -2,7 +2,7 @@
 
 from tests.nodes import answered
 from tests.program import DONE, LINE_LIMIT, Case
-from tests.spelled import frame, label, log, rechecked, square
+from tests.spelled import chain, frame, label, log, rechecked, square
 from tests.tables import dialogues
 from tests.worked import FRAME
 
@@ -155,7 +155,7 @@ class Kept(Case):
         oks = ["".join(f"ok {clock}.2\n" for clock in part) for part in (range(1, 51), range(51, 53))]
         self.assertEqual(node.text, f"ready 2 of 3\n{oks[0]}refused: NoObject\nend 51\n{oks[1]}end 2\n")
         self.assertEqual(node.journal, self.journal(*events))
-        self.assertEqual(node.frames, {to: [frame(events[:40], to=to, count=50, clock=50)] for to in (1, 3)})
+        self.assertEqual(node.frames, {to: [frame(events[:40], to=to, count=50, clock=50, check=chain(events[:50]))] for to in (1, 3)})
         node = self.second_of_three(f"begin\n{edits}poll\nquit\n")
         self.assertEqual((node.text, node.sent, node.journal), ("ready 2 of 3\n", 0, self.journal()))
 

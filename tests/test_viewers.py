@@ -6,7 +6,7 @@ from tests.worked import ELLIPSE_LINE, TIE, TIE_SNAPSHOT
 from tests.test_snapshots import MOVE
 
 # The shapes of the tie where the ellipse has the clock 2: site 2 has the sure clock 1, so the ellipse's event is kept.
-LATER = changed(TIE, [(4, 3), (46, 2)])
+LATER = changed(TIE, [(46, 2)])
 LATER_SNAPSHOT = bytes.fromhex(
     "47444F53 03 00000007 01 02 0001 000000000002 0001 000000000001"
     "00000001 00000000000102 01 00000005 00000005 0000000A 0000000A 00000000 FFFFFFFF 01 00 00 00 01 00000000000102"

@@ -24,6 +24,10 @@ REFUSED = [
     ["replay", "--form", "text"],
     ["replay", "-c"],
     ["replay", "--counts=yes"],
+    ["replay", "--upto-fault", "--upto-fault"],
+    ["replay", "--upto"],
+    ["upgrade", "--upto-fault"],
+    ["board", "--upto-fault"],
     ["upgrade", "replay"],
     ["upgrade", "--counts"],
     ["snapshot", "--counts"],
@@ -99,7 +103,7 @@ class Words(Case):
         self.expect_all([(text.split(), b"", USAGE, USAGE_LINE) for text in REFUSED_NODES + REFUSED_PLAYS])
 
     def test_other_spellings_of_a_replay_are_taken(self):
-        for text in ["replay", "replay --format text", "replay --format=text", "replay --"]:
+        for text in ["replay", "replay --format text", "replay --format=text", "replay --upto-fault --format text", "replay --"]:
             self.expect(text.split(), TIE, DONE, TIE_TEXT)
 
     def test_other_spellings_of_rehearsals_and_churns_are_taken(self):

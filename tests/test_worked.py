@@ -8,7 +8,7 @@ from tests.nodes import answered
 from tests.pages import blocks_of, lines_of, quoted, rows_of
 from tests.program import BAD_LOG, DONE, Case, run_program
 from tests.spelled import body_of, changed, checked, frame, header, item
-from tests.worked import FRAME, TIE, TIE_SNAPSHOT, TIE_TEXT
+from tests.worked import CHECKED_TIE, FRAME, RECT_LINE, TIE, TIE_SNAPSHOT, TIE_TEXT
 
 FORMATS, LINES = "docs/FORMATS.md", "docs/LINES.md"
 FRONT = 11
@@ -62,6 +62,17 @@ class Formats(Case):
                 why, _, at = outcome.split(" ")[:3]
                 self.expect(["replay"], given, BAD_LOG, f"bad log at {at}: {why}\n")
 
+    # In version three, with checks.
+    def test_changed_checks_and_gates(self):
+        rows = self.table("Byte", "Set to", "Outcome")
+        self.assertGreater(len(rows), 4)
+        for byte, value, outcome in rows:
+            given = changed(CHECKED_TIE, [(int(re.match(r"\d+", byte)[0]), int(quoted(value)[0], 16))])
+            why, at = re.match(r"(\w+) at (\d+)", outcome).groups()
+            self.expect(["replay"], given, BAD_LOG, f"bad log at {at}: {why}\n")
+            if "--upto-fault" in outcome:
+                self.expect(["replay", "--upto-fault"], given, BAD_LOG, f"{RECT_LINE}end 1\nbad log at {at}: {why}\n")
+
     def test_the_look(self):
         rows = self.table("Place", "Record", "Meaning")
         log = header(version=1) + b"".join(b"\xC3" + hex_of(quoted(row[1])[0]) for row in rows) + b"\0"
@@ -80,7 +91,7 @@ class Formats(Case):
             self.fail("no record of a group")
         text = "\n".join(lines_of(FORMATS))
         end = hex_of(re.search(r"`([0-9A-F ]+)`: 4\.2, the first event of site 2, dissolves", text)[1])
-        log = header() + b"\xC3" + record
+        log = header(version=1) + b"\xC3" + record
         self.expect(["replay"], log, DONE, "group 3.1 in - at 0 0\nend 1\n")
         self.expect(["replay"], log + b"\xC3" + end + b"\0", DONE, "end 0\n")
         members = '{"dx":5,"dy":-7,"id":"1.2"},{"dx":1000000000,"dy":-1000000000,"id":"2.1"}'
@@ -88,8 +99,8 @@ class Formats(Case):
 
     # The changes of the first table are of a whole frame, and those of the second one are followed by their checksum.
     def test_changed_frames(self):
-        rows = [(changed_by(FRAME, change), why) for change, why in self.table("Change of the 64 bytes", "Refused as")]
-        behind = self.table("Change of the first 60 bytes", "Refused as")
+        rows = [(changed_by(FRAME, change), why) for change, why in self.table("Change of the 68 bytes", "Refused as")]
+        behind = self.table("Change of the first 64 bytes", "Refused as")
         rows += [(checked(changed_by(body_of(FRAME), change)), why) for change, why in behind]
         self.assertGreater(len(rows), 16)
         for datagram, why in rows:
@@ -134,7 +145,7 @@ class Formats(Case):
 
     def test_the_view(self):
         moved = item(frame([((2, 2), 2, ("move", (1, 1), 7, 8))]))
-        self.assertEqual((len(moved), moved[:2]), (63, b"\0\x3D"))
+        self.assertEqual((len(moved), moved[:2]), (67, b"\0\x41"))
         self.expect(["view"], TIE_SNAPSHOT + moved, DONE, block_with(FORMATS, "echo 2.2 applied move 1.1 7 8"))
 
 

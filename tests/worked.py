@@ -11,6 +11,13 @@ TIE = bytes.fromhex(
     "C3 000000000001 01 0001 01 02 00000000 00000000 00000014 00000014 00"
     "00"
 )
+# The same in version three, with a check behind each event. Its gates stand at 11, 44 and 77, its checks at 40 and 73.
+CHECKED_TIE = bytes.fromhex(
+    "47444F4C 07 00000007 01 02"
+    "C3 000000000001 02 0001 01 01 00000005 00000005 0000000A 0000000A 00 4F603653"
+    "C3 000000000001 01 0001 01 02 00000000 00000000 00000014 00000014 00 FDF1134D"
+    "00"
+)
 ELLIPSE_LINE = "ellipse 1.1 in - at 0 0 size 20 20 stroke 000000 fill none width 1\n"
 RECT_LINE = RECT.format("1.2", "5 5")
 TIE_TEXT = ELLIPSE_LINE + RECT_LINE + "end 2\n"
@@ -52,12 +59,12 @@ LOOK_TEXT = "ellipse 1.1 in - at 0 0 size -5 30 stroke 00AB0C fill FF8000 width 
 
 # The frame of site 2 for site 1 with a rect at 0 0, its one event. The worked frame of section 8.
 FRAME = bytes.fromhex(
-    "47444F46 03 00000007 02 01 0000 0001 000000000001 0000 00000000000000 00 01"
+    "47444F46 03 00000007 02 01 0000 0001 000000000001 C218FBBA 0000 00000000000000 00 01"
     "000000000001 02 0001 01 01 00000000 00000000 0000000A 0000000A 00"
-    "F9E5D4D2"
+    "49B34D30"
 )
 # Where the event of that frame begins, and its checksum.
-EVENT, CHECK = 32, 60
+EVENT, CHECK = 36, 64
 
 # The snapshot of the tie: each site made one event and has the sure clock 1, so both objects stand and no event is kept.
 TIE_SNAPSHOT = bytes.fromhex(
@@ -69,5 +76,5 @@ TIE_SNAPSHOT = bytes.fromhex(
 
 
 def tie_of(version):
-    """The tie's log with that version."""
-    return changed(TIE, [(4, version)])
+    """The tie's log in that version."""
+    return CHECKED_TIE if version == 3 else changed(TIE, [(4, version)])

@@ -3,7 +3,7 @@
 import random
 import subprocess
 
-from carrier.frames import LAST_CLOCK, frame
+from carrier.frames import LAST_CLOCK, crc32c, frame
 from carrier.keys import Keys
 from carrier.tests.logs import create
 from carrier.tests.members import WithMembers
@@ -21,7 +21,8 @@ class Evil(WithMembers):
         name, data = draw.choice(seen)
         deed, seats = draw.choice(DEEDS), [draw.randint(1, 3), draw.randint(1, 3)]
         root = f"gd/{self.roster.session.hex()}"
-        bomb = frame(self.roster.number, 2, 1, [create(LAST_CLOCK, 2, 1, b"bomb")], 1, LAST_CLOCK)
+        record = create(LAST_CLOCK, 2, 1, b"bomb")
+        bomb = frame(self.roster.number, 2, 1, [record], 1, LAST_CLOCK, crc32c(record))
         place = draw.randrange(len(data))
         messages = {
             "repeat": (name, data),
@@ -93,7 +94,8 @@ class Strangers(WithMembers):
 
     async def test_a_member_forges_nothing_of_another(self):
         ana, ben, cem = await self.sit(1, 2, 3)
-        bomb = frame(self.roster.number, 2, 1, [create(LAST_CLOCK, 2, 1, b"bomb")], 1, LAST_CLOCK)
+        record = create(LAST_CLOCK, 2, 1, b"bomb")
+        bomb = frame(self.roster.number, 2, 1, [record], 1, LAST_CLOCK, crc32c(record))
         # Cem seals well, and says in the frame that he is Ben; and he sends what Ben sealed for him.
         self.assertTrue(cem.carrier.send(1, 1, bomb))
         sealed = ben.carrier.seals.seal(3, 1, bomb)

@@ -2,6 +2,8 @@
 
 import struct
 
+from carrier.frames import CHECKSUM, crc32c
+
 
 def stamp(clock, site):
     return clock.to_bytes(6, "big") + bytes([site])
@@ -25,5 +27,8 @@ def disband(clock, site, number, target, member):
 
 
 def log(records, session=7, site=1, sites=16):
-    gated = b"".join(b"\xc3" + each for each in records)
-    return b"GDOL\x03" + session.to_bytes(4, "big") + bytes([site, sites]) + gated + b"\0"
+    gated, checks = b"", {}
+    for each in records:
+        checks[each[6]] = crc32c(each, checks.get(each[6], 0))
+        gated += b"\xc3" + each + CHECKSUM.pack(checks[each[6]])
+    return b"GDOL\x07" + session.to_bytes(4, "big") + bytes([site, sites]) + gated + b"\0"

@@ -75,7 +75,7 @@ class Carried(unittest.IsolatedAsyncioTestCase):
         self.broker.sent.clear()
 
     def frame(self, sender=1, to=2, clock=5):
-        return frame(roster_with().number, sender, to, [], 0, clock)
+        return frame(roster_with().number, sender, to, [], 0, clock, 0)
 
     def receive(self, data, sender=1, name=None, kept=False):
         self.broker.came(name or f"{ROOT}/2/{sender}", data, kept)
@@ -132,7 +132,7 @@ class Carried(unittest.IsolatedAsyncioTestCase):
     async def test_frames_of_the_node_go_out_sealed(self):
         self.connect()
         self.receive(self.others[1].seal(2, WANT, b""))
-        frames = {clock: frame(roster_with().number, 2, 1, [create(clock, 2, clock)], clock, clock) for clock in (1, 2, 3)}
+        frames = {clock: frame(roster_with().number, 2, 1, [create(clock, 2, clock)], clock, clock, 0) for clock in (1, 2, 3)}
         for clock in (1, 2, 2, 3):
             self.node.sendto(frames[clock], ("127.0.0.1", self.carrier.ways.port(1)))
             await asyncio.sleep(0.05)

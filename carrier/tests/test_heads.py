@@ -48,6 +48,7 @@ class FeedsOfAJournal(WithJournal):
             self.assertEqual([feeds[seat].digest(at) for at in range(len(records) + 1)], digests(seat, records))
         self.assertEqual(feeds.records(1, 2, 4), one[1:4])
         self.assertEqual((feeds[1].clock, feeds[3].clock), (5, 0))
+        self.assertEqual([feeds[2].check(count) for count in range(4)], [crc32c(b"".join(two[:count])) for count in range(4)])
 
     def test_it_is_read_on_whenever_more_is_there(self):
         records = [*records_by(1, 3), *records_by(2, 3)]
@@ -135,9 +136,9 @@ class Frames(unittest.TestCase):
         """docs/FORMATS.md, section 8, but for what it acknowledges."""
         record = bytes.fromhex("000000000001 02 0001 01 01 00000000 00000000 0000000A 0000000A 00")
         self.assertEqual(
-            frame(7, 2, 1, [record], 1, 1),
-            bytes.fromhex("47444F46 03 00000007 02 01 0000 0001 000000000001 0000 00000000000000 00 01") + record
-            + bytes.fromhex("F9E5D4D2"),
+            frame(7, 2, 1, [record], 1, 1, crc32c(record)),
+            bytes.fromhex("47444F46 03 00000007 02 01 0000 0001 000000000001 C218FBBA 0000 00000000000000 00 01") + record
+            + bytes.fromhex("49B34D30"),
         )
         self.assertEqual(crc32c(b"123456789"), 0xE3069283)
 
@@ -145,13 +146,16 @@ class Frames(unittest.TestCase):
     def test_as_many_records_a_frame_as_fit(self):
         records = [create(clock, 3, clock) for clock in range(1, 91)]
         self.assertEqual({len(record) for record in records}, {28})
-        made = list(frames(7, 3, 1, 11, records, list(range(101, 191))))
-        self.assertEqual([each[31] for each in made], [40, 40, 10])
+        made = list(frames(7, 3, 1, 11, records, list(range(101, 191)), 9))
+        self.assertEqual([each[35] for each in made], [40, 40, 10])
         self.assertEqual([count_of(each) for each in made], [50, 90, 100])
         self.assertEqual([int.from_bytes(each[15:21], "big") for each in made], [140, 180, 190])
-        self.assertEqual(b"".join(each[32:-4] for each in made), b"".join(records))
-        self.assertEqual([len(each) for each in made], [1_156, 1_156, 316])
+        self.assertEqual(b"".join(each[36:-4] for each in made), b"".join(records))
+        self.assertEqual([len(each) for each in made], [1_160, 1_160, 320])
         # The longest record, and what fits behind it to the last byte or doesn't.
         for last, counts in ((138, [2]), (139, [1, 1])):
-            self.assertEqual([each[31] for each in frames(7, 3, 1, 1, [bytes(1_006), bytes(last)], [1, 2])], counts)
-        self.assertEqual(closing(7, 3, 1, 5)[13:21], b"\0\5" + b"\xff" * 6)
+            self.assertEqual([each[35] for each in frames(7, 3, 1, 1, [bytes(1_006), bytes(last)], [1, 2], 0)], counts)
+        # Each has the check of all records up to its last one, behind those whose check was given.
+        whole = [crc32c(b"".join(records[:last]), 9) for last in (40, 80, 90)]
+        self.assertEqual([int.from_bytes(each[21:25], "little") for each in made], whole)
+        self.assertEqual(closing(7, 3, 1, 5, 1)[13:25], b"\0\5" + b"\xff" * 6 + b"\1\0\0\0")

@@ -33,7 +33,7 @@ class Paces(unittest.TestCase):
     def test_a_frame_with_another_clock_alone_can_wait(self):
         def made(clock=1, ack=0, count=1, events=b""):
             head = b"GDOF\x03" + bytes(4) + b"\1\2" + ack.to_bytes(2, "big") + count.to_bytes(2, "big")
-            body = head + clock.to_bytes(6, "big") + bytes(10) + bytes([1]) + events
+            body = head + clock.to_bytes(6, "big") + CHECKSUM.pack(crc32c(bytes(count))) + bytes(10) + bytes([1]) + events
             return body + CHECKSUM.pack(crc32c(body))
 
         pace = Pace()

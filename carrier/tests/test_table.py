@@ -15,7 +15,7 @@ from page.peers import Peers
 
 
 def feed(count):
-    return types.SimpleNamespace(count=count)
+    return types.SimpleNamespace(count=count, check=lambda count: 10 * count)
 
 
 class Desk:
@@ -69,14 +69,14 @@ class Seats(unittest.IsolatedAsyncioTestCase):
         self.carrier.comings[0](5)
         self.table.look()
         free = [seat for seat in range(2, 17) if seat not in (3, 4, 5)]
-        self.assertEqual(sorted(self.datagrams()), sorted(closing(roster_with().number, seat, 1, 0) for seat in free))
+        self.assertEqual(sorted(self.datagrams()), sorted(closing(roster_with().number, seat, 1, 0, 0) for seat in free))
         self.table.look()
         self.assertEqual(self.datagrams(), [])
         self.assertEqual(len(self.table.due), len(TIMES) - 1)
         # A retired seat is told with how many edits it has.
         self.feeds[9], self.retiring.gone[9] = feed(4), 4
         self.table.look()
-        self.assertIn(closing(roster_with().number, 9, 1, 4), self.datagrams())
+        self.assertIn(closing(roster_with().number, 9, 1, 4, 40), self.datagrams())
         self.assertNotIn(9, self.table.closed)
         free.remove(9)
         # A node that was started anew is told anew.

@@ -33,7 +33,7 @@ _groupdesign() {
         node) options='--resume --session --site --journal --help' ;;
         rehearse) options='--sites --help' ;;
         churn) options='--seed --steps --help' ;;
-        replay) options='--format --counts --help' ;;
+        replay) options='--format --counts --upto-fault --help' ;;
         board) options='--counts --help' ;;
         upgrade | snapshot | view) options='--help' ;;
         help) options='draw node rehearse churn replay upgrade snapshot view board' ;;

@@ -41,4 +41,5 @@ complete -c groupdesign -n '__fish_seen_subcommand_from churn' -l seed -x -d 'Th
 complete -c groupdesign -n '__fish_seen_subcommand_from churn' -l steps -x -d 'How many steps'
 complete -c groupdesign -n '__fish_seen_subcommand_from replay' -l format -x -a 'text json events' -d 'What is printed'
 complete -c groupdesign -n '__fish_seen_subcommand_from replay board' -l counts -d 'Print counts last'
+complete -c groupdesign -n '__fish_seen_subcommand_from replay' -l upto-fault -d 'Print what stands before a fault'
 complete -c groupdesign -n '__fish_seen_subcommand_from help' -a 'draw node rehearse churn replay upgrade snapshot view board'

@@ -43,7 +43,8 @@ _groupdesign() {
             ;;
         rehearse) _arguments $asked '--sites[how many sites]:number' ;;
         churn) _arguments $asked '--seed[the number that decides]:number' '--steps[how many steps]:number' ;;
-        replay) _arguments $asked '--format[what is printed]:format:(text json events)' '--counts[print counts last]' ;;
+        replay) _arguments $asked '--format[what is printed]:format:(text json events)' '--counts[print counts last]' \
+            '--upto-fault[print what stands before a fault]' ;;
         board) _arguments $asked '--counts[print counts last]' ;;
         upgrade|snapshot|view) _arguments $asked ;;
         help) _describe -t commands command commands ;;

@@ -16,7 +16,7 @@ DEB = DIST / f"groupdesign_{VERSION}_amd64.deb"
 ARCHIVE = DIST / f"groupdesign-{VERSION}-linux-amd64.tar.xz"
 NOTE = DIST / f"groupdesign-{VERSION}-proved.txt"
 SUMS = DIST / "SHA256SUMS"
-OPTION = re.compile(r"--[a-z]+")
+OPTION = re.compile(r"--[a-z]+(?:-[a-z]+)*")
 # The options that each command has, and that no help of one lists.
 EACH_HAS = {"--help", "--version"}
 

@@ -45,7 +45,7 @@ class Man(WithTree):
         for command, options in commands().items():
             with self.subTest(command):
                 page = self.source(f"man1/groupdesign-{command}.1.gz")
-                self.assertEqual({f"-{word}" for word in re.findall(r"\.(?:It|Op)? ?Fl (-[a-z]+)", page)}, options)
+                self.assertEqual({f"-{word}" for word in re.findall(r"\.(?:It|Op)? ?Fl (-[a-z-]+)", page)}, options)
                 self.assertIn(".Sh EXAMPLES", page)
                 self.assertIn(".Sh EXIT STATUS", page)
 
@@ -110,7 +110,7 @@ class Completions(WithTree):
         for name, options in commands().items():
             self.assertIn(f"'{name}:", text)
             (cases,) = re.findall(rf"^        (?:\S+\|)?{name}(?:\|\S+)?\)(.*?);;", text, re.MULTILINE | re.DOTALL)
-            self.assertEqual(set(re.findall(r"'(--[a-z]+)\[", cases)), options, name)
+            self.assertEqual(set(re.findall(r"'(--[a-z-]+)\[", cases)), options, name)
 
 
 class Desktop(WithTree):

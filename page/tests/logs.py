@@ -2,10 +2,14 @@
 
 import struct
 
+from carrier.frames import CHECKSUM, crc32c
+
+# The byte of the newest version.
+NEWEST = 7
 KINDS = {"rect": 1, "ellipse": 2, "line": 3, "text": 4}
 
 
-def header(session=7, site=1, sites=2, version=3):
+def header(session=7, site=1, sites=2, version=NEWEST):
     return b"GDOL" + struct.pack(">BIBB", version, session, site, sites)
 
 
@@ -25,8 +29,13 @@ def create(name, number, kind, x, y, w, h, label=""):
 
 
 def log(head, *records, gate=b"\x00"):
-    """A log of records, with its closing gate."""
-    return head + b"".join(b"\xc3" + each for each in records) + gate
+    """A log of records, with its closing gate. In version three the check of its site's records stands behind each."""
+    checks, gated = {}, []
+    for each in records:
+        site = each[6]
+        checks[site] = crc32c(each, checks.get(site, 0))
+        gated.append(b"\xc3" + each + (CHECKSUM.pack(checks[site]) if head[4] == NEWEST else b""))
+    return head + b"".join(gated) + gate
 
 
 def large(count, session=7, site=1, sites=2, columns=100, step=30, size=20):

@@ -9,8 +9,9 @@ The file PATH.script has these, each of which may be left out:
     end       the line before which it ends, after a front of its answer, and its status: ["show", "rect 1.", 7]
     first     what it prints in the place of `ready`
     status    the status with which it ends after that
-Asked for `replay`, it prints what stands in the journal, and writes its words beside that. Asked for `upgrade`, it prints that
-with the newest version."""
+    who       what it answers to `who`, without the last line
+Asked for `replay`, it prints what stands in the journal, and writes its words beside that. Asked for `upgrade`, it prints that, of
+one event, in the newest version."""
 
 import json
 import os
@@ -56,7 +57,8 @@ class Answers:
         if verb == "poll":
             return polls.pop(0) if polls else ["polled 0"]
         if verb == "who":
-            return ["who 1 - focus -", "end 1"]
+            told = self.script.get("who", ["who 1 - focus -"])
+            return [*told, f"end {len(told)}"]
         if verb == "status":
             return [f"held 0 kept 0 line 0 clock {self.made}"]
         if verb in ("name", "focus"):
@@ -86,14 +88,21 @@ def serve(journal, script, words):
             put("".join(each + "\n" for each in answers.lines(line)))
 
 
+def upgraded(given):
+    # A node is started without what this takes along.
+    sys.path.insert(0, str(Path(__file__).resolve().parent.parent.parent))
+    from page.tests.logs import header, log
+
+    return log(header()[:5] + given[5:11], given[12:-1])
+
+
 def main(words):
     if words[0] == "replay":
         Path(f"{os.readlink('/proc/self/fd/0')}.replayed").write_text(" ".join(words))
         sys.stdout.buffer.write(sys.stdin.buffer.read())
         return
     if words[0] == "upgrade":
-        given = sys.stdin.buffer.read()
-        sys.stdout.buffer.write(given[:4] + b"\x03" + given[5:])
+        sys.stdout.buffer.write(upgraded(sys.stdin.buffer.read()))
         return
     journal = words[words.index("--journal") + 1]
     script = Path(f"{journal}.script")

@@ -170,7 +170,24 @@ class Telling(WithDesk):
         self.assertEqual(told["who"]["who"], [{"site": 1, "name": None, "focus": None}])
         self.assertEqual(told["standing"]["standing"], {"held": 0, "kept": 0, "line": 0, "clock": 1})
         self.assertEqual((told["peers"]["silent"], [each["site"] for each in told["peers"]["peers"]]), (False, [2]))
-        self.assertEqual(list(told), ["hello", "news", "who", "standing", "peers", "picture", "history"])
+        self.assertEqual((told["parted"]["sites"], told["parted"]["older"]), ([], False))
+        self.assertEqual(list(told), ["hello", "news", "who", "standing", "parted", "peers", "picture", "history"])
+
+    async def test_whose_edits_are_others_is_told_for_as_long_as_the_node_says_so(self):
+        polls = [["parted from 2 at 3", "polled 1"], *[["polled 1"]] * 20, ["frame refused: OverAck 5 4", "polled 1"]]
+        with mock.patch("page.rounds.ASK_EVERY", 0):
+            desk = await self.desk(polls=polls, who=["who 1 - focus -", "parted from 2 at 3"], end=["undo", "", 9])
+            await until(lambda: len(self.heard("parted")) == 2)
+        self.assertEqual([(each["sites"], each["older"]) for each in self.heard("parted")], [([2], False), ([2], True)])
+        told = self.opened(desk)["parted"]
+        self.assertEqual((told["sites"], told["older"]), ([2], True))
+        # A node that is begun anew has parted from nobody.
+        await desk.batch(["undo"])
+        await until(lambda: desk.end)
+        self.script()
+        await desk.start_again()
+        told = self.heard("parted")[-1]
+        self.assertEqual((told["sites"], told["older"]), ([], False))
 
     async def test_the_edits_of_a_gesture_are_told_as_one(self):
         desk = await self.desk(poll_every=1000, refused={"raise 9.1": "NoObject"})

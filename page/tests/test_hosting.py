@@ -190,7 +190,7 @@ class Words(WithStandIn):
     async def test_a_journal_is_gone_on_with_by_as_many_seats(self):
         given = self.given()
         self.assertLess(hosting.session_of(given), 2**32)
-        self.journal.write_bytes(b"GDOL\x03" + (77).to_bytes(4, "big") + bytes([1, 2, 0]))
+        self.journal.write_bytes(b"GDOL\x07" + (77).to_bytes(4, "big") + bytes([1, 2, 0]))
         self.assertEqual(hosting.session_of(given), 77)
         self.assertEqual([str(each)[len(str(self.journal)) :] for each in hosting.journals(given)], ["", ".2"])
         given.host = 3

@@ -2,7 +2,9 @@
 
 import unittest
 
-from page.lines import Refused, datagrams_of, item_of, last_of, meaning_of, news_of, note_of, standing_of, typed
+from page.lines import (
+    Refused, datagrams_of, is_older, item_of, last_of, meaning_of, news_of, note_of, notes_of, parted_of, standing_of, typed,
+)
 
 
 class Typed(unittest.TestCase):
@@ -54,6 +56,16 @@ class Printed(unittest.TestCase):
 
     def test_a_group(self):
         self.assertEqual(item_of("group 3.1 in - at 4 -5"), {"kind": "group", "id": "3.1", "in": None, "at": [4, -5]})
+
+    def test_a_node_that_has_parted_says_so_among_the_notes(self):
+        answer = ["who 2 Ann focus -", "parted from 2 at 3", "parted from 3 at 1", "end 3"]
+        self.assertEqual(notes_of(answer), [{"site": 2, "name": "Ann", "focus": None}])
+        self.assertEqual(parted_of(answer), [2, 3])
+        self.assertEqual(parted_of(["who 2 parted focus -", "end 1"]), [])
+        rows = [("frame refused: OverAck 5 4", True), ("frame refused: Session", False), ("echo 1.2 applied text 1.1 frame refused: OverAck 5 4", False)]
+        self.assertEqual([is_older(line) for line, _ in rows], [older for _, older in rows])
+        standing = standing_of("held 3 kept 0 line 3 clock 3 parted 2")
+        self.assertEqual(standing, {"held": 3, "kept": 0, "line": 3, "clock": 3, "parted": 2})
 
     def test_notes_and_numbers(self):
         self.assertEqual(note_of("who 2 Ada focus 1.1"), {"site": 2, "name": "Ada", "focus": "1.1"})

@@ -22,7 +22,7 @@ class Sockets(WithServer):
         await page.kind("history")
         kinds = [each["is"] for each in page.told]
         self.assertEqual(kinds[:2], ["hello", "news"])
-        self.assertEqual(set(kinds), {"hello", "news", "who", "standing", "peers", "picture", "history"})
+        self.assertEqual(set(kinds), {"hello", "news", "who", "standing", "parted", "peers", "picture", "history"})
         answer = await page.ask("batch", lines=["undo", "raise 9.1"])
         self.assertEqual((answer["answers"][0][:3], answer["answers"][1], answer["edits"]), ("ok ", "refused: NoObject", 1))
         picture = await page.next(lambda each: each["is"] == "picture" and each["edits"] >= 1)

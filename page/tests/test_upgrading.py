@@ -34,7 +34,7 @@ class Upgrading(WithFolder):
         self.assertEqual(self.left(), {"": log(header(), MADE), ".v2": b"from before"})
 
     def test_what_is_none_stays_as_it_is(self):
-        for data in (log(header(), MADE), header(version=4), b"GDOB" + header()[4:], b"GDO", b""):
+        for data in (log(header(), MADE), header(version=3), header(version=4), b"GDOB" + header()[4:], b"GDO", b""):
             self.journal.write_bytes(data)
             upgrade(STAND_IN, self.journal)
             self.assertEqual(self.left(), {"": data})

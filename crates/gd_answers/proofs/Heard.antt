@@ -1,27 +1,28 @@
 -- What is taken of the events of a frame, and what is said of them, by what came of each.
-use Rattle.std.proofs.Common.{◌≡◌, ◌∙◌, List, [], ◌∷◌, ◌++◌, refl, sym, ap, ap₂}
+use Rattle.std.proofs.Common.{◌≡◌, ◌∙◌, ℕ, List, [], ◌∷◌, ◌++◌, refl, sym, ap, ap₂}
 use Rattle.std.proofs.lemmas.Bool.{cond_both}
-use Rattle.std.specs.Prelude.{Option, Some, None, Ok, Err, ◌==◌, cond}
-use Rattle.gd_answers.specs.Arriving.{arrived_by, arrived_reply, frame_heard, heard, heard_unless, is_taken, of_outcome, replies_of, reply_list, taken_of}
-use Rattle.gd_answers.specs.Paying.{frame_works, works_unless}
+use Rattle.std.specs.Prelude.{◌==◌, cond}
+use Rattle.gd_answers.specs.Arriving.{arrived_by, arrived_reply, heard, is_taken, of_outcome, replies_of, reply_list, taken_of}
+use Rattle.gd_answers.specs.Paying.{frame_works, works_by}
 use Rattle.gd_answers.specs.declared.arrived.Arrived.{Arrived}
 use Rattle.gd_base.specs.declared.offer.Offer.{Offer}
 use Rattle.gd_base.specs.declared.offer.Offer.TheVariants.{Next, Repeat, Gap, Backdated}
 use Rattle.gd_base.specs.declared.refusal.FrameFault.{FrameFault}
+use Rattle.gd_base.specs.declared.verdict.Verdict.{Verdict}
+use Rattle.gd_base.specs.declared.verdict.Verdict.TheVariants.{Refused, Parted, Passed, Taken}
 use Rattle.gd_events.specs.Events.{Event}
 use Rattle.gd_events.specs.Ops.{Op}
 use Rattle.gd_grammar.specs.FrameBytes.{Frame}
 use Rattle.gd_lines.specs.declared.reply.Reply.{Reply}
+use Rattle.gd_lines.specs.declared.reply.Reply.TheVariants as reply
 use Rattle.gd_lines.specs.declared.reply.Reply.TheVariants.{NotTaken}
 use Rattle.gd_model.specs.Arrivals.{outcome_of}
 use Rattle.gd_protocol.proofs.NodeEffects.{held-taken}
-use Rattle.gd_reference.specs.Offers.{all_arrived, arrived, finished, offer, refusal, take_frame, unless_refused, with_note}
-use Rattle.gd_reference.specs.Said.{all_said, says}
-use Rattle.gd_reference.specs.SiteEffects.{echo, events_replies, frame_replies, of_frame, offer_replies, recording, taken, taken_as, unless_refused_of, unless_refused_replies, works_of}
-use Rattle.gd_reference.specs.SlowSite.{SlowSite, count, log_end}
+use Rattle.gd_reference.specs.Offers.{after_verdict, all_arrived, arrived, finished, offer, take_frame, verdict, with_note, with_parting}
+use Rattle.gd_reference.specs.Said.{all_said}
+use Rattle.gd_reference.specs.SiteEffects.{echo, events_replies, frame_replies, of_frame, of_verdict, offer_replies, recording, taken, taken_as, verdict_replies, works_of}
+use Rattle.gd_reference.specs.SlowSite.{SlowSite, count}
 use Rattle.gd_repair.specs.Repair.{Outcome, Stamped, applied, dropped, reworked}
-use Rattle.gd_site.proofs.Finishing.{checked_none}
-use Rattle.gd_site.specs.Answers.{checked}
 
 -- ---- events
 
@@ -60,90 +61,69 @@ unfolding replies_of heard events_replies
 replies_of-heard slow [] = refl
 replies_of-heard slow (e ∷ es) = ap₂ (λ (xs ys : List Reply). xs ++ ys) (reply_by_offer slow.held e (offer slow e)) (replies_of-heard (arrived slow e) es)
 
--- ---- frames that are judged
+-- ---- frames, by their verdict
 
--- what comes of the events of a frame comes of the frame
-pub record Takes (slow : SlowSite) (f : Frame) (events : List Event) : Type 0 where
-  pub none : refusal slow f ≡ None
-  pub heard_is : frame_heard slow f ≡ Ok (heard slow events)
-  pub works : frame_works slow f ≡ works_of slow events
-  pub then_is : take_frame slow f ≡ finished (all_arrived slow events) f
-
-checked_some : (x : Option FrameFault) (why : FrameFault) → checked x ≡ Err why → x ≡ Some why
-checked_some (Some fault) why e = cc
-checked_some None why e = cc
-
-module _ (slow : SlowSite) (f : Frame) where
-  pub takes : (events : List Event) (u : Unit {0}) → events ≡ f.events → Ok u ≡ checked (refusal slow f) → Takes slow f events
-  unfolding take_frame
-  takes events u are said =
-      let none = checked_none (refusal slow f) u (sym said) in
-      record {
-        none = none;
-        heard_is = ap (heard_unless slow f) none ∙ ap (λ (es : List Event). Ok (heard slow es)) (sym are);
-        works = ap (works_unless slow f) none ∙ ap (works_of slow) (sym are);
-        then_is = ap (λ (r : Option FrameFault). unless_refused r slow f) none ∙ ap (λ (es : List Event). finished (all_arrived slow es) f) (sym are);
-      }
-
-  pub heard_refused : (why : FrameFault) → Err why ≡ checked (refusal slow f) → frame_heard slow f ≡ Err why
-  heard_refused why said = ap (heard_unless slow f) (checked_some (refusal slow f) why (sym said))
-
--- ---- frames, by what came of them
-
--- a frame that isn't refused, where this came of its events
+-- a frame that is taken, where this comes of its events
 pub record Accepts (slow : SlowSite) (f : Frame) (came : List Arrived) : Type 0 where
-  pub heard_is : heard slow f.events ≡ came
   pub works : frame_works slow f ≡ works_of slow f.events
   pub replies : frame_replies slow f ≡ replies_of f.events came
-  pub effects : of_frame slow f ≡ works_of slow f.events ++ recording (log_end slow) (taken_of f.events came) ++ all_said (replies_of f.events came)
+  pub effects : of_frame slow f
+      ≡ works_of slow f.events ++ recording slow (taken_of f.events came) ++ all_said (replies_of f.events came)
   pub then_is : take_frame slow f ≡ finished (all_arrived slow f.events) f
   pub held_is : (take_frame slow f).held ≡ slow.held ++ taken_of f.events came
 
--- one that is
-pub record Refuses (slow : SlowSite) (f : Frame) (why : FrameFault) : Type 0 where
+-- one that isn't: that is said, and nothing else comes of it
+pub record Leaves (slow : SlowSite) (f : Frame) (said : List Reply) (then : SlowSite) : Type 0 where
   pub works : frame_works slow f ≡ []
-  pub replies : frame_replies slow f ≡ NotTaken why ∷ []
-  pub effects : of_frame slow f ≡ says (NotTaken why) ∷ []
-  pub then_is : take_frame slow f ≡ slow
+  pub replies : frame_replies slow f ≡ said
+  pub effects : of_frame slow f ≡ all_said said
+  pub then_is : take_frame slow f ≡ then
 
 held_finished : (slow : SlowSite) (f : Frame) → (finished slow f).held ≡ slow.held
 held_finished slow f =
     cond_both (count slow f.head.from == f.head.count) _ _ (λ (z : SlowSite). (with_note z f).held ≡ slow.held) (λ beat. refl) (λ other. refl)
 
-unrefused : (slow : SlowSite) (f : Frame) (came : List Arrived) (r : Option FrameFault) → heard_unless slow f r ≡ Ok came → (r ≡ None) × (heard slow f.events ≡ came)
-unrefused slow f came None is = (refl, cc)
-unrefused slow f came (Some why) is = absurd cc
-
-refused : (slow : SlowSite) (f : Frame) (why : FrameFault) (r : Option FrameFault) → heard_unless slow f r ≡ Err why → r ≡ Some why
-refused slow f why None is = absurd cc
-refused slow f why (Some fault) is = cc
-
 module _ (slow : SlowSite) (f : Frame) where
-  pub accepts : (came : List Arrived) → frame_heard slow f ≡ Ok came → Accepts slow f came
+  -- where it leads by its verdict
+  pub taken_as_judged : (v : Verdict) → verdict slow f ≡ v → take_frame slow f ≡ after_verdict v slow f
   unfolding take_frame
-  accepts came is =
-      let none = (unrefused slow f came (refusal slow f) is).0 in
-      let events = (unrefused slow f came (refusal slow f) is).1 in
+  taken_as_judged v is = ap (λ (w : Verdict). after_verdict w slow f) is
+
+  pub accepts : (came : List Arrived) → verdict slow f ≡ Taken → heard slow f.events ≡ came → Accepts slow f came
+  accepts came is events =
       let took : taken slow f.events ≡ taken_of f.events came = sym (taken_of-heard slow f.events) ∙ ap (taken_of f.events) events in
       let said : events_replies slow f.events ≡ replies_of f.events came = sym (replies_of-heard slow f.events) ∙ ap (replies_of f.events) events in
-      let then : unless_refused (refusal slow f) slow f ≡ finished (all_arrived slow f.events) f = ap (λ (r : Option FrameFault). unless_refused r slow f) none in
+      let then = taken_as_judged Taken is in
       record {
-        heard_is = events;
-        works = ap (works_unless slow f) none;
-        replies = ap (unless_refused_replies slow f) none ∙ said;
-        effects = ap (unless_refused_of slow f) none
-            ∙ ap₂ (λ (es : List Event) (rs : List Reply). works_of slow f.events ++ recording (log_end slow) es ++ all_said rs) took said;
+        works = ap (works_by slow f) is;
+        replies = ap (verdict_replies slow f) is ∙ said;
+        effects = ap (of_verdict slow f) is
+            ∙ ap₂ (λ (es : List Event) (rs : List Reply). works_of slow f.events ++ recording slow es ++ all_said rs) took said;
         then_is = then;
         held_is = ap (λ (s : SlowSite). s.held) then ∙ held_finished (all_arrived slow f.events) f ∙ held-taken slow f.events ∙ ap (λ (es : List Event). slow.held ++ es) took;
       }
 
-  pub refuses : (why : FrameFault) → frame_heard slow f ≡ Err why → Refuses slow f why
-  unfolding take_frame
-  refuses why is =
-      let some = refused slow f why (refusal slow f) is in
-      record {
-        works = ap (works_unless slow f) some;
-        replies = ap (unless_refused_replies slow f) some;
-        effects = ap (unless_refused_of slow f) some;
-        then_is = ap (λ (r : Option FrameFault). unless_refused r slow f) some;
-      }
+  pub refuses : (fault : FrameFault) → verdict slow f ≡ Refused fault → Leaves slow f (NotTaken fault ∷ []) slow
+  refuses fault is = record {
+    works = ap (works_by slow f) is;
+    replies = ap (verdict_replies slow f) is;
+    effects = ap (of_verdict slow f) is;
+    then_is = taken_as_judged (Refused fault) is;
+  }
+
+  pub parts : (count : ℕ) → verdict slow f ≡ Parted count
+      → Leaves slow f (reply.Parted f.head.from count ∷ []) (with_parting slow f.head.from count)
+  parts count is = record {
+    works = ap (works_by slow f) is;
+    replies = ap (verdict_replies slow f) is;
+    effects = ap (of_verdict slow f) is;
+    then_is = taken_as_judged (Parted count) is;
+  }
+
+  pub passes : verdict slow f ≡ Passed → Leaves slow f [] slow
+  passes is = record {
+    works = ap (works_by slow f) is;
+    replies = ap (verdict_replies slow f) is;
+    effects = ap (of_verdict slow f) is;
+    then_is = taken_as_judged Passed is;
+  }

@@ -4,7 +4,7 @@ ghost use Rattle.std.specs.Prelude.{◌≡◌, ◌≤◌, length, option_map};
 ghost use Rattle.gd_answers.specs.Arriving.{IsShort, arrived_of, arrived_reply, is_taken};
 
 use arrayvec::ArrayVec;
-use gd_base::Stamp;
+use gd_base::{FrameFault, Stamp};
 use gd_events::Event;
 use gd_grammar::FRAME_EVENTS;
 use gd_history::Arrival;
@@ -28,6 +28,19 @@ pub enum Arrived {
 
 /// What came of the events of one frame, in their order.
 pub type Heard = ArrayVec<Arrived, FRAME_EVENTS>;
+
+/// What came of a frame.
+#[derive(Drop)]
+pub enum Came {
+    /// It isn't for the site, or says what can't be: nothing.
+    Refused { fault: FrameFault },
+    /// The site has parted from its sender: they hold different events of the sender, of which each has so many.
+    Parted { count: u16 },
+    /// Nothing, since they have parted before.
+    Passed,
+    /// It was taken.
+    Taken { heard: Heard },
+}
 
 impl Arrived {
     /// Whether the event is held since then.

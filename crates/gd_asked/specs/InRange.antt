@@ -12,7 +12,7 @@ IsMember session site addresses =
     (session < 2 ^ 32) × (1 ≤ site) × (site ≤ length addresses) × (length addresses ≤ SITES)
 
 abbrev pub IsInRange : Command → Type 0
-IsInRange (Replay format counts) = Unit {0}
+IsInRange (Replay format counts upto) = Unit {0}
 IsInRange Upgrade = Unit {0}
 IsInRange Snapshot = Unit {0}
 IsInRange View = Unit {0}

@@ -9,6 +9,8 @@ pub enum Command {
         format: Format,
         /// Whether it is counted, besides, how the events went.
         counts: bool,
+        /// Whether what stands before the first fault is shown, where there is one.
+        upto_fault: bool,
     },
     /// Read a log, and write it in the newest version.
     Upgrade,

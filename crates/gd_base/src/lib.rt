@@ -23,6 +23,7 @@ mod site_status;
 mod stamp;
 mod steps;
 mod ties;
+mod verdict;
 mod version;
 
 pub use content::{Content, Height, Side, is_within};
@@ -48,4 +49,5 @@ pub use site_status::SiteStatus;
 pub use stamp::Stamp;
 pub use steps::Steps;
 pub use ties::{Tie, Ties};
+pub use verdict::Verdict;
 pub use version::Version;

@@ -21,18 +21,22 @@ bytes_fall r c fits =
     (omega arith) (omega arith) (omega arith))
     ∙ ap (λ w. nexts 32 (bit_xor r w)) whole
 
--- the check of bytes with their check behind them, whichever bytes they are
-pub checked_is : (bytes : List ℕ) → AreBytes bytes
-    → check 0 (bytes ++ to_le_bytes w32 (check 0 bytes)) ≡ inverted (nexts 32 0xFFFFFFFF)
-checked_is bytes are =
-    let r = with_bytes 0xFFFFFFFF bytes in
-    let low : r < 2 ^ 32 = with_bytes-lt 0xFFFFFFFF bytes (omega arith) are in
+-- the check of bytes with their check behind them, whichever bytes they are, behind what has that check
+checked_is : (c : ℕ) (bytes : List ℕ) → c < 2 ^ 32 → AreBytes bytes
+    → check c (bytes ++ to_le_bytes w32 (check c bytes)) ≡ inverted (nexts 32 0xFFFFFFFF)
+checked_is c bytes fits are =
+    let r = with_bytes (inverted c) bytes in
+    let low : r < 2 ^ 32 = with_bytes-lt (inverted c) bytes (omega arith) are in
     ap inverted (
-    with_bytes-append 0xFFFFFFFF bytes (to_le_bytes w32 (inverted r))
+    with_bytes-append (inverted c) bytes (to_le_bytes w32 (inverted r))
     ∙ bytes_fall r (inverted r) (omega arith)
     ∙ ap (nexts 32) (with_inverted r low)
     )
 
+pub checked_alike_behind : (c : ℕ) (a b : List ℕ) → c < 2 ^ 32 → AreBytes a → AreBytes b
+    → check c (a ++ to_le_bytes w32 (check c a)) ≡ check c (b ++ to_le_bytes w32 (check c b))
+checked_alike_behind c a b fits a_are b_are = checked_is c a fits a_are ∙ sym (checked_is c b fits b_are)
+
 pub checked_alike : (a b : List ℕ) → AreBytes a → AreBytes b
     → check 0 (a ++ to_le_bytes w32 (check 0 a)) ≡ check 0 (b ++ to_le_bytes w32 (check 0 b))
-checked_alike a b a_are b_are = checked_is a a_are ∙ sym (checked_is b b_are)
+checked_alike a b a_are b_are = checked_alike_behind 0 a b (omega arith) a_are b_are

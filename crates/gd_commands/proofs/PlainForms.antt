@@ -45,16 +45,25 @@ number_is_taken low high text (number, least, most) =
 
 -- ---- the commands
 
-replay_asked : (f : Option Format) (counts : Bool) → command_of (plain_words (Replay f counts)) ≡ Some (plain_command (Replay f counts))
+replay_asked : (f : Option Format) (counts upto : Bool)
+    → command_of (plain_words (Replay f counts upto)) ≡ Some (plain_command (Replay f counts upto))
 unfolding command_of asked_by clap_on_literals
-replay_asked None false = refl
-replay_asked None true = refl
-replay_asked (Some format.Text) false = refl
-replay_asked (Some format.Text) true = refl
-replay_asked (Some format.Json) false = refl
-replay_asked (Some format.Json) true = refl
-replay_asked (Some format.Events) false = refl
-replay_asked (Some format.Events) true = refl
+replay_asked None false false = refl
+replay_asked None false true = refl
+replay_asked None true false = refl
+replay_asked None true true = refl
+replay_asked (Some format.Text) false false = refl
+replay_asked (Some format.Text) false true = refl
+replay_asked (Some format.Text) true false = refl
+replay_asked (Some format.Text) true true = refl
+replay_asked (Some format.Json) false false = refl
+replay_asked (Some format.Json) false true = refl
+replay_asked (Some format.Json) true false = refl
+replay_asked (Some format.Json) true true = refl
+replay_asked (Some format.Events) false false = refl
+replay_asked (Some format.Events) false true = refl
+replay_asked (Some format.Events) true false = refl
+replay_asked (Some format.Events) true true = refl
 
 upgrade_asked : command_of (plain_words Upgrade) ≡ Some (plain_command Upgrade)
 unfolding command_of asked_by clap_on_literals
@@ -111,7 +120,7 @@ member_asked resume session site journal (a ∷ rest) (sessions, range, plain, a
     (both_of (number_is_taken 0 (2 ^ 32 - 1) session sessions i) (number_is_taken 1 (length (a ∷ rest)) site range i))))
 
 pub plain_is_asked : (plain : Plain) → IsPlain plain → command_of (plain_words plain) ≡ Some (plain_command plain)
-plain_is_asked (Replay f counts) range = replay_asked f counts
+plain_is_asked (Replay f counts upto) range = replay_asked f counts upto
 plain_is_asked Upgrade range = upgrade_asked
 plain_is_asked Snapshot range = snapshot_asked
 plain_is_asked View range = view_asked

@@ -39,10 +39,11 @@ number_ranged low high text m h = where_ranged low high m (number_in text) h
 abbrev IsRanged : Option Command → Type 0
 IsRanged asked = (c : Command) → asked ≡ Some c → IsInRange c
 
-replay_ranged : (format : Option Format) (counts : Bool) → IsRanged (option_map (λ f. command.Replay f counts) format)
-replay_ranged None counts c h = let e = h in cc
-replay_ranged (Some f) counts c h =
-    let same : command.Replay f counts ≡ c = (let e = h in cc) in
+replay_ranged : (format : Option Format) (counts upto : Bool)
+    → IsRanged (option_map (λ f. command.Replay f counts upto) format)
+replay_ranged None counts upto c h = let e = h in cc
+replay_ranged (Some f) counts upto c h =
+    let same : command.Replay f counts upto ≡ c = (let e = h in cc) in
     subst IsInRange same tt
 
 lone_ranged : (lone : Command) → IsInRange lone → IsRanged (Some lone)
@@ -141,7 +142,8 @@ all_ranged (form ∷ rest) name words in_range c h =
 
 forms_ranged : AskInRange forms
 forms_ranged = (
-  (λ rows. replay_ranged (format_or_text (first_of (codes "format") rows)) (is_set (first_of (codes "counts") rows))),
+  (λ rows. replay_ranged (format_or_text (first_of (codes "format") rows)) (is_set (first_of (codes "counts") rows))
+      (is_set (first_of (codes "upto-fault") rows))),
   (
     (λ rows. lone_ranged command.Upgrade tt),
     (

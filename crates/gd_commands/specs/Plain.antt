@@ -13,7 +13,7 @@ use Rattle.gd_commands.specs.Numbers.{is_number}
 
 -- the values that are written
 pub data Plain : Type 0 where
-  Replay : (format : Option Format) → (counts : Bool) → Plain
+  Replay : (format : Option Format) → (counts : Bool) → (upto : Bool) → Plain
   Upgrade : Plain
   Snapshot : Plain
   View : Plain
@@ -36,13 +36,18 @@ abbrev pub counts_words : Bool → List Text
 counts_words true = codes "--counts" ∷ []
 counts_words false = []
 
+abbrev pub upto_words : Bool → List Text
+upto_words true = codes "--upto-fault" ∷ []
+upto_words false = []
+
 abbrev pub member_words : Text → Text → Text → List Text → List Text
 member_words session site journal addresses =
     codes "--session" ∷ session ∷ codes "--site" ∷ site ∷ codes "--journal" ∷ journal ∷ addresses
 
 -- how they are written
 abbrev pub plain_words : Plain → List Text
-plain_words (Replay format counts) = codes "replay" ∷ (format_words format ++ counts_words counts)
+plain_words (Replay format counts upto) =
+    codes "replay" ∷ ((format_words format ++ counts_words counts) ++ upto_words upto)
 plain_words Upgrade = codes "upgrade" ∷ []
 plain_words Snapshot = codes "snapshot" ∷ []
 plain_words View = codes "view" ∷ []
@@ -59,7 +64,7 @@ format_meant (Some f) = f
 
 -- the command that they ask for
 abbrev pub plain_command : Plain → Command
-plain_command (Replay format counts) = command.Replay (format_meant format) counts
+plain_command (Replay format counts upto) = command.Replay (format_meant format) counts upto
 plain_command Upgrade = command.Upgrade
 plain_command Snapshot = command.Snapshot
 plain_command View = command.View
@@ -91,7 +96,7 @@ IsPlainMember session site journal addresses =
 
 -- each value, and the number of addresses, is as the form says, and no value and no address is empty or begins with a hyphen
 abbrev pub IsPlain : Plain → Type 0
-IsPlain (Replay format counts) = Unit {0}
+IsPlain (Replay format counts upto) = Unit {0}
 IsPlain Upgrade = Unit {0}
 IsPlain Snapshot = Unit {0}
 IsPlain View = Unit {0}

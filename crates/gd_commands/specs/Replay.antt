@@ -1,4 +1,5 @@
--- The form of `replay`: `[--format text|json|events] [--counts]`. The format is `text` where none is given.
+-- The form of `replay`: `[--format text|json|events] [--counts] [--upto-fault]`. The format is `text` where none is
+-- given.
 use Rattle.std.specs.Prelude.{[], ◌∷◌, Option, Some, None, bytes_eq, codes, if◌then◌else◌, option_map}
 use Rattle.clap.specs.Words.{Rule, Text, first_of, new_rule}
 use Rattle.gd_asked.specs.declared.command.Command.{Command}
@@ -21,13 +22,15 @@ abbrev pub format_or_text : Option Text → Option Format
 format_or_text None = Some format.Text
 format_or_text (Some word) = format_in word
 
-abbrev pub replay_by : Option Text → Option Text → Option Command
-replay_by format counts = option_map (λ f. command.Replay f (is_set counts)) (format_or_text format)
+abbrev pub replay_by : Option Text → Option Text → Option Text → Option Command
+replay_by format counts upto = option_map (λ f. command.Replay f (is_set counts) (is_set upto)) (format_or_text format)
 
 abbrev pub replay_form : Form
 replay_form =
     record {
       name = codes "replay";
-      arguments = format_rule ∷ flag_rule (codes "counts") ∷ [];
-      asks = λ rows. replay_by (first_of (codes "format") rows) (first_of (codes "counts") rows);
+      arguments = format_rule ∷ flag_rule (codes "counts") ∷ flag_rule (codes "upto-fault") ∷ [];
+      asks =
+          λ rows. replay_by (first_of (codes "format") rows) (first_of (codes "counts") rows)
+          (first_of (codes "upto-fault") rows);
     }

@@ -58,11 +58,13 @@ other_rows =
 
 abbrev pub replay_rows : List Row
 replay_rows =
-    asks (codes "replay") (Replay format.Text false)
-    ∷ asks (codes "replay --format json --counts") (Replay format.Json true)
-    ∷ asks (codes "replay --counts --format json") (Replay format.Json true)
-    ∷ asks (codes "replay --format=events") (Replay format.Events false)
-    ∷ asks (codes "replay --") (Replay format.Text false)
+    asks (codes "replay") (Replay format.Text false false)
+    ∷ asks (codes "replay --format json --counts") (Replay format.Json true false)
+    ∷ asks (codes "replay --counts --format json") (Replay format.Json true false)
+    ∷ asks (codes "replay --format=events") (Replay format.Events false false)
+    ∷ asks (codes "replay --upto-fault --counts") (Replay format.Text true true)
+    ∷ asks (codes "replay --") (Replay format.Text false false)
+    ∷ refused (codes "replay --upto")
     ∷ refused (codes "replay --counts --counts")
     ∷ refused (codes "replay --format json --format text")
     ∷ refused (codes "replay --format xml")

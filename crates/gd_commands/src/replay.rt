@@ -19,7 +19,8 @@ fn replay_command<'a>(alloc: Global) -> Result<ClapCommand<'a>, AllocError>
     let format = Arg::new(alloc, "format").long("format");
     bare(alloc, "replay")
         .arg(format)?
-        .arg(flag(alloc, "counts"))
+        .arg(flag(alloc, "counts"))?
+        .arg(flag(alloc, "upto-fault"))
 }
 
 /// The format that a word names.
@@ -38,8 +39,13 @@ fn format_of(word: &str) -> Option<Format>
 }
 
 /// The command with these values.
-fn replay_by(format: Option<&str>, counts: Option<&str>) -> Option<Command>
-    ensures { result ≡ replay_by (text_of format.entry) (text_of counts.entry) }
+fn replay_by(
+    format: Option<&str>,
+    counts: Option<&str>,
+    upto_fault: Option<&str>,
+) -> Option<Command>
+    ensures { result
+        ≡ replay_by (text_of format.entry) (text_of counts.entry) (text_of upto_fault.entry) }
 {
     let format = match format {
         None => Format::Text,
@@ -48,6 +54,7 @@ fn replay_by(format: Option<&str>, counts: Option<&str>) -> Option<Command>
     Some(Command::Replay {
         format,
         counts: is_set(counts),
+        upto_fault: is_set(upto_fault),
     })
 }
 
@@ -58,5 +65,10 @@ pub fn read_replay<S: AsStr>(alloc: Global, words: &[S]) -> Result<Command, Comm
         → asked_by replay_form (map S.text words.now) ≡ None }
 {
     let matches = matches_of(replay_command(alloc)?, words)?;
-    replay_by(text(&matches, "format"), text(&matches, "counts")).ok_or(CommandFault::Usage)
+    replay_by(
+        text(&matches, "format"),
+        text(&matches, "counts"),
+        text(&matches, "upto-fault"),
+    )
+    .ok_or(CommandFault::Usage)
 }

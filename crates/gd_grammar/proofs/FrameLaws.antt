@@ -1,18 +1,17 @@
 -- The laws of the bytes of frames.
 use Rattle.std.proofs.Common.{◌≡◌, ◌≢◌, ◌∙◌, ℕ, List, [], ◌∷◌, ◌++◌, length, Ok, sym, ap, append_assoc, arith}
-use Rattle.std.specs.Int.{w32, to_le_bytes}
 use Rattle.std.proofs.lemmas.List.{append-nil, length-append}
 use Rattle.gd_check.specs.Checks.{IsBurst, check}
 use Rattle.gd_check.proofs.Bursts.{bursts_found}
 use Rattle.gd_check.proofs.Checked.{checked_alike}
-use Rattle.gd_grammar.specs.FieldBytes.{AreBytes}
+use Rattle.gd_grammar.specs.FieldBytes.{AreBytes, check_bytes}
 use Rattle.gd_grammar.specs.FrameBytes.{Frame, frame_at, frame, body_bytes, frame_bytes, IsFrame}
 use Rattle.gd_grammar.proofs.ByteLemmas.{both, body-are, frame-are}
 use Rattle.gd_grammar.proofs.Exact.{result_of, ok_is}
 use Rattle.gd_grammar.proofs.ExactFrame.{body-of, exact-frame-at, frame-taken}
 
 abbrev checksum_bytes_of : Frame → List ℕ
-checksum_bytes_of f = to_le_bytes w32 (check 0 (body_bytes f))
+checksum_bytes_of f = check_bytes (check 0 (body_bytes f))
 
 -- no frame's bytes are the beginning of another's
 pub no-frame-prefix : (f g : Frame) (r s : List ℕ) → IsFrame f → IsFrame g

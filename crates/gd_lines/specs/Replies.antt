@@ -1,5 +1,5 @@
 -- The printed lines: `reply_text`, at the end, has a row for each. Each line ends with LF. Numbers are decimal without leading zeros.
-use Rattle.std.specs.Prelude.{ℕ, List, ◌++◌, Option, Some, None, Bool, true, false, codes, decimal}
+use Rattle.std.specs.Prelude.{ℕ, List, [], ◌++◌, Option, Some, None, Bool, true, false, ◌==◌, if◌then◌else◌, codes, decimal}
 use Rattle.gd_base.specs.Stamps.{Stamp}
 use Rattle.gd_base.specs.declared.refusal.Refusal.{Refusal}
 use Rattle.gd_base.specs.declared.refusal.Refusal.TheVariants as why
@@ -13,7 +13,7 @@ use Rattle.gd_base.specs.declared.site_status.SiteStatus.{SiteStatus}
 use Rattle.gd_events.specs.Ops.{Op}
 use Rattle.gd_lines.specs.OpText.{op_text, spaced}
 use Rattle.gd_lines.specs.declared.reply.Reply.{Reply}
-use Rattle.gd_lines.specs.declared.reply.Reply.TheVariants.{Ready, Done, Refused, Item, End, Status, Noted, Who, Applied, Dropped, Reworked, Backdated, BadFrame, NotTaken, LongFrame, Polled, LinkFault, Mail, Delivered, BadLog, Usage, LineLimit, OtherJournal, BadView, Arrivals, SiteLine, Churned, Same}
+use Rattle.gd_lines.specs.declared.reply.Reply.TheVariants.{Ready, Done, Refused, Item, End, Status, Noted, Who, Applied, Dropped, Reworked, Backdated, BadFrame, NotTaken, Parted, LongFrame, Polled, LinkFault, Mail, Delivered, BadLog, Usage, LineLimit, OtherJournal, BadView, Arrivals, SiteLine, Churned, Same}
 use Rattle.gd_lines.specs.Text.{id_text, parent_text, item_line, end_line, bad_log_line, bad_view_line}
 
 -- why a line is refused
@@ -64,10 +64,17 @@ unfoldable pub refused_line : Refusal → List ℕ
 refused_line why = codes "refused: " ++ refusal_word why ++ codes "\n"
 
 -- how many events are held and kept, the line, and the clock
-unfoldable pub status_text : SiteStatus → List ℕ
-status_text status =
+unfoldable pub standing_text : SiteStatus → List ℕ
+standing_text status =
     codes "held " ++ decimal status.held ++ codes " kept " ++ decimal status.kept
     ++ codes " line " ++ decimal status.line ++ codes " clock " ++ decimal status.clock
+
+-- from how many sites it has parted, where it has
+abbrev pub parted_text : ℕ → List ℕ
+parted_text count = if count == 0 then [] else codes " parted " ++ decimal count
+
+unfoldable pub status_text : SiteStatus → List ℕ
+status_text status = standing_text status ++ parted_text status.parted
 
 unfoldable pub status_line : SiteStatus → List ℕ
 status_line status = status_text status ++ codes "\n"
@@ -122,6 +129,9 @@ not_taken_line frame.NotForMe = codes "frame refused: NotForMe\n"
 not_taken_line frame.FromMe = codes "frame refused: FromMe\n"
 not_taken_line frame.NoSuchSite = codes "frame refused: NoSuchSite\n"
 not_taken_line (frame.OverAck k own) = over_ack_line k own
+
+unfoldable pub parted_line : ℕ → ℕ → List ℕ
+parted_line site count = codes "parted from " ++ decimal site ++ codes " at " ++ decimal count ++ codes "\n"
 
 abbrev pub long_frame_line : List ℕ
 long_frame_line = codes "frame refused: TooLong\n"
@@ -178,6 +188,7 @@ reply_text (Reworked id count op) = reworked_line id count op
 reply_text (Backdated id clock sure) = backdated_line id clock sure
 reply_text (BadFrame fault) = bad_frame_line fault
 reply_text (NotTaken fault) = not_taken_line fault
+reply_text (Parted site count) = parted_line site count
 reply_text LongFrame = long_frame_line
 reply_text (Polled count) = polled_line count
 reply_text (LinkFault count) = link_fault_line count

@@ -105,6 +105,8 @@ why_word why.MemberOrder = codes "MemberOrder"
 why_word why.NoSite = codes "NoSite"
 why_word why.Turn = codes "Turn"
 why_word why.Backdated = codes "Backdated"
+why_word why.Check = codes "Check"
+why_word why.Behind = codes "Behind"
 
 -- the place and the reason of a log's first fault
 unfoldable pub bad_log_line : ℕ → LogWhy → List ℕ

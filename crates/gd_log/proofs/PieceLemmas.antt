@@ -1,22 +1,35 @@
 -- The pieces of a log, printed one after another.
 use Rattle.std.proofs.Common.{◌≡◌, ℕ, List, [], ◌∷◌, ◌++◌, map, sym, ap, ◌∙◌}
+use Rattle.gd_base.specs.declared.version.Version.TheVariants.{Three}
 use Rattle.gd_events.specs.Events.{Event}
+use Rattle.gd_grammar.specs.Chains.{AreChains}
 use Rattle.gd_grammar.specs.HeaderBytes.{Header, header_bytes}
-use Rattle.gd_grammar.specs.LogBytes.{gate, log_pieces, record_pieces}
-use Rattle.gd_grammar.specs.Drawings.{drawings, spelling}
+use Rattle.gd_grammar.specs.LogBytes.{gate, log_pieces, record_bytes, record_pieces}
+use Rattle.gd_grammar.specs.Drawings.{drawings}
 use Rattle.gd_effects.specs.Effects.{Effect, Print}
 
 abbrev pub prints : List (List ℕ) → List Effect
 prints pieces = map Print pieces
 
-pub pieces-head : (header : Header) (events : List Event) (bytes written : List ℕ) → bytes ≡ written → written ≡ header_bytes drawings header
-    → prints (log_pieces drawings header events) ≡ (Print bytes ∷ []) ++ prints (record_pieces drawings events)
-pieces-head header events bytes written same is = ap (λ (b : List ℕ). Print b ∷ prints (record_pieces drawings events)) (sym (same ∙ is))
+-- the pieces behind those of the events that were seen
+abbrev pub pieces : List Event → List Event → List Effect
+pieces seen left = prints (record_pieces drawings Three seen left)
 
-pub pieces-record : (left rest : List Event) (e : Event) (bytes written : List ℕ) → left ≡ e ∷ rest → bytes ≡ written → written ≡ gate ∷ spelling e
-    → prints (record_pieces drawings left) ≡ (Print bytes ∷ []) ++ prints (record_pieces drawings rest)
-pieces-record left rest e bytes written first same is =
-    ap (λ (es : List Event). prints (record_pieces drawings es)) first ∙ ap (λ (b : List ℕ). Print b ∷ prints (record_pieces drawings rest)) (sym (same ∙ is))
+pub pieces-head : (header : Header) (events : List Event) (bytes written : List ℕ) → header.version ≡ Three
+    → bytes ≡ written → written ≡ header_bytes drawings header
+    → prints (log_pieces drawings header events) ≡ (Print bytes ∷ []) ++ pieces [] events
+pieces-head header events bytes written newest same is =
+    ap (λ v. Print (header_bytes drawings header) ∷ prints (record_pieces drawings v [] events)) newest
+    ∙ ap (λ (b : List ℕ). Print b ∷ pieces [] events) (sym (same ∙ is))
 
-pub pieces-end : (left : List Event) → left ≡ [] → prints (record_pieces drawings left) ≡ Print (0 ∷ []) ∷ []
-pieces-end left none = ap (λ (es : List Event). prints (record_pieces drawings es)) none
+pub pieces-record : (seen left rest : List Event) (e : Event) (bytes written : List ℕ) → left ≡ e ∷ rest
+    → bytes ≡ written → written ≡ gate ∷ record_bytes drawings Three seen e
+    → pieces seen left ≡ (Print bytes ∷ []) ++ pieces (seen ++ e ∷ []) rest
+unfolding record_pieces
+pieces-record seen left rest e bytes written first same is =
+    ap (λ (es : List Event). pieces seen es) first
+    ∙ ap (λ (b : List ℕ). Print b ∷ pieces (seen ++ e ∷ []) rest) (sym (same ∙ is))
+
+pub pieces-end : (seen left : List Event) → left ≡ [] → pieces seen left ≡ Print (0 ∷ []) ∷ []
+unfolding record_pieces
+pieces-end seen left none = ap (λ (es : List Event). pieces seen es) none

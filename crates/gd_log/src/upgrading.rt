@@ -3,6 +3,7 @@
 ghost use Rattle.std.specs.Prelude.{◌≡◌, map, ℕ, Err, ◌⊎◌, IsSome};
 ghost use Rattle.gd_outside.specs.Seen.{SeenJournal, SeenLink};
 ghost use Rattle.gd_outside.specs.Told.{told};
+ghost use Rattle.gd_base.specs.declared.version.Version.TheVariants as version;
 ghost use Rattle.gd_grammar.specs.Drawings.{drawings};
 ghost use Rattle.gd_grammar.specs.HeaderBytes.{upgraded};
 ghost use Rattle.gd_grammar.specs.LogBytes.{log_pieces};
@@ -17,11 +18,11 @@ use gd_events::EventList;
 use gd_logs::{CLOSED, LogFault, ReadError, gated_of, read_log};
 use gd_outside::{End, Sink, Source, Status};
 use gd_reading::refuse;
-use gd_wire::{Drawings, HeaderBytes, LogHeader, write_header};
+use gd_wire::{Chains, Drawings, HeaderBytes, LogHeader, write_header};
 use std::alloc::Global;
 
-/// Reads a log to its end, and writes it with a header of the newest version: the header, each event behind an open gate, and a
-/// closed gate. It takes no steps.
+/// Reads a log to its end, and writes it with a header of the newest version: the header, each event with its check behind an open
+/// gate, and a closed gate. It takes no steps.
 ///
 /// `Done` after the log, and `BadLog` after the line of the first fault where the bytes are no log. `ReadFault` where a read
 /// failed and `NoMemory` where memory ran out, both with nothing written, and `WriteFault` where a write failed, with a
@@ -52,6 +53,7 @@ pub fn upgrade<S: Source, K: Sink>(alloc: Global, source: &mut S, output: &mut K
 
 /// Writes the log of these events. Each is let go once it is written.
 fn write_log<K: Sink>(header: LogHeader, events: EventList, output: &mut K) -> Result<(), End>
+    requires newest { header.version ≡ version.Three }
     ensures does { Prints (K.seen output.old) (map Print (log_pieces drawings header events)) result
         (K.seen output.new) }
     ensures end { (e : End) → result ≡ Err e → e ≡ End.WriteFault }
@@ -59,10 +61,11 @@ fn write_log<K: Sink>(header: LogHeader, events: EventList, output: &mut K) -> R
     let mut head = HeaderBytes::new();
     write_header(&header, &mut head);
     print(output, head.as_slice())?;
+    let mut chains = Chains::new();
     let mut left = events.into_events();
     'records: while let Some(listed) = left.next() {
         let event = listed.into_event();
-        let record = gated_of::<Drawings>(&event);
+        let record = gated_of::<Drawings>(&event, &mut chains);
         print(output, record.as_slice())?;
     }
     print(output, &[CLOSED])

@@ -2,15 +2,19 @@
 #![tactic(auto)]
 
 mod ahead;
+mod front;
 pub mod laws;
 mod log;
+mod misread;
 mod pieces;
 mod reader;
 mod record;
 mod stopped;
 mod turns;
+mod versions;
 mod writer;
 
+pub use front::{FaultAt, LogFront, read_front_of};
 pub use log::{ReadError, WholeLog, read_log, read_log_of, read_whole_of};
 pub use pieces::{CLOSED, Records, gated_of};
 pub use reader::{KindReader, LogReader};

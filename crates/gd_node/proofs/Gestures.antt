@@ -24,7 +24,7 @@ use Rattle.gd_outside.specs.declared.end.End.TheVariants.{NoMemory}
 use Rattle.gd_reference.specs.Backs.{Backs, with_gesture}
 use Rattle.gd_reference.specs.Said.{all_said}
 use Rattle.gd_reference.specs.SiteEffects.{asked_replies, asked_reply, gesture_replies, of_gesture, of_own, recording, tries_with}
-use Rattle.gd_reference.specs.SlowSite.{SlowSite, log_end}
+use Rattle.gd_reference.specs.SlowSite.{SlowSite}
 use Rattle.gd_reference.specs.TakeBack.{Asked, after_asked, after_gesture, answer, backs_of, events_in, made, with_events, with_made}
 use Rattle.gd_site.specs.Sites.{SiteValue, StandsFor}
 use Rattle.gd_takeback.proofs.Doing.{made-more, made-none}
@@ -193,7 +193,7 @@ gesture_made slow asked ranged {old} m site gesture h es events kept keeps =
 -- its effects begin with the steps
 own_begins : (slow : SlowSite) (es : List Event) (replies : List Reply) → of_own slow es replies ≡ steps_of es ++ of_made slow es replies
 own_begins slow es replies =
-    let records = recording (log_end slow) es in
+    let records = recording slow es in
     let frames = tries_with slow es in
     ap (λ xs. xs ++ frames) (append_assoc (steps_of es) records (all_said replies)) ∙ append_assoc (steps_of es) (records ++ all_said replies) frames
 

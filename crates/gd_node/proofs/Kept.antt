@@ -20,6 +20,7 @@ use Rattle.gd_outside.specs.Told.{told}
 use Rattle.gd_outside.specs.declared.end.End.{End}
 use Rattle.gd_reference.specs.Said.{all_said}
 use Rattle.gd_reference.specs.SiteEffects.{recording}
+use Rattle.gd_reference.specs.SlowSite.{SlowSite}
 
 -- ---- what begins no journal
 
@@ -28,9 +29,9 @@ no_head_said [] = tt
 no_head_said (line ∷ lines) = no_head_said lines
 
 -- what is recorded and said together
-pub no_head_noted : (place : ℕ) (es : List Event) (replies : List Reply) → HasNoHead (recording place es ++ all_said replies)
-no_head_noted place [] replies = no_head_said (map reply_text replies)
-no_head_noted place (e ∷ es) replies = no_head_said (map reply_text replies)
+pub no_head_noted : (slow : SlowSite) (es : List Event) (replies : List Reply) → HasNoHead (recording slow es ++ all_said replies)
+no_head_noted slow [] replies = no_head_said (map reply_text replies)
+no_head_noted slow (e ∷ es) replies = no_head_said (map reply_text replies)
 
 -- ---- what is kept
 

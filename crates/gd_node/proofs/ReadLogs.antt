@@ -1,23 +1,33 @@
 -- A log is read as events that obey its rules, whoever wrote it.
 use Rattle.std.proofs.Common.{◌≡◌, ◌==◌, ℕ, zero, suc, Bool, true, false, cond, List, [], ◌∷◌, ◌++◌, length, Option}
-use Rattle.std.proofs.Common.{Some, None, Result, Ok, Err, refl, ap, subst}
+use Rattle.std.proofs.Common.{Some, None, Result, Ok, Err, refl, sym, ap, subst}
 use Rattle.std.specs.Prelude.{IfOk}
 use Rattle.gd_base.specs.Results.{◌>>=◌}
 use Rattle.gd_base.specs.declared.fault.FieldFault.{FieldFault}
 use Rattle.gd_base.specs.declared.fault.LogWhy.{LogWhy}
+use Rattle.gd_base.specs.declared.fault.LogWhy.TheVariants as reason
+use Rattle.gd_base.specs.declared.version.Version.{Version}
 use Rattle.gd_events.specs.Events.{Event}
 use Rattle.gd_events.specs.Sound.{IsOp, IsSound}
 use Rattle.gd_grammar.proofs.DrawingKind.{drawing_laws}
 use Rattle.gd_grammar.proofs.Exact.{back_bytes}
 use Rattle.gd_grammar.proofs.ExactEvent.{exact_event}
+use Rattle.gd_grammar.proofs.ExactFields.{exact_check_word}
 use Rattle.gd_grammar.proofs.ExactHeader.{IsWordHeader, exact_header}
+use Rattle.gd_grammar.proofs.LogRecords.{check-keeps}
+use Rattle.gd_grammar.proofs.Steady.{bind_ok, passed}
+use Rattle.gd_grammar.specs.Chains.{check_with}
 use Rattle.gd_grammar.specs.Drawings.{drawings, log}
-use Rattle.gd_grammar.specs.FieldBytes.{AreBytes}
+use Rattle.gd_grammar.specs.FieldBytes.{AreBytes, check_bytes}
+use Rattle.gd_grammar.specs.Fields.{check_word_at}
 use Rattle.gd_grammar.specs.HeaderBytes.{Header, header_at, header_bytes}
 use Rattle.gd_grammar.specs.Kinds.{event_at, spelling}
 use Rattle.gd_grammar.specs.LogBytes as logs
-use Rattle.gd_grammar.specs.LogBytes.{LogMisread, events_at, gate, in_log, record_at, settled, step_at, turn_fault}
-use Rattle.gd_logs.specs.Written.{AreNext, IsRuled}
+use Rattle.gd_grammar.specs.LogBytes.{LogMisread, checked, events_at, gate, in_log, is_closed, record_at, settled, step_at}
+use Rattle.gd_grammar.specs.LogBytes.{turn_fault, with_check}
+use Rattle.gd_grammar.specs.Versions.{has_checks}
+use Rattle.gd_logs.proofs.CheckLemmas.{in_log-ok}
+use Rattle.gd_logs.specs.Written.{AreNext, IsRuled, fault_by}
 use Rattle.gd_reference.specs.Rejoin.{node_header}
 use Rattle.gd_site.proofs.Ruled.{header, next_more}
 
@@ -36,6 +46,20 @@ record Behind (h : Header) (seen : List Event) (x : Event × List ℕ) : Type 0 
   turn : turn_fault h.n seen x.0 ≡ None
   rest : AreBytes x.1
 
+-- what is left behind its check, where it has one
+checked_rest : (version : Version) (seen : List Event) (y x : Event × List ℕ) → AreBytes y.1
+    → checked drawings version seen y ≡ Ok x → AreBytes x.1
+checked_rest version seen y x are e = go (has_checks version) e
+  where
+    go : (has : Bool) → cond has (with_check drawings seen y) (Ok y) ≡ Ok x → AreBytes x.1
+    go true q =
+        let word = bind_ok (in_log (check_word_at y.1)) _ x q in
+        let right = passed (word.0.0 == check_with drawings seen y.0) (y.0, word.0.1) x _ word.2 in
+        let took = exact_check_word.taken y.1 word.0 are (in_log-ok (check_word_at y.1) word.0 word.1) in
+        subst (λ (z : Event × List ℕ). AreBytes z.1) right.1
+        (back_bytes (check_bytes word.0.0) word.0.1 y.1 are took.text.is)
+    go false q = let same : y ≡ x = cc in subst (λ (z : Event × List ℕ). AreBytes z.1) same are
+
 module _ (h : Header) where
   record_behind : (seen : List Event) (bytes : List ℕ) (x : Event × List ℕ) → AreBytes bytes
       → record_at drawings h seen bytes ≡ Ok x → Behind h seen x
@@ -43,28 +67,39 @@ module _ (h : Header) where
   record_behind seen bytes x are e = go (event_at drawings h.version bytes) refl e
     where
       go : (r : Result (Event × List ℕ) FieldFault) → event_at drawings h.version bytes ≡ r
-          → (in_log r >>= λ y. settled (turn_fault h.n seen y.0) (length bytes) y) ≡ Ok x → Behind h seen x
+          → (in_log r >>= λ y. settled (turn_fault h.n seen y.0) (length bytes) y >>= λ y. checked drawings h.version seen y)
+          ≡ Ok x → Behind h seen x
       go (Ok y) is k =
-          let s = settled_none (turn_fault h.n seen y.0) (length bytes) y x k in
+          let turned = bind_ok (settled (turn_fault h.n seen y.0) (length bytes) y) _ x k in
+          let s = settled_none (turn_fault h.n seen y.0) (length bytes) y turned.0 turned.1 in
+          let kept : checked drawings h.version seen y ≡ Ok x =
+          subst (λ (z : Event × List ℕ). checked drawings h.version seen z ≡ Ok x) (sym s.1) turned.2 in
+          let same = check-keeps drawings h.version seen y x kept in
           let took = (exact_event drawing_laws h.version).taken bytes y are is in
           let rest = back_bytes (spelling drawings y.0) y.1 bytes are took.text.is in
-          subst (Behind h seen) s.1 (record { sound = took.sound.sound; turn = s.0; rest = rest })
+          record {
+            sound = subst IsSound same took.sound.sound;
+            turn = subst (λ (e : Event). turn_fault h.n seen e ≡ None) same s.0;
+            rest = checked_rest h.version seen y x rest kept;
+          }
       go (Err fault) is k = absurd cc
 
   step_behind : (seen : List Event) (bytes : List ℕ) (x : Event × List ℕ) → AreBytes bytes
       → step_at drawings h seen bytes ≡ Ok (Some x) → Behind h seen x
   unfolding step_at
   step_behind seen [] x are e = absurd cc
-  step_behind seen (b ∷ bytes) x are e = go (b == gate) (record_at drawings h seen bytes) refl e
+  step_behind seen (b ∷ bytes) x are e = go (b == gate) (is_closed h.version b) (record_at drawings h seen bytes) refl e
     where
-      go : (open_gate : Bool) (r : Result (Event × List ℕ) LogMisread) → record_at drawings h seen bytes ≡ r
-          → cond open_gate (r >>= λ y. Ok (Some y)) (Ok None) ≡ Ok (Some x) → Behind h seen x
-      go true (Ok y) is k =
+      go : (open_gate closed : Bool) (r : Result (Event × List ℕ) LogMisread) → record_at drawings h seen bytes ≡ r
+          → cond open_gate (r >>= λ y. Ok (Some y)) (cond closed (Ok None) (Err (fault_by reason.Behind (length (b ∷ bytes)))))
+          ≡ Ok (Some x) → Behind h seen x
+      go true closed (Ok y) is k =
           let same : y ≡ x = cc in
           record_behind seen bytes x (back_bytes (b ∷ []) bytes (b ∷ bytes) are refl)
           (subst (λ z. record_at drawings h seen bytes ≡ Ok z) same is)
-      go true (Err fault) is k = absurd cc
-      go false r is k = absurd cc
+      go true closed (Err fault) is k = absurd cc
+      go false true r is k = absurd cc
+      go false false r is k = absurd cc
 
 module _ (me sites session : ℕ) where
   abbrev h : Header

@@ -20,7 +20,7 @@ use Rattle.gd_outside.specs.declared.end.End.TheVariants as end
 use Rattle.gd_protocol.specs.Sites.{IsWell}
 use Rattle.gd_reference.specs.Said.{all_said, says}
 use Rattle.gd_reference.specs.SiteEffects.{recording, tries_with}
-use Rattle.gd_reference.specs.SlowSite.{SlowSite, journal_header, log_end}
+use Rattle.gd_reference.specs.SlowSite.{SlowSite, journal_header}
 use Rattle.gd_reference.specs.TakeBack.{with_events}
 use Rattle.gd_site.specs.Sites.{StandsFor}
 
@@ -41,7 +41,7 @@ pub record IsAhead (slow : SlowSite) (es : List Event) (member : Member) (journa
 
 -- what is still owed then
 abbrev pub of_made : SlowSite → List Event → List Reply → List Effect
-of_made slow es replies = recording (log_end slow) es ++ all_said replies ++ tries_with slow es
+of_made slow es replies = recording slow es ++ all_said replies ++ tries_with slow es
 
 -- A call at a node did that, or until its early end a part of it. The log has the events then, and nothing else of the member
 -- has changed.

@@ -2,11 +2,13 @@
 
 ghost use Rattle.std.specs.List.{flat_map};
 ghost use Rattle.std.specs.Prelude.{◌≡◌, ℕ, ◌∷◌, [], List, IfOk};
+ghost use Rattle.gd_events.specs.Events.{Event as EventValue};
+ghost use Rattle.gd_grammar.specs.Chains.{AreChains};
 ghost use Rattle.gd_grammar.specs.Drawings.{drawings};
-ghost use Rattle.gd_grammar.specs.LogBytes.{gated_bytes};
 ghost use Rattle.gd_lines.specs.Replies.{reply_text};
 ghost use Rattle.gd_lines.specs.declared.reply.Reply.{Reply as ReplyValue};
 ghost use Rattle.gd_lines.specs.declared.reply.Reply.TheVariants as reply;
+ghost use Rattle.gd_logs.specs.Written.{AreRecords};
 ghost use Rattle.gd_node.specs.Editing.{Announces, IsAhead};
 ghost use Rattle.gd_node.specs.Owing.{node};
 ghost use Rattle.gd_reference.specs.SlowSite.{SlowSite};
@@ -16,7 +18,7 @@ use crate::member::Member;
 use crate::sending::{send_frames_with, send_newest};
 use gd_answers::Said;
 use gd_events::{Event, ListedEvent};
-use gd_logs::Records;
+use gd_logs::{LogWriter, Records};
 use gd_outside::{End, Journal, Link, Sink};
 use gd_wire::Drawings;
 use gd_words::Reply;
@@ -62,17 +64,22 @@ pub(crate) fn announce_all<K: Sink, J: Journal, N: Link>(
         (node member.old (K.seen output.old) (J.seen journal.old) (N.seen link.old) steps)
         (node member.new (K.seen output.new) (J.seen journal.new) (N.seen link.new) steps) }
 {
-    let records = records_of(member.alloc, events)?;
+    let records = records_of(member.alloc, &member.log, events)?;
     record_all_and_say(&mut member.log, records, said, output, journal)?;
     send_frames_with(&member.site, events, link);
     Ok(())
 }
 
-/// The records of these events.
-fn records_of(alloc: Global, events: &[ListedEvent]) -> Result<Records<Drawings>, AllocError>
-    ensures { IfOk result (λ records. records ≡ gated_bytes drawings events.now) }
+/// The records of these events, to be added to that log.
+fn records_of(
+    alloc: Global,
+    log: &LogWriter,
+    events: &[ListedEvent],
+) -> Result<Records<Drawings>, AllocError>
+    ensures { IfOk result (λ records. (seen : List EventValue)
+        → AreChains drawings log.now.chains seen → AreRecords drawings seen events.now records) }
 {
-    let mut records = Records::new(alloc);
+    let mut records = Records::new(alloc, log);
     for listed in events {
         records.add(&listed.event())?;
     }

@@ -9,19 +9,18 @@ ghost use Rattle.gd_effects.specs.Effects.{Head, Record};
 ghost use Rattle.gd_effects.specs.Outside.{outside};
 ghost use Rattle.gd_events.specs.Events.{Event as EventValue};
 ghost use Rattle.gd_events.specs.Sound.{IsOp};
-ghost use Rattle.gd_grammar.specs.Closing.{gate_place};
 ghost use Rattle.gd_grammar.specs.Drawings.{drawings};
-ghost use Rattle.gd_grammar.specs.HeaderBytes.{Header, header_bytes};
-ghost use Rattle.gd_grammar.specs.LogBytes.{gated_bytes};
+ghost use Rattle.gd_grammar.specs.HeaderBytes.{header_bytes};
 ghost use Rattle.gd_lines.specs.Replies.{reply_text};
 ghost use Rattle.gd_lines.specs.declared.reply.Reply.{Reply as ReplyValue};
-ghost use Rattle.gd_logs.specs.Written.{IsRuled};
+ghost use Rattle.gd_logs.specs.Written.{AreRecords, IsRuled};
 ghost use Rattle.gd_node.specs.Calls.{Writes};
 ghost use Rattle.gd_node.specs.Meeting.{HasLog};
 ghost use Rattle.gd_outside.specs.Seen.{SeenSource, SeenLink};
 ghost use Rattle.gd_outside.specs.Told.{told, Stays};
 ghost use Rattle.gd_reference.specs.Said.{all_said, says};
 ghost use Rattle.gd_reference.specs.SiteEffects.{recording};
+ghost use Rattle.gd_reference.specs.SlowSite.{SlowSite, journal_header, log_end};
 
 use gd_answers::{Said, say};
 use gd_events::Event;
@@ -57,17 +56,18 @@ pub(crate) fn record<J: Journal>(
     journal: &mut J,
     event: &Event,
 ) -> Result<(), End>
-    requires { (header : Header) × (events : List EventValue)
-        × (length events ≤ SESSION_EVENTS) × HasLog header events log.old (J.seen journal.old) }
-    ensures does { (header : Header) (events : List EventValue)
-        → IsRuled IsOp drawings header (events ++ event.now ∷ [])
-        → HasLog header events log.old (J.seen journal.old)
-        → Writes (J.seen journal.old) (Record (gate_place drawings events) (event.now ∷ []) ∷ [])
-        result (J.seen journal.new) }
-    ensures log { OnOk result ((header : Header) (events : List EventValue)
-        → IsRuled IsOp drawings header (events ++ event.now ∷ [])
-        → HasLog header events log.old (J.seen journal.old)
-        → HasLog header (events ++ event.now ∷ []) log.new (J.seen journal.new)) }
+    requires { (slow : SlowSite) × (length slow.held ≤ SESSION_EVENTS)
+        × HasLog (journal_header slow) slow.held log.old (J.seen journal.old) }
+    ensures does { (slow : SlowSite)
+        → IsRuled IsOp drawings (journal_header slow) (slow.held ++ event.now ∷ [])
+        → HasLog (journal_header slow) slow.held log.old (J.seen journal.old)
+        → Writes (J.seen journal.old)
+        (Record (log_end slow) slow.held (event.now ∷ []) ∷ []) result (J.seen journal.new) }
+    ensures log { OnOk result ((slow : SlowSite)
+        → IsRuled IsOp drawings (journal_header slow) (slow.held ++ event.now ∷ [])
+        → HasLog (journal_header slow) slow.held log.old (J.seen journal.old)
+        → HasLog (journal_header slow) (slow.held ++ event.now ∷ []) log.new
+        (J.seen journal.new)) }
     ensures name { Stays (J.seen journal.old).name (J.seen journal.new).name }
 {
     match log.append(journal, event) {
@@ -83,17 +83,18 @@ fn record_all<J: Journal>(
     journal: &mut J,
     records: Records<Drawings>,
 ) -> Result<(), End>
-    requires { (header : Header) × (events : List EventValue)
-        × (length events ≤ SESSION_EVENTS) × HasLog header events log.old (J.seen journal.old) }
-    ensures does { (header : Header) (events es : List EventValue)
-        → records ≡ gated_bytes drawings es → IsRuled IsOp drawings header (events ++ es)
-        → HasLog header events log.old (J.seen journal.old)
-        → Writes (J.seen journal.old) (recording (gate_place drawings events) es)
-        result (J.seen journal.new) }
-    ensures log { OnOk result ((header : Header) (events es : List EventValue)
-        → records ≡ gated_bytes drawings es → IsRuled IsOp drawings header (events ++ es)
-        → HasLog header events log.old (J.seen journal.old)
-        → HasLog header (events ++ es) log.new (J.seen journal.new)) }
+    requires { (slow : SlowSite) × (length slow.held ≤ SESSION_EVENTS)
+        × HasLog (journal_header slow) slow.held log.old (J.seen journal.old) }
+    ensures does { (slow : SlowSite) (es : List EventValue)
+        → AreRecords drawings slow.held es records
+        → IsRuled IsOp drawings (journal_header slow) (slow.held ++ es)
+        → HasLog (journal_header slow) slow.held log.old (J.seen journal.old)
+        → Writes (J.seen journal.old) (recording slow es) result (J.seen journal.new) }
+    ensures log { OnOk result ((slow : SlowSite) (es : List EventValue)
+        → AreRecords drawings slow.held es records
+        → IsRuled IsOp drawings (journal_header slow) (slow.held ++ es)
+        → HasLog (journal_header slow) slow.held log.old (J.seen journal.old)
+        → HasLog (journal_header slow) (slow.held ++ es) log.new (J.seen journal.new)) }
     ensures name { Stays (J.seen journal.old).name (J.seen journal.new).name }
 {
     if records.is_empty() {
@@ -114,19 +115,20 @@ pub(crate) fn record_and_say<K: Sink, J: Journal>(
     output: &mut K,
     journal: &mut J,
 ) -> Result<(), End>
-    requires { (header : Header) × (events : List EventValue)
-        × (length events ≤ SESSION_EVENTS) × HasLog header events log.old (J.seen journal.old) }
-    ensures does { (header : Header) (events : List EventValue)
-        → IsRuled IsOp drawings header (events ++ event.now ∷ [])
-        → HasLog header events log.old (J.seen journal.old)
+    requires { (slow : SlowSite) × (length slow.held ≤ SESSION_EVENTS)
+        × HasLog (journal_header slow) slow.held log.old (J.seen journal.old) }
+    ensures does { (slow : SlowSite)
+        → IsRuled IsOp drawings (journal_header slow) (slow.held ++ event.now ∷ [])
+        → HasLog (journal_header slow) slow.held log.old (J.seen journal.old)
         → (input : SeenSource) (link : SeenLink) (steps : ℕ) → Does result
         (outside input (K.seen output.old) (J.seen journal.old) link steps)
-        (Record (gate_place drawings events) (event.now ∷ []) ∷ says reply.now ∷ [])
+        (Record (log_end slow) slow.held (event.now ∷ []) ∷ says reply.now ∷ [])
         (outside input (K.seen output.new) (J.seen journal.new) link steps) }
-    ensures log { OnOk result ((header : Header) (events : List EventValue)
-        → IsRuled IsOp drawings header (events ++ event.now ∷ [])
-        → HasLog header events log.old (J.seen journal.old)
-        → HasLog header (events ++ event.now ∷ []) log.new (J.seen journal.new)) }
+    ensures log { OnOk result ((slow : SlowSite)
+        → IsRuled IsOp drawings (journal_header slow) (slow.held ++ event.now ∷ [])
+        → HasLog (journal_header slow) slow.held log.old (J.seen journal.old)
+        → HasLog (journal_header slow) (slow.held ++ event.now ∷ []) log.new
+        (J.seen journal.new)) }
     ensures name { Stays (J.seen journal.old).name (J.seen journal.new).name }
 {
     record(log, journal, event)?;
@@ -141,20 +143,21 @@ pub(crate) fn record_all_and_say<K: Sink, J: Journal>(
     output: &mut K,
     journal: &mut J,
 ) -> Result<(), End>
-    requires { (header : Header) × (events : List EventValue)
-        × (length events ≤ SESSION_EVENTS) × HasLog header events log.old (J.seen journal.old) }
-    ensures does { (header : Header) (events es : List EventValue) (replies : List ReplyValue)
-        → records ≡ gated_bytes drawings es → said.now ≡ flat_map reply_text replies
-        → IsRuled IsOp drawings header (events ++ es)
-        → HasLog header events log.old (J.seen journal.old)
+    requires { (slow : SlowSite) × (length slow.held ≤ SESSION_EVENTS)
+        × HasLog (journal_header slow) slow.held log.old (J.seen journal.old) }
+    ensures does { (slow : SlowSite) (es : List EventValue) (replies : List ReplyValue)
+        → AreRecords drawings slow.held es records → said.now ≡ flat_map reply_text replies
+        → IsRuled IsOp drawings (journal_header slow) (slow.held ++ es)
+        → HasLog (journal_header slow) slow.held log.old (J.seen journal.old)
         → (input : SeenSource) (link : SeenLink) (steps : ℕ) → Does result
         (outside input (K.seen output.old) (J.seen journal.old) link steps)
-        (recording (gate_place drawings events) es ++ all_said replies)
+        (recording slow es ++ all_said replies)
         (outside input (K.seen output.new) (J.seen journal.new) link steps) }
-    ensures log { OnOk result ((header : Header) (events es : List EventValue)
-        → records ≡ gated_bytes drawings es → IsRuled IsOp drawings header (events ++ es)
-        → HasLog header events log.old (J.seen journal.old)
-        → HasLog header (events ++ es) log.new (J.seen journal.new)) }
+    ensures log { OnOk result ((slow : SlowSite) (es : List EventValue)
+        → AreRecords drawings slow.held es records
+        → IsRuled IsOp drawings (journal_header slow) (slow.held ++ es)
+        → HasLog (journal_header slow) slow.held log.old (J.seen journal.old)
+        → HasLog (journal_header slow) (slow.held ++ es) log.new (J.seen journal.new)) }
     ensures name { Stays (J.seen journal.old).name (J.seen journal.new).name }
 {
     record_all(log, journal, records)?;

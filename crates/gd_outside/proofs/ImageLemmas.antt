@@ -1,15 +1,19 @@
 -- The contents of a journal in memory, and each image that it makes, are what a crash may leave.
-use Rattle.std.proofs.Common.{◌≡◌, ℕ, ◌+◌, ◌-◌, ◌≤◌, Bool, ltb, true, false, List, [], ◌∷◌, ◌++◌, length, take, drop, refl, sym, ap, ◌∙◌, subst, arith, append_assoc, length-append, length-drop}
-use Rattle.std.specs.Prelude.{min, nat_lt, fold}
-use Rattle.std.proofs.lemmas.Bool.{ltb-true, ltb-false}
+use Rattle.std.proofs.Common.{◌≡◌, ℕ, ◌+◌, ◌-◌, ◌≤◌, Bool, ltb, true, false, cond, List, [], ◌∷◌, ◌++◌, length, take}
+use Rattle.std.proofs.Common.{drop, refl, sym, ap, ◌∙◌, inl, inr, arith, append_assoc, length-append, length-drop}
+use Rattle.std.proofs.Common.{eq-eqb}
+use Rattle.std.specs.Prelude.{min, nat_lt, fold, replicate}
+use Rattle.std.proofs.lemmas.Bool.{ltb-true, ltb-false, lt-ltb}
 use Rattle.std.proofs.lemmas.List.{length-take, length-replicate, take_all, take_at, drop_all, drop_at}
 use Rattle.std.proofs.lemmas.List.Sums.{sum_by-cons}
 use Rattle.gd_outside.specs.declared.memory.mark.Kind.{Kind}
 use Rattle.gd_outside.specs.declared.memory.mark.Kind.TheVariants.{Created, NotCreated, Put, NotPut, Synced}
 use Rattle.gd_outside.specs.Disk.{IsImage, IsTorn}
-use Rattle.gd_outside.specs.Journals.{put_at}
+use Rattle.gd_outside.specs.Journals.{put_at, IsWholeByte}
 use Rattle.gd_outside.specs.declared.memory.mark.Mark.{Mark}
-use Rattle.gd_outside.specs.Records.{DiskCall, Recorded, State, Shot, calls_of, after_kind, after_call, at_first, contents_of, disk_of, first_shot, image_of, landed, pieces_size, shot_kind, shot_after}
+use Rattle.gd_outside.specs.Records.{DiskCall, Recorded, State, Shot, calls_of, after_kind, after_call, at_first}
+use Rattle.gd_outside.specs.Records.{contents_of, disk_of, first_shot, image_of, is_byte_over, landed, pieces_size}
+use Rattle.gd_outside.specs.Records.{shot_kind, shot_after}
 use Rattle.gd_outside.proofs.RecordLemmas.{calls_of-size, marks_size}
 
 length-put_at : (old piece : List ℕ) (pos : ℕ) → length (put_at old pos piece) ≡ min pos (length old) + length piece + (length old - (pos + length piece))
@@ -26,16 +30,26 @@ put-behind old piece pos false e =
     let more = ltb-false _ _ e in
     drop_at (take pos old ++ piece) (drop (pos + length piece) old) (pos + length piece) (omega (arith, length-append (take pos old) piece, length-take pos old))
 
--- a piece at a place leaves what a write there may leave
-put-torn : (old piece : List ℕ) (pos : ℕ) → IsTorn pos (length piece) old (put_at old pos piece)
-put-torn old piece pos = record {
-  before =
-      let behind = drop (pos + length piece) old in
-      ap (λ (l : List ℕ). take (min pos (length old)) l) (append_assoc (take pos old) piece behind)
-      ∙ take_at (take pos old) (piece ++ behind) (min pos (length old)) (length-take pos old);
-  behind = put-behind old piece pos (ltb (length old) pos) refl;
-  no_shorter = omega (arith, length-put_at old piece pos);
+put-front : (old piece : List ℕ) (pos : ℕ) → take (min pos (length old)) (put_at old pos piece) ≡ take pos old
+put-front old piece pos =
+    let behind = drop (pos + length piece) old in
+    ap (λ (l : List ℕ). take (min pos (length old)) l) (append_assoc (take pos old) piece behind)
+    ∙ take_at (take pos old) (piece ++ behind) (min pos (length old)) (length-take pos old)
+
+-- some bytes at a place leave what the write of a piece of as many may leave, where the piece is no byte over another
+-- one
+fill-torn : (old piece filled : List ℕ) (pos : ℕ) → length filled ≡ length piece
+    → IsWholeByte old pos piece (put_at old pos filled) → IsTorn pos piece old (put_at old pos filled)
+fill-torn old piece filled pos long byte = record {
+  before = put-front old filled pos;
+  behind = rw (← long) (put-behind old filled pos (ltb (length old) pos) refl);
+  no_shorter = omega (arith, length-put_at old filled pos);
+  byte = byte;
 }
+
+-- and so does the piece itself
+put-torn : (old piece : List ℕ) (pos : ℕ) → IsTorn pos piece old (put_at old pos piece)
+put-torn old piece pos = fill-torn old piece piece pos refl (λ one inside. inr refl)
 
 same-front : (old : List ℕ) (pos : ℕ) (short : Bool) → ltb (length old) pos ≡ short → take (min pos (length old)) old ≡ take pos old
 same-front old pos true e =
@@ -45,8 +59,13 @@ same-front old pos false e =
     let more = ltb-false _ _ e in
     ap (λ (n : ℕ). take n old) (omega arith)
 
-same-torn : (old : List ℕ) (pos n : ℕ) → IsTorn pos n old old
-same-torn old pos n = record { before = same-front old pos (ltb (length old) pos) refl; behind = refl; no_shorter = omega arith }
+same-torn : (old : List ℕ) (pos : ℕ) (piece : List ℕ) → IsTorn pos piece old old
+same-torn old pos piece = record {
+  before = same-front old pos (ltb (length old) pos) refl;
+  behind = refl;
+  no_shorter = omega arith;
+  byte = λ one inside. inl refl;
+}
 
 -- ---- the contents
 
@@ -57,7 +76,7 @@ now-kind : (kind : Kind) (s : State) (pos : ℕ) (piece : List ℕ) → IsNow s 
 now-kind Created s pos piece now = tt
 now-kind NotCreated s pos piece now = tt
 now-kind Put s pos piece now = (s.contents, now, put-torn s.contents piece pos)
-now-kind NotPut s pos piece now = (s.contents, now, same-torn s.contents pos (length piece))
+now-kind NotPut s pos piece now = (s.contents, now, same-torn s.contents pos piece)
 now-kind Synced s pos piece now = refl
 
 now-calls : (calls : List DiskCall) (s : State) → IsNow s → IsNow (fold after_call s calls)
@@ -70,13 +89,26 @@ contents-is calls = now-calls calls at_first refl
 
 -- ---- one image
 
-landed-length : (s : Shot) (piece : List ℕ) (whole : Bool) → nat_lt s.count s.whole ≡ whole → length (landed s piece) ≡ length piece
-landed-length s piece true e = rw e refl
-landed-length s piece false e = rw e (length-replicate (length piece) s.fill)
+-- a piece that is no byte over another one
+no-byte : (old : List ℕ) (pos : ℕ) (piece new : List ℕ) → is_byte_over old pos piece ≡ false
+    → IsWholeByte old pos piece new
+no-byte old pos piece new not one inside =
+    absurd (let e = rw (eq-eqb (length piece) 1 one, lt-ltb pos (length old) inside) at not in cc)
 
-landed-torn : (s : Shot) (piece : List ℕ) (pos : ℕ) → IsTorn pos (length piece) s.image (put_at s.image pos (landed s piece))
-landed-torn s piece pos =
-    subst (λ (n : ℕ). IsTorn pos n s.image (put_at s.image pos (landed s piece))) (landed-length s piece (nat_lt s.count s.whole) refl) (put-torn s.image (landed s piece) pos)
+-- one byte alone in the range of the piece
+abbrev filled : Shot → List ℕ → List ℕ
+filled s piece = replicate (length piece) s.fill
+
+landed-torn : (s : Shot) (piece : List ℕ) (pos : ℕ) → IsTorn pos piece s.image (landed s pos piece)
+landed-torn s piece pos = by (nat_lt s.count s.whole) (is_byte_over s.image pos piece) refl where
+  by : (whole over : Bool) → is_byte_over s.image pos piece ≡ over
+      → IsTorn pos piece s.image (cond whole (put_at s.image pos piece)
+      (cond over s.image (put_at s.image pos (filled s piece))))
+  by true over e = put-torn s.image piece pos
+  by false true e = same-torn s.image pos piece
+  by false false e =
+      fill-torn s.image piece (filled s piece) pos (length-replicate (length piece) s.fill)
+      (no-byte s.image pos piece (put_at s.image pos (filled s piece)) e)
 
 -- the contents are alike, and the image is one of those now
 record Fits (s : State) (t : Shot) : Type 0 where
@@ -107,9 +139,15 @@ record Short (size : ℕ) (s : Shot) : Type 0 where
   contents : length s.contents ≤ size
   image : length s.image ≤ size
 
-short-landed : (s : Shot) (pos : ℕ) (piece : List ℕ) (size : ℕ) → length s.image ≤ size → length (put_at s.image pos (landed s piece)) ≤ size + length piece
-short-landed s pos piece size h =
-    omega (arith, length-put_at s.image (landed s piece) pos, landed-length s piece (nat_lt s.count s.whole) refl)
+short-landed : (s : Shot) (pos : ℕ) (piece : List ℕ) (size : ℕ) → length s.image ≤ size
+    → length (landed s pos piece) ≤ size + length piece
+short-landed s pos piece size h = by (nat_lt s.count s.whole) (is_byte_over s.image pos piece) where
+  by : (whole over : Bool)
+      → length (cond whole (put_at s.image pos piece)
+      (cond over s.image (put_at s.image pos (filled s piece)))) ≤ size + length piece
+  by true over = omega (arith, h, length-put_at s.image piece pos)
+  by false true = omega (arith, h)
+  by false false = omega (arith, h, length-put_at s.image (filled s piece) pos, length-replicate (length piece) s.fill)
 
 short-kind : (kind : Kind) (s : Shot) (pos : ℕ) (piece : List ℕ) (size : ℕ) → Short size s → Short (size + length piece) (shot_kind kind s pos piece)
 short-kind Created s pos piece size f = record { contents = omega arith; image = omega arith }

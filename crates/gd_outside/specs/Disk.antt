@@ -1,26 +1,29 @@
 -- What a crash may leave of a journal's contents. A disk has a clock, which counts the calls that changed what a crash may
 -- leave, and for each moment of it the images that a crash at that moment may leave.
 use Rattle.std.specs.Prelude.{◌≡◌, ◌≤◌, ◌+◌, ℕ, min, List, [], ◌∷◌, ◌++◌, length, take, drop, ◌⊎◌}
+use Rattle.gd_outside.specs.Journals.{IsWholeByte}
 
--- The images after a call: any contents, after a create; these contents alone, after a sync that succeeded; and after a write
--- of so many bytes at a place, those before it with any bytes in that range and past their end.
+-- The images after a call: any contents, after a create; these contents alone, after a sync that succeeded; and after a
+-- write of a piece at a place, those before it with any bytes in its range and past their end, or whole, where the
+-- piece is one byte.
 pub data Images : Type 0 where
   Any : Images
   Kept : List ℕ → Images
-  Written : Images → ℕ → ℕ → Images
+  Written : Images → ℕ → List ℕ → Images
 
--- One is the other but for a range of n bytes at a place, in which there may be any bytes. Where the range goes past the end,
--- there may be any bytes from the end up to the range's.
-pub record IsTorn (pos n : ℕ) (old new : List ℕ) : Type 0 where
+-- One is the other but for the range of a piece at a place, in which there may be any bytes. Where the range goes past
+-- the end, there may be any bytes from the end up to the range's. A byte alone isn't torn.
+pub record IsTorn (pos : ℕ) (piece old new : List ℕ) : Type 0 where
   pub before : take (min pos (length old)) new ≡ take pos old
-  pub behind : drop (pos + n) new ≡ drop (pos + n) old
+  pub behind : drop (pos + length piece) new ≡ drop (pos + length piece) old
   pub no_shorter : length old ≤ length new
+  pub byte : IsWholeByte old pos piece new
 
 -- a crash may leave these contents
 abbrev pub IsImage : Images → List ℕ → Type 0
 IsImage Any image = Unit {0}
 IsImage (Kept contents) image = image ≡ contents
-IsImage (Written images pos n) image = (old : List ℕ) × IsImage images old × IsTorn pos n old image
+IsImage (Written images pos piece) image = (old : List ℕ) × IsImage images old × IsTorn pos piece old image
 
 -- what a crash now may leave, and what it might have left at each moment before
 pub record Disk : Type 0 where

@@ -1,5 +1,6 @@
 -- The calls on a journal in memory, and what they made of its contents and of what a crash may leave.
-use Rattle.std.specs.Prelude.{ℕ, ◌+◌, Bool, ◌&&◌, nat_lt, nat_le, if◌then◌else◌, List, [], ◌∷◌, length, fold, sum_by, take, drop, replicate}
+use Rattle.std.specs.Prelude.{ℕ, ◌+◌, Bool, ◌&&◌, ◌==◌, nat_lt, nat_le, if◌then◌else◌, List, [], ◌∷◌, length, fold}
+use Rattle.std.specs.Prelude.{sum_by, take, drop, replicate}
 use Rattle.gd_outside.specs.Causes.{counted}
 use Rattle.gd_outside.specs.Disk.{Any, Kept, Written, Disk, goes_on}
 use Rattle.gd_outside.specs.Journals.{put_at}
@@ -26,9 +27,9 @@ after_kind Created s pos piece = record { contents = []; disk = goes_on s.disk A
 after_kind NotCreated s pos piece = record s { disk = goes_on s.disk Any }
 after_kind Put s pos piece = record {
   contents = put_at s.contents pos piece;
-  disk = goes_on s.disk (Written s.disk.now pos (length piece));
+  disk = goes_on s.disk (Written s.disk.now pos piece);
 }
-after_kind NotPut s pos piece = record s { disk = goes_on s.disk (Written s.disk.now pos (length piece)) }
+after_kind NotPut s pos piece = record s { disk = goes_on s.disk (Written s.disk.now pos piece) }
 after_kind Synced s pos piece = record s { disk = goes_on s.disk (Kept s.contents) }
 
 abbrev pub after_call : State → DiskCall → State
@@ -79,13 +80,21 @@ pub record Shot : Type 0 where
   pub image : List ℕ
   pub count : ℕ
 
--- what stands in the image of the next write
-abbrev pub landed : Shot → List ℕ → List ℕ
-landed s piece = if nat_lt s.count s.whole then piece else replicate (length piece) s.fill
+-- the piece is one byte, and goes over one that is there
+abbrev pub is_byte_over : List ℕ → ℕ → List ℕ → Bool
+is_byte_over image pos piece = length piece == 1 && nat_lt pos (length image)
+
+-- the image with the next write: as it was written, or with one byte alone in its range; but where a byte alone goes
+-- over another one, that one stays
+abbrev pub landed : Shot → ℕ → List ℕ → List ℕ
+landed s pos piece =
+    if nat_lt s.count s.whole then put_at s.image pos piece
+    else if is_byte_over s.image pos piece then s.image
+    else put_at s.image pos (replicate (length piece) s.fill)
 
 -- with that write in the image
 abbrev pub with_landed : Shot → ℕ → List ℕ → Shot
-with_landed s pos piece = record s { image = put_at s.image pos (landed s piece); count = counted s.count }
+with_landed s pos piece = record s { image = landed s pos piece; count = counted s.count }
 
 abbrev pub shot_kind : Kind → Shot → ℕ → List ℕ → Shot
 shot_kind Created s pos piece = record s { contents = []; image = [] }
@@ -101,6 +110,6 @@ abbrev pub first_shot : ℕ → ℕ → Shot
 first_shot k fill = record { whole = k; fill = fill; contents = []; image = []; count = 0 }
 
 -- The image of a crash after these calls in which the first k writes since the last sync that succeeded stand as written,
--- and the range of each later one holds one byte alone.
+-- and the range of each later one holds one byte alone; but a byte that goes alone over another one isn't there.
 abbrev pub image_of : ℕ → ℕ → List DiskCall → List ℕ
 image_of k fill calls = (fold shot_after (first_shot k fill) calls).image

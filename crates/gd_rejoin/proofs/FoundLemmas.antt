@@ -1,5 +1,6 @@
 -- What is found in the contents of a journal.
-use Rattle.std.proofs.Common.{◌≡◌, ℕ, ◌+◌, Bool, true, false, not, ◌&&◌, nat_le, nat_lt, eqb, eq-eqb, eqb-true, List, [], ◌∷◌, ◌++◌, length, take, drop, refl, sym, ap, subst, ◌∙◌, arith, length-append}
+use Rattle.std.proofs.Common.{◌≡◌, ℕ, ◌+◌, Bool, true, false, not, ◌&&◌, nat_le, nat_lt, eqb, eq-eqb, eqb-true, List}
+use Rattle.std.proofs.Common.{[], ◌∷◌, ◌++◌, length, take, drop, refl, sym, ap, subst, ◌∙◌, arith}
 use denote.Enum.Bare.{sameb}
 use Rattle.std.specs.Prelude.{Option, IsSome, Ok, Err}
 use Rattle.std.proofs.lemmas.List.{drop_all}
@@ -13,8 +14,8 @@ use Rattle.gd_base.specs.declared.version.Version.TheVariants.{One, Two, Three}
 use Rattle.gd_events.specs.Events.{Event}
 use Rattle.gd_grammar.specs.Closing.{Closes, gate_place}
 use Rattle.gd_grammar.specs.Drawings.{drawings, log}
-use Rattle.gd_grammar.specs.HeaderBytes.{Header, header_bytes}
-use Rattle.gd_grammar.specs.LogBytes.{gated_bytes}
+use Rattle.gd_grammar.specs.HeaderBytes.{Header}
+use Rattle.gd_logs.proofs.ClosingLemmas.{closes-long}
 use Rattle.gd_logs.specs.Logs.{LogIs}
 use Rattle.gd_logs.specs.Steps.{IsFault}
 use Rattle.gd_logs.specs.declared.log.ReadError.{ReadError}
@@ -84,11 +85,11 @@ differs-by_flag a b e = not-true (same_header a b) (rw (flag-is a b) at e)
 
 -- ---- where the closing gate is, and where it isn't
 
-past-gate : (h : Header) (events : List Event) (contents : List ℕ) → Closes drawings h events contents → nat_le (length contents) (gate_place drawings events) ≡ false
+past-gate : (h : Header) (events : List Event) (contents : List ℕ) → Closes drawings h events contents
+    → nat_le (length contents) (gate_place drawings h.version events) ≡ false
 past-gate h events contents closes =
-    let long : length contents ≡ gate_place drawings events + 1 + length closes.rest =
-    ap length closes.is ∙ length-append (header_bytes drawings h ++ gated_bytes drawings events) (closes.closing ∷ closes.rest)
-    ∙ omega (arith, length-append (header_bytes drawings h) (gated_bytes drawings events)) in
+    let long : length contents ≡ gate_place drawings h.version events + 1 + length closes.rest =
+    closes-long drawings h events contents closes in
     grind (arith, nat_tests)
 
 up-to-gate : (size place : ℕ) → nat_lt place size ≡ false → nat_le size place ≡ true
@@ -105,9 +106,11 @@ module _ (header : Header) (contents : List ℕ) where
   pub found-other : (h : Header) (events : List Event) → Closes drawings h events contents → same_header h header ≡ false → found header contents ≡ Other h
   found-other h events closes differs = found-read h events closes.read ∙ rw (past-gate h events contents closes, differs) refl
 
-  pub found-short : (h : Header) (events : List Event) → log contents ≡ Ok (h, events) → nat_lt (gate_place drawings events) (length contents) ≡ false
+  pub found-short : (h : Header) (events : List Event) → log contents ≡ Ok (h, events)
+      → nat_lt (gate_place drawings h.version events) (length contents) ≡ false
       → found header contents ≡ Faulty (length contents) Short
-  found-short h events read shut = found-read h events read ∙ rw (up-to-gate (length contents) (gate_place drawings events) shut) refl
+  found-short h events read shut =
+      found-read h events read ∙ rw (up-to-gate (length contents) (gate_place drawings h.version events) shut) refl
 
   found-fault : (at : ℕ) (why : LogWhy) → IsFault (log contents) contents at why → found header contents ≡ Faulty at why
   unfolding found
@@ -130,11 +133,14 @@ found-or-failed fault.NoMemory f is = tt
 
 module _ (header : Header) (front : List ℕ) (contents : Option (List ℕ)) (is_front : IsSome contents → front ≡ take (length front) (told contents)) where
   -- the log of a front is that of the contents
-  pub log-by_front : (events : List Event) (place : ℕ) → ((more : List ℕ) → IsLogFor header events place (Unit {0}) (front ++ more)) → IsLogFor header events place (IsSome contents) (told contents)
-  log-by_front events place log = record {
+  pub log-by_front : (events : List Event) (place : ℕ) (chains : List ℕ)
+      → ((more : List ℕ) → IsLogFor header events place chains (Unit {0}) (front ++ more))
+      → IsLogFor header events place chains (IsSome contents) (told contents)
+  log-by_front events place chains log = record {
     ruled = (log []).ruled;
     closes = λ is_told. subst (Closes drawings header events) (front-then front (told contents) (is_front is_told)) ((log (drop (length front) (told contents))).closes tt);
     gate = (log []).gate;
+    chained = (log []).chained;
     near = (log []).near;
   }
 

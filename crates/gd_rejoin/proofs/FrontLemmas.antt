@@ -3,28 +3,32 @@ use Rattle.std.proofs.Common.{◌≡◌, ◌≢◌, ℕ, zero, suc, ◌+◌, ◌
 use Rattle.std.specs.Prelude.{Option, Some, None, option_map, Result, Ok, Err}
 use Rattle.std.proofs.lemmas.List.{append-nil, length-append}
 use Rattle.gd_base.specs.declared.fault.LogWhy.{LogWhy}
-use Rattle.gd_base.specs.declared.fault.LogWhy.TheVariants.{Short, Magic, Version, Field, FutureId, MemberOrder, NoSite, Turn, Backdated}
+use Rattle.gd_base.specs.declared.fault.LogWhy.TheVariants.{Short, Magic, Version, Field, FutureId, MemberOrder, NoSite}
+use Rattle.gd_base.specs.declared.fault.LogWhy.TheVariants.{Turn, Backdated, Check, Behind}
 use Rattle.gd_base.specs.Results.{◌>>=◌}
 use Rattle.gd_base.specs.Stamps.{Stamp}
+use Rattle.gd_base.specs.declared.version.Version.{Version as LogVersion}
 use Rattle.gd_events.specs.Events.{EventValue}
+use Rattle.gd_grammar.specs.Chains.{check_with}
 use Rattle.gd_grammar.specs.Closing.{Closes}
 use Rattle.gd_grammar.specs.HeaderBytes.{Header, header_at, header_bytes}
 use Rattle.gd_grammar.specs.KindLaws.{KindLaws}
 use Rattle.gd_grammar.specs.Kinds.{LogKind, event_at}
-use Rattle.gd_grammar.specs.LogBytes.{LogMisread, log_why, left_of, in_log, turn_fault, gate, gated_bytes, record_at, step_at, events_at, log}
+use Rattle.gd_grammar.specs.LogBytes.{LogMisread, log_why, left_of, in_log, turn_fault, gate, gated_bytes, is_closed}
+use Rattle.gd_grammar.specs.LogBytes.{record_at, step_at, events_at, log}
 use Rattle.gd_grammar.specs.Reading.{Reads}
 use Rattle.gd_grammar.proofs.EventsLemmas.{events-some, events-none, events-err}
 use Rattle.gd_grammar.proofs.SteadyFields.{Steady-event, Steady-header}
 use Rattle.gd_logs.specs.Logs.{LogIs}
-use Rattle.gd_logs.specs.Steps.{Step, IsFault}
+use Rattle.gd_logs.specs.Steps.{Step, IsFault, behind_check}
 use Rattle.gd_logs.specs.Written.{IsRuled}
 use Rattle.gd_logs.specs.declared.log.ReadError.{ReadError}
 use Rattle.gd_logs.specs.declared.log.ReadError.TheVariants.{Memory, Log}
 use Rattle.gd_logs.specs.declared.stopped.LogFault.TheVariants.{Read, Bad}
+use Rattle.gd_logs.proofs.CheckLemmas.{IsFarther, check-farther, check-more, event_then, farther_on}
 use Rattle.gd_logs.proofs.ClosingLemmas.{closes-behind}
 use Rattle.gd_logs.proofs.EventLemmas.{log_from, log-start, from-some, from-err}
-use Rattle.gd_logs.proofs.RecordLemmas.{nine_bytes, record-taken, record-refused, record-faulty}
-use Rattle.gd_logs.proofs.StepLemmas.{farther_on}
+use Rattle.gd_logs.proofs.RecordLemmas.{nine_bytes, record-next, record-refused, record-faulty}
 use Rattle.gd_rejoin.specs.Faults.{fault_of, is_short, is_short_why}
 
 -- the same with more bytes behind it, `on` it, unless bytes are missing
@@ -55,6 +59,8 @@ short-or-not MemberOrder = inr (λ e. cc)
 short-or-not NoSite = inr (λ e. cc)
 short-or-not Turn = inr (λ e. cc)
 short-or-not Backdated = inr (λ e. cc)
+short-or-not Check = inr (λ e. cc)
+short-or-not Behind = inr (λ e. cc)
 
 left-more : (why : LogWhy) (m n : ℕ) → 9 ≤ m → left_of why (m + n) ≡ left_of why m + n
 left-more NoSite m n h = omega arith
@@ -62,12 +68,28 @@ left-more Turn m n h = omega arith
 left-more other m n h = refl
 
 module _ {O : Type 0} {IsOp : Stamp → O → Type 0} {kind : LogKind O} (laws : KindLaws IsOp kind) where
+  -- an event, and the check behind it
+  both-stay : (e : EventValue O) (check : ℕ) (version : LogVersion) (behind more : List ℕ)
+      (r : Result (List ℕ) LogMisread) → behind_check version check behind ≡ r
+      → Stays (longer more) more (event_then e r) (event_then e (behind_check version check (behind ++ more)))
+  both-stay e check version behind more (Ok rest) q = ap (event_then e) (check-more version check behind rest more q)
+  both-stay e check version behind more (Err f) q = λ there. elim (check-farther version check behind more f q) [
+    | inl s ↦ absurd (there s)
+    | inr s ↦ ap (event_then e) s
+  ]
+
   record-stays : (head : Header) (seen : List (EventValue O)) (bytes more : List ℕ) → Stays (longer more) more (record_at kind head seen bytes) (record_at kind head seen (bytes ++ more))
   record-stays head seen bytes more = by_event (event_at kind head.version bytes) refl where
     by_turn : (y : EventValue O × List ℕ) → event_at kind head.version bytes ≡ Ok y → (t : Option LogWhy) → turn_fault head.n seen y.0 ≡ t
         → Stays (longer more) more (record_at kind head seen bytes) (record_at kind head seen (bytes ++ more))
-    by_turn y q None t = rw (record-taken laws head seen bytes y q t)
-        (record-taken laws head seen (bytes ++ more) (longer more y) (((Steady-event laws head.version).ok bytes y q).more more) t)
+    by_turn y q None t =
+        let check = check_with kind seen y.0 in
+        rw (
+          record-next laws head seen bytes y q t,
+          record-next laws head seen (bytes ++ more) (longer more y)
+              (((Steady-event laws head.version).ok bytes y q).more more) t,
+        )
+        (both-stay y.0 check head.version y.1 more (behind_check head.version check y.1) refl)
     by_turn y q (Some why) t = rw (record-refused laws head seen bytes y why q t) (λ _.
         record-refused laws head seen (bytes ++ more) (longer more y) why (((Steady-event laws head.version).ok bytes y q).more more) t
         ∙ ap (λ (left : ℕ). misread (refused why left)) (ap (λ (m : ℕ). left_of why m) (length-append bytes more) ∙ left-more why (length bytes) (length more) (nine_bytes laws head.version bytes y q)))
@@ -81,12 +103,20 @@ module _ {O : Type 0} {IsOp : Stamp → O → Type 0} {kind : LogKind O} (laws :
 
   step-stays : (head : Header) (seen : List (EventValue O)) (b : ℕ) (bytes more : List ℕ) → Stays (option_map (longer more)) more (step_at kind head seen (b ∷ bytes)) (step_at kind head seen (b ∷ bytes ++ more))
   unfolding step_at
-  step-stays head seen b bytes more = by (eqb b gate) (record_at kind head seen bytes) (record-stays head seen bytes more) where
-    by : (t : Bool) (r : Result (EventValue O × List ℕ) LogMisread) → Stays (longer more) more r (record_at kind head seen (bytes ++ more))
-        → Stays (option_map (longer more)) more (cond t (r >>= λ e. Ok (Some e)) (Ok None)) (cond t (record_at kind head seen (bytes ++ more) >>= λ e. Ok (Some e)) (Ok None))
-    by true (Ok y) k = rw k refl
-    by true (Err g) k = λ there. rw (k there) refl
-    by false r k = refl
+  step-stays head seen b bytes more =
+      by (eqb b gate) (is_closed head.version b) (record_at kind head seen bytes)
+      (record-stays head seen bytes more) where
+        by : (open_gate closed : Bool) (r : Result (EventValue O × List ℕ) LogMisread)
+            → Stays (longer more) more r (record_at kind head seen (bytes ++ more))
+            → Stays (option_map (longer more)) more
+            (cond open_gate (r >>= λ e. Ok (Some e))
+            (cond closed (Ok None) (misread (refused Behind (length (b ∷ bytes))))))
+            (cond open_gate (record_at kind head seen (bytes ++ more) >>= λ e. Ok (Some e))
+            (cond closed (Ok None) (misread (refused Behind (length (b ∷ (bytes ++ more)))))))
+        by true closed (Ok y) k = rw k refl
+        by true closed (Err g) k = λ there. rw (k there) refl
+        by false true r k = refl
+        by false false r k = λ there. ap (λ (left : ℕ). misread (refused Behind left)) (length-append (b ∷ bytes) more)
 
   -- the fault of the first of these steps that has one
   faulty-step : (k : ℕ) (head : Header) (seen : List (EventValue O)) (b : ℕ) (bytes more : List ℕ) (f : LogMisread) (s : Step O) → step_at kind head seen (b ∷ bytes) ≡ s
@@ -153,7 +183,9 @@ module _ {O : Type 0} {IsOp : Stamp → O → Type 0} {kind : LogKind O} (laws :
   pub closes-stays : (head : Header) (events : List (EventValue O)) (bytes more : List ℕ) → IsRuled IsOp kind head events → Closes kind head events bytes → Closes kind head events (bytes ++ more)
   closes-stays head events bytes more ruled closes =
       closes-behind laws head events bytes ruled closes (closes.rest ++ more) (bytes ++ more)
-      (ap (λ (l : List ℕ). l ++ more) closes.is ∙ append_assoc (header_bytes kind head ++ gated_bytes kind events) (closes.closing ∷ closes.rest) more)
+      (ap (λ (l : List ℕ). l ++ more) closes.is
+      ∙ append_assoc (header_bytes kind head ++ gated_bytes kind head.version [] events)
+      (closes.closing ∷ closes.rest) more)
 
   -- the reader's fault of a log is that of a longer one, unless bytes are missing
   pub error-stays : (error : ReadError) (bytes more : List ℕ) → (is_short (fault_of error) ≡ true → more ≡ []) → LogIs kind (Err error) bytes → LogIs kind (Err error) (bytes ++ more)

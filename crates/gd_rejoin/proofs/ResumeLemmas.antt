@@ -6,6 +6,7 @@ use Rattle.gd_events.specs.Events.{Event}
 use Rattle.gd_grammar.specs.Closing.{Closes}
 use Rattle.gd_grammar.specs.Drawings.{drawings}
 use Rattle.gd_grammar.specs.HeaderBytes.{Header}
+use Rattle.gd_logs.specs.Written.{Writer}
 use Rattle.gd_outside.specs.Disk.{Disk, Kept, goes_on}
 use Rattle.gd_outside.specs.Seen.{SeenJournal}
 use Rattle.gd_outside.specs.Told.{told}
@@ -33,17 +34,19 @@ stands-kept h events old journal kept closes = record {
 }
 
 module _ (h : Header) (events : List Event) (steps steps' : ℕ) where
-  pub pays-first : (told : Type 0) (contents : List ℕ) (result : Result (SiteValue × ℕ) ResumeFault) → (told → Closes drawings h events contents) → OnErr result (PaysFirst (Events events) steps steps')
+  pub pays-first : (told : Type 0) (contents : List ℕ) (result : Result (SiteValue × Writer) ResumeFault)
+      → (told → Closes drawings h events contents) → OnErr result (PaysFirst (Events events) steps steps')
       → OnErr result (told → PaysFirst (found h contents) steps steps')
   pays-first told contents (Ok x) closes paid = tt
   pays-first told contents (Err f) closes paid = λ is_told. rw (found-events h contents events (closes is_told)) paid
 
-  pub resume-is : (contents : List ℕ) (result : Result (SiteValue × ℕ) ResumeFault) → Closes drawings h events contents
+  pub resume-is : (contents : List ℕ) (result : Result (SiteValue × Writer) ResumeFault)
+      → Closes drawings h events contents
       → IfOk result (λ x. Resumes h events x.0 x.1 steps steps') → IfErr result (λ f. f ≡ fault.NoMemory) → ResumeIs result h contents steps steps'
   resume-is contents (Ok x) closes goes_on memory = (events, found-events h contents events closes, goes_on)
   resume-is contents (Err f) closes goes_on memory = fault-is f h contents steps steps' (rw memory tt)
 
-  pub resume-stands : (result : Result (SiteValue × ℕ) ResumeFault) (journal : SeenJournal)
+  pub resume-stands : (result : Result (SiteValue × Writer) ResumeFault) (journal : SeenJournal)
       → IfOk result (λ x. Resumes h events x.0 x.1 steps steps') → (IsSome journal.contents → Stands drawings h events journal)
       → IfOk result (λ x. (events : List Event) × Resumes h events x.0 x.1 steps steps' × (IsSome journal.contents → Stands drawings h events journal))
   resume-stands (Ok x) journal goes_on stands = (events, goes_on, stands)

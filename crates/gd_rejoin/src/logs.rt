@@ -30,7 +30,7 @@ pub fn log_in<J: Journal>(
     journal: &mut J,
     header: &LogHeader,
 ) -> Result<WholeLog, ResumeFault>
-    ensures log { IfOk result (λ log. IsLogFor header.now log.events log.place
+    ensures log { IfOk result (λ log. IsLogFor header.now log.events log.place log.chains
         (IsSome (J.seen journal.new).contents) (told (J.seen journal.new).contents)) }
     ensures fault { IfErr result (λ fault. IsSome (J.seen journal.new).contents
         → IsFoundOrFailed fault (found header.now (told (J.seen journal.new).contents))) }
@@ -58,7 +58,7 @@ fn log_within<J: Journal>(
     header: &LogHeader,
     most: u64,
 ) -> Result<Option<WholeLog>, ResumeFault>
-    ensures log { IfOk result (λ o. IfSome o (λ log. IsLogFor header.now log.events log.place
+    ensures log { IfOk result (λ o. IfSome o (λ log. IsLogFor header.now log.events log.place log.chains
         (IsSome (J.seen journal.new).contents) (told (J.seen journal.new).contents))) }
     ensures fault { IfErr result (λ fault. IsSome (J.seen journal.new).contents
         → IsFoundOrFailed fault (found header.now (told (J.seen journal.new).contents))) }
@@ -90,7 +90,7 @@ fn is_cut(found: &Result<WholeLog, ResumeFault>) -> bool
 /// Else the fault that is found in them, or `NoMemory` where memory ran out. Where bytes are missing, more may follow.
 fn log_for(alloc: Global, front: Vec<u8>, header: &LogHeader) -> Result<WholeLog, ResumeFault>
     ensures log { IfOk result (λ log. (more : List ℕ)
-        → IsLogFor header.now log.events log.place (Unit {0}) (front.items ++ more)) }
+        → IsLogFor header.now log.events log.place log.chains (Unit {0}) (front.items ++ more)) }
     ensures fault { IfErr result (λ fault. (more : List ℕ) → (IsTrue (is_short fault) → more ≡ [])
         → IsFound fault (found header.now (front.items ++ more))) }
 {

@@ -5,6 +5,7 @@ ghost use Rattle.gd_base.specs.declared.version.Version.TheVariants as version;
 ghost use Rattle.gd_effects.specs.Crashes.{MaySync, Stands};
 ghost use Rattle.gd_events.specs.Events.{Event};
 ghost use Rattle.gd_events.specs.Sound.{IsOp};
+ghost use Rattle.gd_grammar.specs.Chains.{AreChains};
 ghost use Rattle.gd_grammar.specs.Closing.{gate_place};
 ghost use Rattle.gd_grammar.specs.Drawings.{drawings};
 ghost use Rattle.gd_logs.specs.Written.{IsRuled};
@@ -27,8 +28,8 @@ use std::alloc::Global;
 use std::sync::ledger::Ledger;
 
 /// Goes on from the journal of that name, whose log has to be of that header, which is of the newest version: a site that
-/// holds the log's events, and a writer that stands at its closing gate. It opens, syncs and reads, and writes nothing. The
-/// steps rise by what the arrivals of the events cost.
+/// holds the log's events, and a writer that stands at its closing gate and goes on with the checks of its events. It opens, syncs
+/// and reads, and writes nothing. The steps rise by what the arrivals of the events cost.
 ///
 /// `Journal` where a call on the journal failed. `Bad` where the contents are no log, at its first fault, and where they end
 /// in the closing gate's place, as `Short` there; `Other` where they are a log of another header with its closing gate.
@@ -69,7 +70,7 @@ fn synced_log<J: Journal>(
     name: &str,
     header: &LogHeader,
 ) -> Result<WholeLog, ResumeFault>
-    ensures log { IfOk result (λ log. IsLogFor header.now log.events log.place
+    ensures log { IfOk result (λ log. IsLogFor header.now log.events log.place log.chains
         (IsSome (J.seen journal.new).contents) (told (J.seen journal.new).contents)) }
     ensures fault { IfErr result (λ fault. IsSome (J.seen journal.new).contents
         → IsFoundOrFailed fault (found header.now (told (J.seen journal.new).contents))) }
@@ -97,8 +98,9 @@ fn site_of<L: Ledger>(
 ) -> Result<(Site, LogWriter), ResumeFault>
     requires newest { header.now.version ≡ version.Three }
     requires ruled { IsRuled IsOp drawings header.now log.now.events }
-    requires gate { log.now.place ≡ gate_place drawings log.now.events }
+    requires gate { log.now.place ≡ gate_place drawings header.now.version log.now.events }
     requires near { log.now.place ≤ 2 ^ 30 }
+    requires chained { AreChains drawings log.now.chains log.now.events }
     ensures goes_on { IfOk result
         (λ x. Resumes header.now log.now.events x.0 x.1 steps.old steps.new) }
     ensures memory { IfErr result (λ fault. fault ≡ ResumeFault.NoMemory) }
@@ -113,5 +115,6 @@ fn site_of<L: Ledger>(
         &log.events,
         steps,
     )?;
-    Ok((site, LogWriter::resume(log.place)))
+    let writer = LogWriter::resume(log.place, log.chains.copy());
+    Ok((site, writer))
 }

@@ -8,6 +8,7 @@ use Rattle.rand_core.specs.Steps.{u32_at, word_bytes}
 use Rattle.gd_base.specs.Stamps.{stamp_cmp}
 use Rattle.gd_base.specs.Insertions.{inserted_by}
 use Rattle.gd_check.specs.Checks as checks
+use Rattle.gd_grammar.specs.Chains.{chained, of_site}
 use Rattle.gd_grammar.specs.EventBytes as bytes
 use Rattle.gd_grammar.specs.ObjectBytes as objects
 use Rattle.gd_grammar.specs.OpBytes as operations
@@ -28,7 +29,7 @@ use Rattle.gd_lines.specs.LineWords.{behind, count_from, without_cr, word}
 use Rattle.gd_lines.specs.Lines as lines
 use Rattle.gd_lines.specs.OpText as ops
 use Rattle.gd_lines.specs.Reading.{then_at}
-use Rattle.gd_lines.specs.Replies.{applied_line, arrivals_line, backdated_line, bad_frame_line, churned_line, delivered_line, done_line, dropped_line, link_fault_line, mail_line, noted_line, polled_line, ready_line, refused_line, reworked_line, site_line, status_line, status_text, who_line}
+use Rattle.gd_lines.specs.Replies.{applied_line, arrivals_line, backdated_line, bad_frame_line, churned_line, delivered_line, done_line, dropped_line, link_fault_line, mail_line, noted_line, parted_line, polled_line, ready_line, refused_line, reworked_line, site_line, standing_text, status_line, status_text, who_line}
 use Rattle.gd_lines.specs.Rows.{by_name}
 use Rattle.gd_lines.specs.ScriptLines.{at_words, deliver_words, mail_at, read_script, script_rows, send_words, site_at}
 use Rattle.gd_lines.specs.Text.{bad_log_line, bad_view_line, colour_text, colours_text, end_line, head_text, hex_digit, high_digits, id_text, item_line, look_text, nibble, size_text, width_text}
@@ -43,12 +44,13 @@ use Rattle.gd_reference.specs.Fitting.{fitting, frame_count}
 use Rattle.gd_reference.specs.InputLines.{heard, lines_of, whole_lines}
 use Rattle.gd_reference.specs.Judging.{are_apart, by_id, edit, judged, targets}
 use Rattle.gd_reference.specs.NodeRun.{node_lines, of_received, received, who_behind}
-use Rattle.gd_reference.specs.Offers.{all_arrived, frame_for, offered, offers, refusal, take_frame}
+use Rattle.gd_reference.specs.Offers.{all_arrived, frame_for, offered, offers, refusal, shows_parting, take_frame, verdict, verdict_by}
 use Rattle.gd_reference.specs.PerSite.{least_of_others, put}
 use Rattle.gd_reference.specs.Rejoin.{found}
 use Rattle.gd_reference.specs.SiteEffects.{asked_replies, events_replies, taken, tries_behind, works_of}
-use Rattle.gd_reference.specs.SlowSite.{greatest_clock, made_by, resumed}
+use Rattle.gd_reference.specs.SlowSite.{greatest_clock, made_by, parted_behind, resumed}
 use Rattle.gd_reference.specs.TakeBack.{after_edit, after_gesture, after_turn, backs_of, done, made, turn, with_events}
+use Rattle.gd_reference.specs.UptoFault.{events_before, events_upto}
 use Rattle.gd_arrivals.specs.Tally.{tally_from}
 use Rattle.gd_reference.specs.World.{after_from, after_line, happens, with_site}
 use Rattle.gd_snapshots.specs.SnapshotBytes as snapshots
@@ -63,17 +65,17 @@ use Rattle.gd_worlds.specs.Rehearsal.{rehearsal_lines}
 
 -- events, logs and frames
 unfoldable pub bytes_compute : ⊤
-unfolding chars is_utf8 fields.byte_at fields.byte_within fields.clock_at bytes.colour_at operations.all_ties_at operations.create_at operations.disband_at operations.restore_at operations.tie_at kinds.event_at bytes.fill_at operations.group_at bytes.label_at fields.id_at fields.label_within operations.member_at bytes.count_at bytes.member_id_at bytes.parent_id_at fields.number_at operations.look_at operations.op_at operations.place_at operations.set_at operations.size_at bytes.shape_at fields.signed_at fields.site_at fields.stamp_at bytes.width_at fields.word_at checks.next checks.nexts checks.with_bytes body_at event_count_at each_bytes focus_at frame frame_at many_at steps frame_magic_at frame_version_at half_at head_at name_at name_text_at next_event_at note_at six_at events_at gated_bytes header_at log magic_at record_at sites_at step_at turn_fault version_at
+unfolding chars is_utf8 fields.byte_at fields.byte_within fields.check_word_at fields.clock_at bytes.colour_at operations.all_ties_at operations.create_at operations.disband_at operations.restore_at operations.tie_at kinds.event_at bytes.fill_at operations.group_at bytes.label_at fields.id_at fields.label_within operations.member_at bytes.count_at bytes.member_id_at bytes.parent_id_at fields.number_at operations.look_at operations.op_at operations.place_at operations.set_at operations.size_at bytes.shape_at fields.signed_at fields.site_at fields.stamp_at bytes.width_at fields.word_at checks.next checks.nexts checks.with_bytes chained of_site body_at event_count_at each_bytes focus_at frame frame_at many_at steps frame_magic_at frame_version_at half_at head_at name_at name_text_at next_event_at note_at six_at events_at gated_bytes header_at log magic_at record_at sites_at step_at turn_fault version_at
 bytes_compute = tt
 
 -- lines that are typed, and lines that are printed
 unfoldable pub lines_compute : ⊤
-unfolding chars is_utf8 encode_utf8 digits ops.command_text ops.member_text ops.state_text ops.tie_text ops.two_text ops.whole_text behind count_from without_cr word then_at by_name edits.colour_at edits.create_words edits.delete_words edits.edit_rows edits.fill_at edits.fill_words edits.group_words edits.id_at edits.ids_at edits.kind_at edits.label_at edits.natural_at edits.place_at edits.place_words edits.set_words edits.size_at edits.size_words edits.stroke_words edits.text_words edits.width_at edits.width_words lines.asked_rows lines.command_rows lines.focus_at lines.focus_words lines.name_at lines.name_words lines.read event_json link_json rank_json tie_json item_json member_json put_field at_words deliver_words mail_at read_script script_rows send_words site_at applied_line arrivals_line backdated_line bad_frame_line done_line dropped_line link_fault_line noted_line polled_line ready_line refused_line reworked_line status_line status_text who_line bad_log_line bad_view_line colour_text colours_text end_line head_text hex_digit high_digits id_text item_line look_text nibble size_text width_text colour digit fill focus id kind label name natural_in number number_in numeral
+unfolding chars is_utf8 encode_utf8 digits ops.command_text ops.member_text ops.state_text ops.tie_text ops.two_text ops.whole_text behind count_from without_cr word then_at by_name edits.colour_at edits.create_words edits.delete_words edits.edit_rows edits.fill_at edits.fill_words edits.group_words edits.id_at edits.ids_at edits.kind_at edits.label_at edits.natural_at edits.place_at edits.place_words edits.set_words edits.size_at edits.size_words edits.stroke_words edits.text_words edits.width_at edits.width_words lines.asked_rows lines.command_rows lines.focus_at lines.focus_words lines.name_at lines.name_words lines.read event_json link_json rank_json tie_json item_json member_json put_field at_words deliver_words mail_at read_script script_rows send_words site_at applied_line arrivals_line backdated_line bad_frame_line done_line dropped_line link_fault_line noted_line parted_line polled_line ready_line refused_line reworked_line standing_text status_line status_text who_line bad_log_line bad_view_line colour_text colours_text end_line head_text hex_digit high_digits id_text item_line look_text nibble size_text width_text colour digit fill focus id kind label name natural_in number number_in numeral
 lines_compute = tt
 
 -- drawings, sites, worlds and runs
 unfoldable pub sites_compute : ⊤
-unfolding stamp_cmp level_cmp rank_cmp inserted_by covers independent splice are_apart by_id edit judged targets heard lines_of whole_lines answered end_of_lines state_after node_lines of_received received who_behind all_arrived frame_for offered offers refusal take_frame fitting frame_count least_of_others put asked_replies events_replies taken works_of tries_behind greatest_clock made_by resumed found tally_from after_edit after_gesture after_turn backs_of done made turn with_events apply back after_from after_line happens with_site
+unfolding stamp_cmp level_cmp rank_cmp inserted_by covers independent splice are_apart by_id edit judged targets heard lines_of whole_lines answered end_of_lines state_after node_lines of_received received who_behind all_arrived frame_for offered offers refusal shows_parting take_frame verdict verdict_by fitting frame_count least_of_others put asked_replies events_replies taken works_of tries_behind greatest_clock made_by parted_behind resumed events_before events_upto found tally_from after_edit after_gesture after_turn backs_of done made turn with_events apply back after_from after_line happens with_site
 sites_compute = tt
 
 -- rehearsals and churn

@@ -14,3 +14,4 @@ pub mod WorkedSnapshots
 pub mod WorkedOps
 pub mod WorkedPairs
 pub mod WorkedViews
+pub mod WorkedChecks

@@ -47,7 +47,7 @@ header_two = record { version = Two; session = 7; site = 1; n = 2 }
 
 -- and in version 3
 abbrev pub header_three_bytes : List ℕ
-header_three_bytes = set header_bytes 4 3
+header_three_bytes = set header_bytes 4 7
 
 abbrev pub header_three : Header
 header_three = record { version = Three; session = 7; site = 1; n = 2 }
@@ -264,7 +264,7 @@ abbrev pub cut_text : List (List ℕ)
 cut_text = codes "bad log at 32: Short\n" ∷ []
 
 abbrev pub replays : Format → Bool → Option Command
-replays format counts = Some (Replay format counts)
+replays format counts = Some (Replay format counts false)
 
 -- a replay as text, without counts
 abbrev pub replay : Option Command
@@ -341,10 +341,12 @@ fault_at why left = record { why = why; left = left }
 -- The log of the tie has 70 bytes, and its records begin at the bytes 11 and 40.
 abbrev pub log_faults : List (List ℕ × LogMisread)
 log_faults =
-    -- another format, two versions that are none, and a site 0
+    -- another format, versions that are none, two of them one bit from the third, and a site 0
     (set header_bytes 3 108, fault_at Magic 11)
     ∷ (set header_bytes 4 4, fault_at Version 7)
     ∷ (set header_bytes 4 0, fault_at Version 7)
+    ∷ (set header_bytes 4 3, fault_at Version 7)
+    ∷ (set header_bytes 4 5, fault_at Version 7)
     ∷ (set header_bytes 9 0, fault_at Field 2)
     ∷ (future_log, fault_at FutureId 7)
     ∷ (future_resize_log, fault_at FutureId 15)
@@ -374,27 +376,31 @@ record_row =
 abbrev pub record_event : Event
 record_event = event 1 2 1 (square (pos 0))
 
--- The frame of that site for another, of which it holds nothing, without its checksum and with it. The checksums of all
--- rows were found by a division of polynomials.
+-- The check of the events of that site. The checks and the checksums of all rows were found by a division of
+-- polynomials.
+abbrev pub record_check : List ℕ
+record_check = 194 ∷ 24 ∷ 251 ∷ 186 ∷ []
+
+-- The frame of that site for another, of which it holds nothing, without its checksum and with it.
 abbrev pub body_row_to : ℕ → List ℕ
 body_row_to to =
-    71 ∷ 68 ∷ 79 ∷ 70 ∷ 3 ∷ 0 ∷ 0 ∷ 0 ∷ 7 ∷ 2 ∷ to ∷ 0 ∷ 0 ∷ 0 ∷ 1 ∷ 0 ∷ 0 ∷ 0 ∷ 0 ∷ 0 ∷ 1
-    ∷ 0 ∷ 0 ∷ 0 ∷ 0 ∷ 0 ∷ 0 ∷ 0 ∷ 0 ∷ 0 ∷ 0 ∷ 1 ∷ record_row
+    71 ∷ 68 ∷ 79 ∷ 70 ∷ 3 ∷ 0 ∷ 0 ∷ 0 ∷ 7 ∷ 2 ∷ to ∷ 0 ∷ 0 ∷ 0 ∷ 1 ∷ 0 ∷ 0 ∷ 0 ∷ 0 ∷ 0 ∷ 1 ∷ record_check
+    ++ 0 ∷ 0 ∷ 0 ∷ 0 ∷ 0 ∷ 0 ∷ 0 ∷ 0 ∷ 0 ∷ 0 ∷ 1 ∷ record_row
 
 abbrev pub body_row : List ℕ
 body_row = body_row_to 1
 
 abbrev pub frame_row : List ℕ
-frame_row = body_row ++ 249 ∷ 229 ∷ 212 ∷ 210 ∷ []
+frame_row = body_row ++ 73 ∷ 179 ∷ 77 ∷ 48 ∷ []
 
 -- the same for site 3
 abbrev pub frame_row_to_third : List ℕ
-frame_row_to_third = body_row_to 3 ++ 154 ∷ 127 ∷ 193 ∷ 20 ∷ []
+frame_row_to_third = body_row_to 3 ++ 27 ∷ 222 ∷ 150 ∷ 37 ∷ []
 
 abbrev pub frame_value : Frame
 frame_value =
     record {
-      head = record { session = 7; from = 2; to = 1; ack = 0; count = 1; clock = 1 };
+      head = record { session = 7; from = 2; to = 1; ack = 0; count = 1; clock = 1; check = 0xBAFB18C2 };
       note = record { number = 0; name = None; focus = None };
       events = record_event ∷ [];
     }
@@ -403,7 +409,7 @@ frame_value =
 abbrev pub misread : WireWhy → ℕ → Misread
 misread why left = record { why = why; left = left }
 
--- The frame has 64 bytes: its event begins at byte 32, and its checksum at byte 60. These faults are found before the
+-- The frame has 68 bytes: its event begins at byte 36, and its checksum at byte 64. These faults are found before the
 -- checksum, or in it.
 abbrev pub checked_faults : List (List ℕ × Misread)
 checked_faults =
@@ -411,26 +417,27 @@ checked_faults =
     ([], misread wire.Short 0)
     ∷ (take 4 frame_row, misread wire.Short 0)
     -- another magic, and versions 1, 2 and 4
-    ∷ (set frame_row 0 0, misread wire.Magic 64)
-    ∷ (set frame_row 4 1, misread wire.Version 60)
-    ∷ (set frame_row 4 2, misread wire.Version 60)
-    ∷ (set frame_row 4 4, misread wire.Version 60)
+    ∷ (set frame_row 0 0, misread wire.Magic 68)
+    ∷ (set frame_row 4 1, misread wire.Version 64)
+    ∷ (set frame_row 4 2, misread wire.Version 64)
+    ∷ (set frame_row 4 4, misread wire.Version 64)
     -- longer than a frame may be, and so with another version
-    ∷ (frame_row ++ replicate 1137 0, misread wire.Trailing 1)
-    ∷ (set frame_row 4 2 ++ replicate 1137 0, misread wire.Version 1197)
-    -- one bit is another: of the session, of the count, of the event's clock and of its width, and of the checksum's first
-    -- and last byte
+    ∷ (frame_row ++ replicate 1133 0, misread wire.Trailing 1)
+    ∷ (set frame_row 4 2 ++ replicate 1133 0, misread wire.Version 1197)
+    -- one bit is another: of the session, of the count, of the check of the sender's events, of the event's clock and of
+    -- its width, and of the checksum's first and last byte
     ∷ (set frame_row 8 6, misread wire.Check 4)
     ∷ (set frame_row 14 3, misread wire.Check 4)
-    ∷ (set frame_row 32 128, misread wire.Check 4)
-    ∷ (set frame_row 54 11, misread wire.Check 4)
-    ∷ (set frame_row 60 248, misread wire.Check 4)
-    ∷ (set frame_row 63 82, misread wire.Check 4)
+    ∷ (set frame_row 21 195, misread wire.Check 4)
+    ∷ (set frame_row 36 128, misread wire.Check 4)
+    ∷ (set frame_row 58 11, misread wire.Check 4)
+    ∷ (set frame_row 64 72, misread wire.Check 4)
+    ∷ (set frame_row 67 176, misread wire.Check 4)
     -- two bytes are exchanged
     ∷ (set (set frame_row 9 1) 10 2, misread wire.Check 4)
     -- cut, and with a byte too many
     ∷ (take 5 frame_row, misread wire.Check 4)
-    ∷ (take 33 frame_row, misread wire.Check 4)
+    ∷ (take 37 frame_row, misread wire.Check 4)
     ∷ (body_row, misread wire.Check 4)
     ∷ (frame_row ++ 0 ∷ [], misread wire.Check 4)
     ∷ []
@@ -438,19 +445,21 @@ checked_faults =
 -- These have their checksum, which stands behind the place of the fault.
 abbrev pub frame_faults : List (List ℕ × Misread)
 frame_faults =
-    (with_checksum (take 33 body_row), misread wire.Short 4)
+    (with_checksum (take 37 body_row), misread wire.Short 4)
+    -- within the check of the sender's events
+    ∷ (with_checksum (take 24 body_row), misread wire.Short 4)
     -- site 17
-    ∷ (with_checksum (set body_row 9 17), misread wire.Field 55)
+    ∷ (with_checksum (set body_row 9 17), misread wire.Field 59)
     -- an event of another site, above the count, and above the clock
-    ∷ (with_checksum (set body_row 38 1), misread wire.Disorder 32)
+    ∷ (with_checksum (set body_row 42 1), misread wire.Disorder 32)
     ∷ (with_checksum (set body_row 14 0), misread wire.Disorder 32)
     ∷ (with_checksum (set body_row 20 0), misread wire.Disorder 32)
     -- the number 0, no kind, and a width of 1,000,001
-    ∷ (with_checksum (set body_row 40 0), misread wire.Field 25)
-    ∷ (with_checksum (set body_row 42 5), misread wire.Field 22)
-    ∷ (with_checksum (set (set (set body_row 52 15) 53 66) 54 65), misread wire.Field 13)
+    ∷ (with_checksum (set body_row 44 0), misread wire.Field 25)
+    ∷ (with_checksum (set body_row 46 5), misread wire.Field 22)
+    ∷ (with_checksum (set (set (set body_row 56 15) 57 66) 58 65), misread wire.Field 13)
     -- 68 events, a label that isn't there, and a byte between the event and the checksum
-    ∷ (with_checksum (set body_row 31 68), misread wire.Field 33)
-    ∷ (with_checksum (set body_row 59 1), misread wire.Short 4)
+    ∷ (with_checksum (set body_row 35 68), misread wire.Field 33)
+    ∷ (with_checksum (set body_row 63 1), misread wire.Short 4)
     ∷ (with_checksum (body_row ++ 0 ∷ []), misread wire.Trailing 5)
     ∷ []

@@ -58,7 +58,7 @@ fits =
 -- ---- a frame of as many moves as fit
 
 abbrev pub moves_frame : Frame
-moves_frame = frame_of 46 46 (moves_from 2 45)
+moves_frame = frame_of 46 46 0x2D15320A (moves_from 2 45)
 
 abbrev pub ahead_row : ℕ → List ℕ
 ahead_row k =
@@ -70,8 +70,8 @@ ahead_rows first (suc count) = ahead_row first ++ ahead_rows (first + 1) count
 
 abbrev pub moves_row : List ℕ
 moves_row =
-    71 ∷ 68 ∷ 79 ∷ 70 ∷ 3 ∷ 0 ∷ 0 ∷ 0 ∷ 7 ∷ 2 ∷ 1 ∷ 0 ∷ 0 ∷ 0 ∷ 46 ∷ 0 ∷ 0 ∷ 0 ∷ 0 ∷ 0 ∷ 46
-    ∷ 0 ∷ 0 ∷ 0 ∷ 0 ∷ 0 ∷ 0 ∷ 0 ∷ 0 ∷ 0 ∷ 0 ∷ 45 ∷ ahead_rows 2 45 ++ 156 ∷ 91 ∷ 120 ∷ 167 ∷ []
+    71 ∷ 68 ∷ 79 ∷ 70 ∷ 3 ∷ 0 ∷ 0 ∷ 0 ∷ 7 ∷ 2 ∷ 1 ∷ 0 ∷ 0 ∷ 0 ∷ 46 ∷ 0 ∷ 0 ∷ 0 ∷ 0 ∷ 0 ∷ 46 ∷ 10 ∷ 50 ∷ 21 ∷ 45
+    ∷ 0 ∷ 0 ∷ 0 ∷ 0 ∷ 0 ∷ 0 ∷ 0 ∷ 0 ∷ 0 ∷ 0 ∷ 45 ∷ ahead_rows 2 45 ++ 162 ∷ 33 ∷ 6 ∷ 181 ∷ []
 
 -- ---- site 1 of 3
 
@@ -79,11 +79,11 @@ moves_row =
 abbrev pub full_site : SlowSite
 full_site = record (new_site 1 3 7) { held = lettered 2 ∷ labels; acked = put (λ site. 0) 3 6 }
 
--- the frame for a site at the seventh event, with so many events
-abbrev pub seventh_row : ℕ → ℕ → List ℕ → List ℕ
-seventh_row to count rows =
-    71 ∷ 68 ∷ 79 ∷ 70 ∷ 3 ∷ 0 ∷ 0 ∷ 0 ∷ 7 ∷ 1 ∷ to ∷ 0 ∷ 0 ∷ 0 ∷ 7 ∷ 0 ∷ 0 ∷ 0 ∷ 0 ∷ 0 ∷ 7
-    ∷ 0 ∷ 0 ∷ 0 ∷ 0 ∷ 0 ∷ 0 ∷ 0 ∷ 0 ∷ 0 ∷ 0 ∷ count ∷ rows
+-- the frame for a site at the seventh event, with the check of all seven, and so many events
+abbrev pub seventh_row : ℕ → List ℕ → ℕ → List ℕ → List ℕ
+seventh_row to seven count rows =
+    71 ∷ 68 ∷ 79 ∷ 70 ∷ 3 ∷ 0 ∷ 0 ∷ 0 ∷ 7 ∷ 1 ∷ to ∷ 0 ∷ 0 ∷ 0 ∷ 7 ∷ 0 ∷ 0 ∷ 0 ∷ 0 ∷ 0 ∷ 7 ∷ seven
+    ++ 0 ∷ 0 ∷ 0 ∷ 0 ∷ 0 ∷ 0 ∷ 0 ∷ 0 ∷ 0 ∷ 0 ∷ count ∷ rows
 
 abbrev pub label_row : ℕ → List ℕ
 label_row k = 0 ∷ 0 ∷ 0 ∷ 0 ∷ 0 ∷ k ∷ 1 ∷ 0 ∷ k ∷ 6 ∷ 0 ∷ 0 ∷ 0 ∷ 0 ∷ 0 ∷ 1 ∷ 1 ∷ 200 ∷ letters 200
@@ -95,18 +95,23 @@ held_rows =
     ++ concat (map label_row (2 ∷ 3 ∷ 4 ∷ 5 ∷ 6 ∷ []))
 
 -- Of the room for site 2 there are 24 bytes left, so that a move doesn't fit: the next poll sends the six events before
--- it. The records of these stand in front of place 1137 of the journal.
+-- it. The records of these, and their checks, stand in front of place 1161 of the journal.
 abbrev pub moved : Edit
 moved = move_to 1 1 5 5
 
+abbrev pub moved_check : List ℕ
+moved_check = 93 ∷ 58 ∷ 138 ∷ 52 ∷ []
+
 abbrev pub moved_row : List ℕ
-moved_row = seventh_row 3 1 (move_row 7 5 5 ++ 20 ∷ 101 ∷ 84 ∷ 239 ∷ [])
+moved_row = seventh_row 3 moved_check 1 (move_row 7 5 5 ++ 69 ∷ 72 ∷ 184 ∷ 48 ∷ [])
 
 abbrev pub moved_effects : List Effect
 moved_effects =
-    Work 1 ∷ Record 1137 (event 7 1 7 (op.Set (at_stamp 1 1) (ToPlace (pos 5) (pos 5))) ∷ []) ∷ Print (codes "ok 7.1\n")
+    Work 1 ∷ Record 1161 (lettered 2 ∷ labels) (event 7 1 7 (op.Set (at_stamp 1 1) (ToPlace (pos 5) (pos 5))) ∷ [])
+    ∷ Print (codes "ok 7.1\n")
     ∷ Try 3 moved_row
-    ∷ Try 2 (seventh_row 2 6 (held_rows ++ 119 ∷ 242 ∷ 71 ∷ 113 ∷ [])) ∷ Try 3 moved_row ∷ Print (codes "polled 0\n")
+    ∷ Try 2 (seventh_row 2 moved_check 6 (held_rows ++ 72 ∷ 33 ∷ 239 ∷ 69 ∷ [])) ∷ Try 3 moved_row
+    ∷ Print (codes "polled 0\n")
     ∷ []
 
 -- and a delete does
@@ -116,9 +121,12 @@ deleted = op.Delete (at_stamp 1 1)
 abbrev pub deleted_row : List ℕ
 deleted_row = 0 ∷ 0 ∷ 0 ∷ 0 ∷ 0 ∷ 7 ∷ 1 ∷ 0 ∷ 7 ∷ 2 ∷ 0 ∷ 0 ∷ 0 ∷ 0 ∷ 0 ∷ 1 ∷ 1 ∷ []
 
+abbrev pub deleted_check : List ℕ
+deleted_check = 59 ∷ 4 ∷ 196 ∷ 179 ∷ []
+
 abbrev pub deleted_effects : List Effect
 deleted_effects =
-    Work 1 ∷ Record 1137 (event 7 1 7 (op.Delete (at_stamp 1 1)) ∷ []) ∷ Print (codes "ok 7.1\n")
-    ∷ Try 2 (seventh_row 2 7 (held_rows ++ deleted_row ++ 10 ∷ 200 ∷ 159 ∷ 151 ∷ []))
-    ∷ Try 3 (seventh_row 3 1 (deleted_row ++ 118 ∷ 242 ∷ 246 ∷ 200 ∷ []))
+    Work 1 ∷ Record 1161 (lettered 2 ∷ labels) (event 7 1 7 (op.Delete (at_stamp 1 1)) ∷ []) ∷ Print (codes "ok 7.1\n")
+    ∷ Try 2 (seventh_row 2 deleted_check 7 (held_rows ++ deleted_row ++ 210 ∷ 56 ∷ 151 ∷ 147 ∷ []))
+    ∷ Try 3 (seventh_row 3 deleted_check 1 (deleted_row ++ 56 ∷ 2 ∷ 81 ∷ 238 ∷ []))
     ∷ []

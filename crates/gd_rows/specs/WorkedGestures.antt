@@ -1,5 +1,5 @@
 -- Worked rows of gestures: the lines between a `begin` and its `end`, what a node does then, and what an undo of them does.
-use Rattle.std.specs.Prelude.{ℕ, pos, true, List, [], ◌∷◌, ◌++◌, replicate, codes, Ok, Err}
+use Rattle.std.specs.Prelude.{ℕ, ◌-◌, pos, true, List, [], ◌∷◌, ◌++◌, replicate, codes, get_or, Ok, Err}
 use Rattle.std.specs.List.{concat}
 use Rattle.gd_base.specs.declared.content.Content.TheVariants.{ToFlag}
 use Rattle.gd_base.specs.declared.op.Op.TheVariants as op
@@ -14,7 +14,7 @@ use Rattle.gd_outside.specs.Seen.{Entry, Packet}
 use Rattle.gd_reference.specs.Backs.{Backs}
 use Rattle.gd_reference.specs.NodeRun.{HeardLine, ReadLine}
 use Rattle.gd_reference.specs.TakeBack.{Asked}
-use Rattle.gd_rows.specs.Worked.{at_stamp, event, header_three_bytes, record_event, record_row}
+use Rattle.gd_rows.specs.Worked.{at_stamp, event, header_three_bytes, record_check, record_event, record_row}
 use Rattle.gd_rows.specs.WorkedBacks.{edits, gestures_of, place_of, rect_of, turns}
 use Rattle.gd_rows.specs.WorkedNodes.{asked}
 use Rattle.gd_rows.specs.WorkedWorlds.{ahead_move, first_rect, move_to, new_rect}
@@ -46,28 +46,48 @@ abbrev pub move_row : ℕ → ℕ → ℕ → List ℕ
 move_row k x y =
     0 ∷ 0 ∷ 0 ∷ 0 ∷ 0 ∷ k ∷ 1 ∷ 0 ∷ k ∷ 3 ∷ 0 ∷ 0 ∷ 0 ∷ 0 ∷ 0 ∷ 1 ∷ 1 ∷ 0 ∷ 0 ∷ 0 ∷ x ∷ 0 ∷ 0 ∷ 0 ∷ y ∷ []
 
+-- the checks of the first event, of the first two, and so on, of the gesture and of what takes it back and does it
+-- again
+abbrev pub checks_on_the_way : List (List ℕ)
+checks_on_the_way =
+    (30 ∷ 43 ∷ 197 ∷ 94 ∷ [])
+    ∷ (35 ∷ 82 ∷ 63 ∷ 148 ∷ [])
+    ∷ (92 ∷ 61 ∷ 191 ∷ 125 ∷ [])
+    ∷ (116 ∷ 87 ∷ 235 ∷ 233 ∷ [])
+    ∷ (37 ∷ 167 ∷ 236 ∷ 30 ∷ [])
+    ∷ (66 ∷ 63 ∷ 16 ∷ 15 ∷ [])
+    ∷ []
+
+-- that of the first so many
+abbrev pub own_checks : ℕ → List ℕ
+own_checks k = get_or checks_on_the_way (k - 1) []
+
 -- the frame for site 2 with so many own events, and with that checksum
 abbrev pub own_frame : ℕ → List ℕ → List ℕ → List ℕ
 own_frame k rows checksum =
-    71 ∷ 68 ∷ 79 ∷ 70 ∷ 3 ∷ 0 ∷ 0 ∷ 0 ∷ 7 ∷ 1 ∷ 2 ∷ 0 ∷ 0 ∷ 0 ∷ k ∷ 0 ∷ 0 ∷ 0 ∷ 0 ∷ 0 ∷ k
-    ∷ 0 ∷ 0 ∷ 0 ∷ 0 ∷ 0 ∷ 0 ∷ 0 ∷ 0 ∷ 0 ∷ 0 ∷ k ∷ rows ++ checksum
+    71 ∷ 68 ∷ 79 ∷ 70 ∷ 3 ∷ 0 ∷ 0 ∷ 0 ∷ 7 ∷ 1 ∷ 2 ∷ 0 ∷ 0 ∷ 0 ∷ k ∷ 0 ∷ 0 ∷ 0 ∷ 0 ∷ 0 ∷ k ∷ own_checks k
+    ++ 0 ∷ 0 ∷ 0 ∷ 0 ∷ 0 ∷ 0 ∷ 0 ∷ 0 ∷ 0 ∷ 0 ∷ k ∷ rows ++ checksum
 
 abbrev pub move_event : Event
 move_event = event 2 1 2 (place_of 1 1 50 60)
+
+abbrev pub both : List Event
+both = first_rect ∷ move_event ∷ []
 
 -- a step for each event, one record of both, a line for each of the three, and one frame
 abbrev pub gesture_effects : List Effect
 gesture_effects =
     begun
     ++ Work 1 ∷ Work 1
-    ∷ Record 11 (first_rect ∷ move_event ∷ [])
+    ∷ Record 11 [] both
     ∷ Print (codes "ok 1.1\n") ∷ Print (codes "refused: NotGroup\n") ∷ Print (codes "ok 2.1\n") ∷ Print (codes "end 3\n")
-    ∷ Try 2 (own_frame 2 (create_row ++ move_row 2 50 60) (58 ∷ 139 ∷ 92 ∷ 206 ∷ []))
+    ∷ Try 2 (own_frame 2 (create_row ++ move_row 2 50 60) (61 ∷ 80 ∷ 16 ∷ 135 ∷ []))
     ∷ []
 
--- the header, both events behind an open gate each, and a closed gate
+-- the header, both events behind an open gate each, with their checks, and a closed gate
 abbrev pub gesture_journal : List ℕ
-gesture_journal = header_three_bytes ++ 195 ∷ create_row ++ 195 ∷ move_row 2 50 60 ++ 0 ∷ []
+gesture_journal =
+    header_three_bytes ++ 195 ∷ create_row ++ own_checks 1 ++ 195 ∷ move_row 2 50 60 ++ own_checks 2 ++ 0 ∷ []
 
 -- ---- the undo of it, and the redo
 
@@ -90,31 +110,31 @@ restore_row =
     ∷ 0 ∷ 0 ∷ 0 ∷ 0 ∷ 0 ∷ 0 ∷ 0 ∷ 0 ∷ 0 ∷ 0 ∷ 0 ∷ 10 ∷ 0 ∷ 0 ∷ 0 ∷ 10 ∷ 0 ∷ 0 ∷ 0 ∷ 0 ∷ 255 ∷ 255 ∷ 255 ∷ 255 ∷ 1 ∷ 0
     ∷ 0 ∷ 0 ∷ 1 ∷ 0 ∷ 0 ∷ 0 ∷ 0 ∷ 0 ∷ 1 ∷ 1 ∷ 0 ∷ []
 
--- With their gates the records of the gesture have 29 and 26 bytes, and those of the undo 26 and 18. There is no second
--- gesture to take back, or to do again.
+-- With their gates and checks the records of the gesture have 33 and 30 bytes, and those of the undo 30 and 22. There is no
+-- second gesture to take back, or to do again.
 abbrev pub turned_effects : List Effect
 turned_effects =
     gesture_effects
     ++ Work 1 ∷ Work 1
-    ∷ Record 66 undone
+    ∷ Record 74 both undone
     ∷ Print (codes "ok 3.1\n") ∷ Print (codes "ok 4.1\n") ∷ Print (codes "end 2\n")
-    ∷ Try 2 (own_frame 4 (create_row ++ move_row 2 50 60 ++ move_row 3 0 0 ++ delete_row) (83 ∷ 245 ∷ 124 ∷ 22 ∷ []))
+    ∷ Try 2 (own_frame 4 (create_row ++ move_row 2 50 60 ++ move_row 3 0 0 ++ delete_row) (78 ∷ 204 ∷ 202 ∷ 147 ∷ []))
     ∷ Print (codes "refused: NothingBack\n")
     ∷ Work 1 ∷ Work 1
-    ∷ Record 110 redone
+    ∷ Record 126 (both ++ undone) redone
     ∷ Print (codes "ok 5.1\n") ∷ Print (codes "ok 6.1\n") ∷ Print (codes "end 2\n")
     ∷ Try 2
     (own_frame 6 (create_row ++ move_row 2 50 60 ++ move_row 3 0 0 ++ delete_row ++ restore_row ++ move_row 6 50 60)
-    (84 ∷ 173 ∷ 248 ∷ 37 ∷ []))
+    (108 ∷ 73 ∷ 149 ∷ 135 ∷ []))
     ∷ Print (codes "refused: NothingBack\n")
     ∷ []
 
 abbrev pub turned_journal : List ℕ
 turned_journal =
     header_three_bytes
-    ++ 195 ∷ create_row ++ 195 ∷ move_row 2 50 60
-    ++ 195 ∷ move_row 3 0 0 ++ 195 ∷ delete_row
-    ++ 195 ∷ restore_row ++ 195 ∷ move_row 6 50 60
+    ++ 195 ∷ create_row ++ own_checks 1 ++ 195 ∷ move_row 2 50 60 ++ own_checks 2
+    ++ 195 ∷ move_row 3 0 0 ++ own_checks 3 ++ 195 ∷ delete_row ++ own_checks 4
+    ++ 195 ∷ restore_row ++ own_checks 5 ++ 195 ∷ move_row 6 50 60 ++ own_checks 6
     ++ 0 ∷ []
 
 -- what takes both events back, and what does them again
@@ -200,31 +220,35 @@ abbrev pub other_move_row : List ℕ
 other_move_row =
     0 ∷ 0 ∷ 0 ∷ 0 ∷ 0 ∷ 2 ∷ 2 ∷ 0 ∷ 2 ∷ 3 ∷ 0 ∷ 0 ∷ 0 ∷ 0 ∷ 0 ∷ 1 ∷ 2 ∷ 0 ∷ 0 ∷ 0 ∷ 1 ∷ 0 ∷ 0 ∷ 0 ∷ 1 ∷ []
 
--- of site 2: the create, and that move
+-- the check of site 2's create and that move
+abbrev pub pair_check : List ℕ
+pair_check = 36 ∷ 149 ∷ 91 ∷ 193 ∷ []
+
+-- both in a frame
 abbrev pub pair_row : List ℕ
 pair_row =
-    71 ∷ 68 ∷ 79 ∷ 70 ∷ 3 ∷ 0 ∷ 0 ∷ 0 ∷ 7 ∷ 2 ∷ 1 ∷ 0 ∷ 0 ∷ 0 ∷ 2 ∷ 0 ∷ 0 ∷ 0 ∷ 0 ∷ 0 ∷ 2
-    ∷ 0 ∷ 0 ∷ 0 ∷ 0 ∷ 0 ∷ 0 ∷ 0 ∷ 0 ∷ 0 ∷ 0 ∷ 2 ∷ record_row ++ other_move_row ++ 1 ∷ 84 ∷ 33 ∷ 183 ∷ []
+    71 ∷ 68 ∷ 79 ∷ 70 ∷ 3 ∷ 0 ∷ 0 ∷ 0 ∷ 7 ∷ 2 ∷ 1 ∷ 0 ∷ 0 ∷ 0 ∷ 2 ∷ 0 ∷ 0 ∷ 0 ∷ 0 ∷ 0 ∷ 2 ∷ pair_check
+    ++ 0 ∷ 0 ∷ 0 ∷ 0 ∷ 0 ∷ 0 ∷ 0 ∷ 0 ∷ 0 ∷ 0 ∷ 2 ∷ record_row ++ other_move_row ++ 80 ∷ 111 ∷ 50 ∷ 164 ∷ []
 
 abbrev pub pair_entries : List Entry
 pair_entries = Packet pair_row ∷ []
 
--- the frame that answers it: two events of site 2 are held
+-- the frame that answers it: two events of site 2 are held, and no own one is there
 abbrev pub pair_answer : List ℕ
 pair_answer =
-    71 ∷ 68 ∷ 79 ∷ 70 ∷ 3 ∷ 0 ∷ 0 ∷ 0 ∷ 7 ∷ 1 ∷ 2 ∷ 0 ∷ 2 ∷ 0 ∷ 0 ∷ 0 ∷ 0 ∷ 0 ∷ 0 ∷ 0 ∷ 2
-    ∷ 0 ∷ 0 ∷ 0 ∷ 0 ∷ 0 ∷ 0 ∷ 0 ∷ 0 ∷ 0 ∷ 0 ∷ 0 ∷ 210 ∷ 186 ∷ 176 ∷ 103 ∷ []
+    71 ∷ 68 ∷ 79 ∷ 70 ∷ 3 ∷ 0 ∷ 0 ∷ 0 ∷ 7 ∷ 1 ∷ 2 ∷ 0 ∷ 2 ∷ 0 ∷ 0 ∷ 0 ∷ 0 ∷ 0 ∷ 0 ∷ 0 ∷ 2 ∷ 0 ∷ 0 ∷ 0 ∷ 0
+    ∷ 0 ∷ 0 ∷ 0 ∷ 0 ∷ 0 ∷ 0 ∷ 0 ∷ 0 ∷ 0 ∷ 0 ∷ 0 ∷ 69 ∷ 205 ∷ 28 ∷ 132 ∷ []
 
 -- the steps of both come first, then one record, and then the echoes
 abbrev pub pair_effects : List Effect
 pair_effects =
     begun
     ++ Work 1 ∷ Work 1
-    ∷ Record 11 (record_event ∷ ahead_move 2 ∷ [])
+    ∷ Record 11 [] (record_event ∷ ahead_move 2 ∷ [])
     ∷ Print (codes "echo 1.2 applied create rect 0 0 10 10\n") ∷ Print (codes "echo 2.2 applied move 1.2 1 1\n")
     ∷ Try 2 pair_answer
     ∷ Print (codes "polled 1\n")
     ∷ []
 
 abbrev pub pair_journal : List ℕ
-pair_journal = header_three_bytes ++ 195 ∷ record_row ++ 195 ∷ other_move_row ++ 0 ∷ []
+pair_journal = header_three_bytes ++ 195 ∷ record_row ++ record_check ++ 195 ∷ other_move_row ++ pair_check ++ 0 ∷ []

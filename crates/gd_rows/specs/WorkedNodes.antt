@@ -15,8 +15,8 @@ use Rattle.gd_model.specs.Objects.{new_shape}
 use Rattle.gd_outside.specs.Seen.{Entry, Packet, Pause, Failure}
 use Rattle.gd_reference.specs.InputLines.{Read}
 use Rattle.gd_reference.specs.NodeRun.{HeardLine, node_effects}
-use Rattle.gd_rows.specs.Worked.{at_stamp, body_row, event, frame_row, frame_row_to_third, header_three_bytes, record_event, record_row}
-use Rattle.gd_rows.specs.WorkedWorlds.{new_rect, ahead_move, ahead_first, ahead_gap, ahead_rest, frame_of, sure_frame, sure_late_frame}
+use Rattle.gd_rows.specs.Worked.{at_stamp, body_row, event, frame_row, frame_row_to_third, header_three_bytes, record_check, record_event, record_row}
+use Rattle.gd_rows.specs.WorkedWorlds.{new_rect, ahead_move, ahead_first, ahead_gap, ahead_rest, check_one, check_two, frame_of, sure_frame, sure_late_frame}
 
 -- lines that ask for these
 abbrev pub asked : List Command → List HeardLine
@@ -25,14 +25,14 @@ asked commands = map (λ c. Read (Ok c)) commands
 -- ---- site 2 of 3
 
 abbrev pub second_header : List ℕ
-second_header = 71 ∷ 68 ∷ 79 ∷ 76 ∷ 3 ∷ 0 ∷ 0 ∷ 0 ∷ 7 ∷ 2 ∷ 3 ∷ []
+second_header = 71 ∷ 68 ∷ 79 ∷ 76 ∷ 7 ∷ 0 ∷ 0 ∷ 0 ∷ 7 ∷ 2 ∷ 3 ∷ []
 
 -- its header, and an edit: a step, the record behind the header's 11 bytes, the line, and a frame for each other site
 abbrev pub created_effects : List Effect
 created_effects =
     Head second_header
     ∷ Print (codes "ready 2 of 3\n")
-    ∷ Work 1 ∷ Record 11 (record_event ∷ []) ∷ Print (codes "ok 1.2\n")
+    ∷ Work 1 ∷ Record 11 [] (record_event ∷ []) ∷ Print (codes "ok 1.2\n")
     ∷ Try 1 frame_row ∷ Try 3 frame_row_to_third
     ∷ []
 
@@ -43,11 +43,15 @@ delete_row = 0 ∷ 0 ∷ 0 ∷ 0 ∷ 0 ∷ 2 ∷ 2 ∷ 0 ∷ 2 ∷ 2 ∷ 0 ∷ 0
 abbrev pub delete_event : Event
 delete_event = event 2 2 2 (op.Delete (at_stamp 1 2))
 
+-- the check of both events
+abbrev pub delete_check : List ℕ
+delete_check = 168 ∷ 0 ∷ 173 ∷ 28 ∷ []
+
 -- the frame with both events, which ends in that checksum
 abbrev pub undone_row_to : ℕ → List ℕ → List ℕ
 undone_row_to to checksum =
-    71 ∷ 68 ∷ 79 ∷ 70 ∷ 3 ∷ 0 ∷ 0 ∷ 0 ∷ 7 ∷ 2 ∷ to ∷ 0 ∷ 0 ∷ 0 ∷ 2 ∷ 0 ∷ 0 ∷ 0 ∷ 0 ∷ 0 ∷ 2
-    ∷ 0 ∷ 0 ∷ 0 ∷ 0 ∷ 0 ∷ 0 ∷ 0 ∷ 0 ∷ 0 ∷ 0 ∷ 2 ∷ record_row ++ delete_row ++ checksum
+    71 ∷ 68 ∷ 79 ∷ 70 ∷ 3 ∷ 0 ∷ 0 ∷ 0 ∷ 7 ∷ 2 ∷ to ∷ 0 ∷ 0 ∷ 0 ∷ 2 ∷ 0 ∷ 0 ∷ 0 ∷ 0 ∷ 0 ∷ 2 ∷ delete_check
+    ++ 0 ∷ 0 ∷ 0 ∷ 0 ∷ 0 ∷ 0 ∷ 0 ∷ 0 ∷ 0 ∷ 0 ∷ 2 ∷ record_row ++ delete_row ++ checksum
 
 -- a record that puts the rect back as it was: black, not filled, of width 1, without a label, in no group, not
 -- dissolved, at the rank high 1.2; and no ties
@@ -61,14 +65,18 @@ abbrev pub restore_event : Event
 restore_event =
     event 3 2 3 (op.Restore (at_stamp 1 2) (new_shape (at_stamp 1 2) Rect (pos 0) (pos 0) (pos 10) (pos 10) []) [])
 
+-- the check of all three
+abbrev pub restore_check : List ℕ
+restore_check = 195 ∷ 176 ∷ 7 ∷ 34 ∷ []
+
 -- the frame with all three
 abbrev pub redone_row_to : ℕ → List ℕ → List ℕ
 redone_row_to to checksum =
-    71 ∷ 68 ∷ 79 ∷ 70 ∷ 3 ∷ 0 ∷ 0 ∷ 0 ∷ 7 ∷ 2 ∷ to ∷ 0 ∷ 0 ∷ 0 ∷ 3 ∷ 0 ∷ 0 ∷ 0 ∷ 0 ∷ 0 ∷ 3
-    ∷ 0 ∷ 0 ∷ 0 ∷ 0 ∷ 0 ∷ 0 ∷ 0 ∷ 0 ∷ 0 ∷ 0 ∷ 3 ∷ record_row ++ delete_row ++ restore_row ++ checksum
+    71 ∷ 68 ∷ 79 ∷ 70 ∷ 3 ∷ 0 ∷ 0 ∷ 0 ∷ 7 ∷ 2 ∷ to ∷ 0 ∷ 0 ∷ 0 ∷ 3 ∷ 0 ∷ 0 ∷ 0 ∷ 0 ∷ 0 ∷ 3 ∷ restore_check
+    ++ 0 ∷ 0 ∷ 0 ∷ 0 ∷ 0 ∷ 0 ∷ 0 ∷ 0 ∷ 0 ∷ 0 ∷ 3 ∷ record_row ++ delete_row ++ restore_row ++ checksum
 
--- The edit, two undos and two redos. The first undo is an event like any other, behind the 29 bytes of the edit's
--- gate and record, and so is the first redo, behind the 18 bytes of the undo's. The second ones are refused.
+-- The edit, two undos and two redos. The first undo is an event like any other, behind the 33 bytes of the edit's
+-- gate, record and check, and so is the first redo, behind the 22 bytes of the undo's. The second ones are refused.
 abbrev pub turned_lines : List HeardLine
 turned_lines =
     asked
@@ -82,17 +90,23 @@ turned_lines =
 abbrev pub turned_effects : List Effect
 turned_effects =
     created_effects
-    ++ Work 1 ∷ Record 40 (delete_event ∷ []) ∷ Print (codes "ok 2.2\n") ∷ Print (codes "end 1\n")
-    ∷ Try 1 (undone_row_to 1 (227 ∷ 29 ∷ 246 ∷ 30 ∷ [])) ∷ Try 3 (undone_row_to 3 (91 ∷ 109 ∷ 148 ∷ 224 ∷ []))
+    ++ Work 1 ∷ Record 44 (record_event ∷ []) (delete_event ∷ []) ∷ Print (codes "ok 2.2\n") ∷ Print (codes "end 1\n")
+    ∷ Try 1 (undone_row_to 1 (70 ∷ 174 ∷ 194 ∷ 88 ∷ [])) ∷ Try 3 (undone_row_to 3 (212 ∷ 98 ∷ 43 ∷ 108 ∷ []))
     ∷ Print (codes "refused: NothingBack\n")
-    ∷ Work 1 ∷ Record 58 (restore_event ∷ []) ∷ Print (codes "ok 3.2\n") ∷ Print (codes "end 1\n")
-    ∷ Try 1 (redone_row_to 1 (85 ∷ 235 ∷ 37 ∷ 9 ∷ [])) ∷ Try 3 (redone_row_to 3 (58 ∷ 214 ∷ 194 ∷ 9 ∷ []))
+    ∷ Work 1 ∷ Record 66 (record_event ∷ delete_event ∷ []) (restore_event ∷ [])
+    ∷ Print (codes "ok 3.2\n") ∷ Print (codes "end 1\n")
+    ∷ Try 1 (redone_row_to 1 (128 ∷ 118 ∷ 85 ∷ 128 ∷ [])) ∷ Try 3 (redone_row_to 3 (69 ∷ 126 ∷ 136 ∷ 128 ∷ []))
     ∷ Print (codes "refused: NothingBack\n")
     ∷ []
 
--- the header, the three events and a closed gate
+-- the header, the three events with their checks, and a closed gate
 abbrev pub turned_journal : List ℕ
-turned_journal = second_header ++ 195 ∷ record_row ++ 195 ∷ delete_row ++ 195 ∷ restore_row ++ 0 ∷ []
+turned_journal =
+    second_header
+    ++ 195 ∷ record_row ++ record_check
+    ++ 195 ∷ delete_row ++ delete_check
+    ++ 195 ∷ restore_row ++ restore_check
+    ++ 0 ∷ []
 
 -- ---- a site alone
 
@@ -129,26 +143,26 @@ long_printed = codes "ready 1 of 1\nframe refused: Magic at 0\nframe refused: To
 abbrev pub repeat_entries : List Entry
 repeat_entries = Packet frame_row ∷ Packet frame_row ∷ Packet frame_row ∷ []
 
--- the frame that answers it: one event of site 2 is held
+-- the frame that answers it: one event of site 2 is held, and no own one is there
 abbrev pub answer_row : List ℕ
 answer_row =
-    71 ∷ 68 ∷ 79 ∷ 70 ∷ 3 ∷ 0 ∷ 0 ∷ 0 ∷ 7 ∷ 1 ∷ 2 ∷ 0 ∷ 1 ∷ 0 ∷ 0 ∷ 0 ∷ 0 ∷ 0 ∷ 0 ∷ 0 ∷ 1
-    ∷ 0 ∷ 0 ∷ 0 ∷ 0 ∷ 0 ∷ 0 ∷ 0 ∷ 0 ∷ 0 ∷ 0 ∷ 0 ∷ 69 ∷ 222 ∷ 230 ∷ 109 ∷ []
+    71 ∷ 68 ∷ 79 ∷ 70 ∷ 3 ∷ 0 ∷ 0 ∷ 0 ∷ 7 ∷ 1 ∷ 2 ∷ 0 ∷ 1 ∷ 0 ∷ 0 ∷ 0 ∷ 0 ∷ 0 ∷ 0 ∷ 0 ∷ 1 ∷ 0 ∷ 0 ∷ 0 ∷ 0
+    ∷ 0 ∷ 0 ∷ 0 ∷ 0 ∷ 0 ∷ 0 ∷ 0 ∷ 0 ∷ 0 ∷ 0 ∷ 0 ∷ 213 ∷ 156 ∷ 216 ∷ 92 ∷ []
 
 abbrev pub repeat_effects : List Effect
 repeat_effects =
     Head header_three_bytes
     ∷ Print (codes "ready 1 of 2\n")
     ∷ Work 1
-    ∷ Record 11 (record_event ∷ [])
+    ∷ Record 11 [] (record_event ∷ [])
     ∷ Print (codes "echo 1.2 applied create rect 0 0 10 10\n")
     ∷ Try 2 answer_row
     ∷ Print (codes "polled 3\n")
     ∷ []
 
--- the header, the event and a closed gate
+-- the header, the event with its check, and a closed gate
 abbrev pub repeat_journal : List ℕ
-repeat_journal = header_three_bytes ++ 195 ∷ record_row ++ 0 ∷ []
+repeat_journal = header_three_bytes ++ 195 ∷ record_row ++ record_check ++ 0 ∷ []
 
 abbrev pub ahead_entries : List Entry
 ahead_entries = Packet (frame_bytes ahead_first) ∷ Packet (frame_bytes ahead_gap) ∷ Packet (frame_bytes ahead_rest) ∷ []
@@ -160,9 +174,9 @@ sure_entries = Packet (frame_bytes sure_frame) ∷ Packet (frame_bytes sure_late
 abbrev pub failing_entries : List Entry
 failing_entries =
     Packet (frame_bytes ahead_first)
-    ∷ Packet (frame_bytes (frame_of 1 1 []))
+    ∷ Packet (frame_bytes (frame_of 1 1 check_one []))
     ∷ Failure
-    ∷ Packet (frame_bytes (frame_of 2 2 (ahead_move 2 ∷ [])))
+    ∷ Packet (frame_bytes (frame_of 2 2 check_two (ahead_move 2 ∷ [])))
     ∷ []
 
 -- a new node 1 of 2 in session 7
@@ -189,13 +203,13 @@ refused_entries =
     Packet []
     ∷ Packet (frame_bytes (record ahead_first { head = record ahead_first.head { session = 8 } }))
     ∷ Packet (with_checksum (body_row ++ 0 ∷ []))
-    ∷ Packet (set frame_row 54 11)
+    ∷ Packet (set frame_row 58 11)
     ∷ []
 
 abbrev pub refused_printed : List ℕ
 refused_printed =
-    codes "ready 1 of 2\nframe refused: Short at 0\nframe refused: Session\nframe refused: Trailing at 60\n"
-    ++ codes "frame refused: Check at 60\npolled 4\nend 0\n"
+    codes "ready 1 of 2\nframe refused: Short at 0\nframe refused: Session\nframe refused: Trailing at 64\n"
+    ++ codes "frame refused: Check at 64\npolled 4\nend 0\n"
 
 abbrev pub noting_lines : List HeardLine
 noting_lines =

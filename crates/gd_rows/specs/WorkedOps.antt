@@ -1,10 +1,10 @@
 -- Worked rows of what version three has besides: the operations of undos and redos, byte by byte and as JSON.
-use Rattle.std.specs.Prelude.{◌≡◌, ℕ, zero, suc, ◌+◌, ◌-◌, pos, false, List, [], ◌∷◌, ◌++◌, length, map, set, take, codes, Some, None, Err, IsOk}
+use Rattle.std.specs.Prelude.{◌≡◌, ℕ, zero, suc, ◌+◌, ◌-◌, pos, false, List, [], ◌∷◌, ◌++◌, length, map, set, take, codes, Some, None, Err}
 use Rattle.std.specs.List.{AllByRecursion}
 use Rattle.gd_base.specs.declared.content.Content.TheVariants.{ToFlag, ToRank}
 use Rattle.gd_base.specs.declared.content.Height.TheVariants.{At}
 use Rattle.gd_base.specs.declared.fault.LogWhy.{LogWhy}
-use Rattle.gd_base.specs.declared.fault.LogWhy.TheVariants.{Short, Field, FutureId, MemberOrder}
+use Rattle.gd_base.specs.declared.fault.LogWhy.TheVariants.{Short, Field, FutureId, MemberOrder, Check}
 use Rattle.gd_base.specs.declared.op.Op.TheVariants.{Set, Restore, Disband}
 use Rattle.gd_base.specs.declared.rank.Rank.TheVariants.{Low, High}
 use Rattle.gd_base.specs.declared.ties.Tie.{Tie}
@@ -76,18 +76,18 @@ reopen_bytes = 0 ∷ 0 ∷ 0 ∷ 0 ∷ 0 ∷ 15 ∷ 1 ∷ 0 ∷ 7 ∷ 14 ∷ 0 �
 abbrev pub reopen_event : Event
 reopen_event = event 15 1 7 (Set (at_stamp 3 2) (ToFlag false))
 
--- ---- a log of all of them
+-- ---- a log of all of them, each with its check behind it
 
 abbrev pub turned_log : List ℕ
 turned_log =
     header_three_bytes
-    ++ 195 ∷ restore_bytes
-    ++ 195 ∷ bare_restore_bytes
-    ++ 195 ∷ disband_bytes
-    ++ 195 ∷ tied_disband_bytes
-    ++ 195 ∷ low_bytes
-    ++ 195 ∷ high_bytes
-    ++ 195 ∷ reopen_bytes
+    ++ 195 ∷ restore_bytes ++ 251 ∷ 121 ∷ 224 ∷ 218 ∷ []
+    ++ 195 ∷ bare_restore_bytes ++ 1 ∷ 177 ∷ 253 ∷ 125 ∷ []
+    ++ 195 ∷ disband_bytes ++ 6 ∷ 158 ∷ 149 ∷ 11 ∷ []
+    ++ 195 ∷ tied_disband_bytes ++ 53 ∷ 93 ∷ 86 ∷ 195 ∷ []
+    ++ 195 ∷ low_bytes ++ 53 ∷ 41 ∷ 182 ∷ 27 ∷ []
+    ++ 195 ∷ high_bytes ++ 128 ∷ 178 ∷ 66 ∷ 76 ∷ []
+    ++ 195 ∷ reopen_bytes ++ 58 ∷ 113 ∷ 86 ∷ 78 ∷ []
     ++ 0 ∷ []
 
 abbrev pub turned_events : List Event
@@ -123,7 +123,7 @@ turned_json =
 
 -- ---- versions
 
--- a log of that version whose first record has that tag, and nothing behind it
+-- a log whose version is that byte, and whose first record has that tag, and nothing behind it
 abbrev pub tagged : ℕ → ℕ → List ℕ
 tagged version tag = set (begun_log (tag ∷ [])) 4 version
 
@@ -132,95 +132,105 @@ abbrev pub tag_rows : List (List ℕ × LogWhy × ℕ)
 tag_rows =
     map (λ tag. (tagged 1 tag, Field, 1)) (11 ∷ 12 ∷ 13 ∷ 14 ∷ 15 ∷ [])
     ++ map (λ tag. (tagged 2 tag, Field, 1)) (11 ∷ 12 ∷ 13 ∷ 14 ∷ 15 ∷ [])
-    ++ map (λ tag. (tagged 3 tag, Short, 0)) (10 ∷ 11 ∷ 12 ∷ 13 ∷ 14 ∷ [])
-    ++ map (λ tag. (tagged 3 tag, Field, 1)) (0 ∷ 15 ∷ 255 ∷ [])
+    ++ map (λ tag. (tagged 7 tag, Short, 0)) (10 ∷ 11 ∷ 12 ∷ 13 ∷ 14 ∷ [])
+    ++ map (λ tag. (tagged 7 tag, Field, 1)) (0 ∷ 15 ∷ 255 ∷ [])
 
 -- ---- changed bytes
 
--- what these bytes are read as where one of them is changed to this value: a log, or a fault at that place
-pub data Reading : Type 0 where
-  Whole : Reading
-  Faulty : LogWhy → ℕ → Reading
-
+-- the fault of these bytes where one of them is changed to this value
 pub record Change : Type 0 where
   pub at : ℕ
   pub value : ℕ
-  pub reading : Reading
+  pub why : LogWhy
+  pub place : ℕ
 
-abbrev pub change : ℕ → ℕ → Reading → Change
-change at value reading = record { at = at; value = value; reading = reading }
+abbrev pub change : ℕ → ℕ → LogWhy → ℕ → Change
+change at value why place = record { at = at; value = value; why = why; place = place }
 
-abbrev pub IsRead : List ℕ → Reading → Type 0
-IsRead bytes Whole = IsOk (log bytes)
-IsRead bytes (Faulty why at) = log bytes ≡ Err (fault_at why (length bytes - at))
+abbrev pub IsFaulty : List ℕ → LogWhy → ℕ → Type 0
+IsFaulty bytes why place = log bytes ≡ Err (fault_at why (length bytes - place))
 
 abbrev pub ChangesRead : List ℕ → List Change → Type 0
-ChangesRead bytes changes = AllByRecursion (λ c. IsRead (set bytes c.at c.value) c.reading) changes
+ChangesRead bytes changes = AllByRecursion (λ c. IsFaulty (set bytes c.at c.value) c.why c.place) changes
 
--- a log of one record, which begins at byte 12, as the first event of its site
-abbrev pub one_log : List ℕ → List ℕ
-one_log bytes = set (header_three_bytes ++ 195 ∷ bytes ++ 0 ∷ []) 20 1
+-- a log of one record, which begins at byte 12, as the first event of its site, and of its check
+abbrev pub one_log : List ℕ → List ℕ → List ℕ
+one_log bytes check = set (header_three_bytes ++ 195 ∷ bytes ++ check ++ 0 ∷ []) 20 1
 
 abbrev pub restored_log : List ℕ
-restored_log = one_log restore_bytes
+restored_log = one_log restore_bytes (251 ∷ 121 ∷ 224 ∷ 218 ∷ [])
 
+abbrev pub disbanded_log : List ℕ
+disbanded_log = one_log disband_bytes (243 ∷ 190 ∷ 189 ∷ 158 ∷ [])
+
+abbrev pub reranked_log : List ℕ
+reranked_log = one_log low_bytes (156 ∷ 255 ∷ 229 ∷ 131 ∷ [])
+
+abbrev pub reopened_log : List ℕ
+reopened_log = one_log reopen_bytes (22 ∷ 221 ∷ 23 ∷ 133 ∷ [])
+
+-- each is read as it is
+abbrev pub whole_logs : List (List ℕ)
+whole_logs = restored_log ∷ disbanded_log ∷ reranked_log ∷ reopened_log ∷ []
+
+-- Where a change leaves an event, that has another check than the one behind it.
 -- Of the restore: the tag is byte 21, the id 22 to 28, the object 29 to 83, the number of ties 84, and the ties begin
 -- at 85 and 93.
 abbrev pub restore_changes : List Change
 restore_changes =
     -- versions that don't have it
-    change 4 1 (Faulty Field 21)
-    ∷ change 4 2 (Faulty Field 21)
-    ∷ change 27 0 (Faulty Field 22)
-    ∷ change 28 17 (Faulty Field 28)
+    change 4 1 Field 21
+    ∷ change 4 2 Field 21
+    ∷ change 27 0 Field 22
+    ∷ change 28 17 Field 28
     -- the object is 9.1, the event's own stamp; and 8.1, which isn't below its group
-    ∷ change 27 9 (Faulty FutureId 22)
-    ∷ change 27 8 (Faulty FutureId 60)
-    ∷ change 29 0 (Faulty Field 29)
-    ∷ change 29 6 (Faulty Field 29)
-    ∷ change 29 5 Whole
-    ∷ change 30 128 (Faulty Field 30)
-    ∷ change 34 128 (Faulty Field 34)
-    ∷ change 38 255 (Faulty Field 38)
-    ∷ change 42 255 (Faulty Field 42)
-    ∷ change 46 1 (Faulty Field 46)
-    ∷ change 50 1 (Faulty Field 50)
-    ∷ change 54 0 (Faulty Field 54)
-    ∷ change 54 65 (Faulty Field 54)
-    ∷ change 55 201 (Faulty Field 55)
-    ∷ change 56 31 (Faulty Field 56)
-    ∷ change 59 2 (Faulty Field 59)
+    ∷ change 27 9 FutureId 22
+    ∷ change 27 8 FutureId 60
+    ∷ change 29 0 Field 29
+    ∷ change 29 6 Field 29
+    ∷ change 29 5 Check 116
+    ∷ change 30 128 Field 30
+    ∷ change 34 128 Field 34
+    ∷ change 38 255 Field 38
+    ∷ change 42 255 Field 42
+    ∷ change 46 1 Field 46
+    ∷ change 50 1 Field 50
+    ∷ change 54 0 Field 54
+    ∷ change 54 65 Field 54
+    ∷ change 55 201 Field 55
+    ∷ change 56 31 Field 56
+    ∷ change 59 2 Field 59
     -- the group is 9.2, which isn't before the event; none; and 1.2, which is above the object
-    ∷ change 65 9 (Faulty FutureId 60)
-    ∷ change 65 0 (Faulty Field 60)
-    ∷ change 65 1 Whole
-    ∷ change 66 17 (Faulty Field 66)
-    ∷ change 67 64 (Faulty Field 67)
-    ∷ change 71 64 (Faulty Field 71)
-    ∷ change 75 1 Whole
-    ∷ change 75 2 (Faulty Field 75)
-    ∷ change 76 1 Whole
-    ∷ change 76 2 (Faulty Field 76)
-    ∷ change 82 0 (Faulty Field 77)
-    ∷ change 82 9 (Faulty FutureId 77)
-    ∷ change 82 8 Whole
-    ∷ change 83 0 (Faulty Field 83)
-    ∷ change 84 33 (Faulty Field 84)
-    -- a third tie would begin at the log's gate
-    ∷ change 84 3 (Faulty Short 117)
-    ∷ change 90 9 (Faulty FutureId 85)
-    ∷ change 90 5 (Faulty MemberOrder 93)
-    ∷ change 92 2 (Faulty Field 92)
-    ∷ change 98 2 (Faulty MemberOrder 93)
+    ∷ change 65 9 FutureId 60
+    ∷ change 65 0 Field 60
+    ∷ change 65 1 Check 116
+    ∷ change 66 17 Field 66
+    ∷ change 67 64 Field 67
+    ∷ change 71 64 Field 71
+    ∷ change 75 1 Check 116
+    ∷ change 75 2 Field 75
+    ∷ change 76 1 Check 116
+    ∷ change 76 2 Field 76
+    ∷ change 82 0 Field 77
+    ∷ change 82 9 FutureId 77
+    ∷ change 82 8 Check 116
+    ∷ change 83 0 Field 83
+    ∷ change 84 33 Field 84
+    -- a third tie would begin at the check
+    ∷ change 84 3 Short 121
+    ∷ change 90 9 FutureId 85
+    ∷ change 90 5 MemberOrder 93
+    ∷ change 92 2 Field 92
+    ∷ change 98 2 MemberOrder 93
     -- above the first tie, but not before the event
-    ∷ change 98 9 (Faulty FutureId 93)
-    ∷ change 99 0 (Faulty Field 99)
-    ∷ change 100 2 (Faulty Field 100)
-    ∷ change 106 9 (Faulty FutureId 101)
-    ∷ change 106 4 (Faulty FutureId 101)
-    ∷ change 106 5 Whole
-    ∷ change 108 64 (Faulty Field 108)
-    ∷ change 112 64 (Faulty Field 112)
+    ∷ change 98 9 FutureId 93
+    ∷ change 99 0 Field 99
+    ∷ change 100 2 Field 100
+    ∷ change 106 9 FutureId 101
+    ∷ change 106 4 FutureId 101
+    ∷ change 106 5 Check 116
+    ∷ change 108 64 Field 108
+    ∷ change 112 64 Field 112
     ∷ []
 
 -- the group is the object itself
@@ -230,41 +240,41 @@ own_group_log = set (set restored_log 65 1) 66 1
 -- Of the disband: the id is 22 to 28, the number of ties 29, and the tie begins at 30.
 abbrev pub disband_changes : List Change
 disband_changes =
-    change 4 1 (Faulty Field 21)
-    ∷ change 4 2 (Faulty Field 21)
-    ∷ change 27 11 (Faulty FutureId 22)
-    ∷ change 29 0 (Faulty Field 29)
-    ∷ change 29 33 (Faulty Field 29)
-    ∷ change 35 11 (Faulty FutureId 30)
-    ∷ change 35 0 (Faulty Field 30)
-    ∷ change 35 10 Whole
+    change 4 1 Field 21
+    ∷ change 4 2 Field 21
+    ∷ change 27 11 FutureId 22
+    ∷ change 29 0 Field 29
+    ∷ change 29 33 Field 29
+    ∷ change 35 11 FutureId 30
+    ∷ change 35 0 Field 30
+    ∷ change 35 10 Check 38
     -- a link that isn't there
-    ∷ change 37 1 (Faulty Short 39)
-    ∷ change 37 2 (Faulty Field 37)
+    ∷ change 37 1 Short 43
+    ∷ change 37 2 Field 37
     ∷ []
 
 -- Of the rerank: the id is 22 to 28, and the rank 29 to 36.
 abbrev pub rerank_changes : List Change
 rerank_changes =
-    change 4 1 (Faulty Field 21)
-    ∷ change 4 2 (Faulty Field 21)
-    ∷ change 27 13 (Faulty FutureId 22)
-    ∷ change 29 1 Whole
-    ∷ change 29 2 (Faulty Field 29)
-    ∷ change 35 0 (Faulty Field 30)
-    ∷ change 35 13 (Faulty FutureId 30)
-    ∷ change 36 17 (Faulty Field 36)
+    change 4 1 Field 21
+    ∷ change 4 2 Field 21
+    ∷ change 27 13 FutureId 22
+    ∷ change 29 1 Check 37
+    ∷ change 29 2 Field 29
+    ∷ change 35 0 Field 30
+    ∷ change 35 13 FutureId 30
+    ∷ change 36 17 Field 36
     ∷ []
 
 abbrev pub reopen_changes : List Change
 reopen_changes =
-    change 4 1 (Faulty Field 21)
-    ∷ change 4 2 (Faulty Field 21)
-    ∷ change 27 15 (Faulty FutureId 22)
-    ∷ change 28 0 (Faulty Field 28)
+    change 4 1 Field 21
+    ∷ change 4 2 Field 21
+    ∷ change 27 15 FutureId 22
+    ∷ change 28 0 Field 28
     ∷ []
 
--- a log that is cut within its record, to each of so many bytes more than 12
+-- a log that is cut within its record, or within its check, to each of so many bytes more than 12
 unfoldable pub AllShort : List ℕ → ℕ → Type 0
 AllShort bytes zero = Unit {0}
-AllShort bytes (suc count) = IsRead (take (12 + count) bytes) (Faulty Short (12 + count)) × AllShort bytes count
+AllShort bytes (suc count) = IsFaulty (take (12 + count) bytes) Short (12 + count) × AllShort bytes count

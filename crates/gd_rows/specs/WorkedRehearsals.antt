@@ -365,7 +365,7 @@ delivered_late =
 abbrev pub empty_frame : Frame
 empty_frame =
     record {
-      head = record { session = 1; from = 1; to = 2; ack = 0; count = 0; clock = 0 };
+      head = record { session = 1; from = 1; to = 2; ack = 0; count = 0; clock = 0; check = 0 };
       note = no_note;
       events = [];
     }

@@ -1,6 +1,6 @@
 -- Worked rows of going on from a journal: what there is to go on from, and what the node does then.
-use Rattle.std.specs.Prelude.{ℕ, pos, List, [], ◌∷◌, ◌++◌, replicate, take, set, codes, Option, Some}
-use Rattle.gd_base.specs.declared.fault.LogWhy.TheVariants.{Short, NoSite, Turn}
+use Rattle.std.specs.Prelude.{ℕ, pos, List, [], ◌∷◌, ◌++◌, drop, replicate, take, set, codes, Option, Some}
+use Rattle.gd_base.specs.declared.fault.LogWhy.TheVariants.{Short, NoSite, Turn, Check, Behind}
 use Rattle.gd_effects.specs.Effects.{Effect, Head, Print, Record, Try, Work}
 use Rattle.gd_events.specs.Events.{Event}
 use Rattle.gd_asked.specs.declared.command.Command.{Command}
@@ -11,24 +11,28 @@ use Rattle.gd_rows.specs.WorkedNodes.{answer_row}
 
 -- ---- what there is to go on from
 
--- the log of the tie in version three: its records begin at the bytes 11 and 40, and its closing gate is byte 69, the
--- last
+-- the checks of the rect of site 2 and of the ellipse of site 1
+abbrev pub rect_check : List ℕ
+rect_check = 79 ∷ 96 ∷ 54 ∷ 83 ∷ []
+
+abbrev pub ellipse_check : List ℕ
+ellipse_check = 253 ∷ 241 ∷ 19 ∷ 77 ∷ []
+
+-- the log of the tie in version three: its gates are the bytes 11 and 44, its checks begin at 40 and 73, and its
+-- closing gate is byte 77, the last
 abbrev pub tie_journal : List ℕ
-tie_journal = set tie_log 4 3
+tie_journal = set (take 40 tie_log ++ rect_check ++ take 29 (drop 40 tie_log) ++ ellipse_check ++ 0 ∷ []) 4 7
 
 -- what a longer log may have left behind that
 abbrev pub remains : List ℕ
-remains = replicate 29 238 ++ 195 ∷ 1 ∷ 2 ∷ []
+remains = replicate 33 238 ++ 195 ∷ 1 ∷ 2 ∷ []
 
--- with another closing gate
 abbrev pub worn_journal : List ℕ
-worn_journal = set tie_journal 69 255 ++ remains
+worn_journal = tie_journal ++ remains
 
 abbrev pub whole_journals : List (List ℕ × Found)
 whole_journals =
     (tie_journal, Events tie_events)
-    ∷ (tie_journal ++ remains, Events tie_events)
-    ∷ (set tie_journal 69 255, Events tie_events)
     ∷ (worn_journal, Events tie_events)
     -- without events
     ∷ (header_three_bytes ++ 0 ∷ [], Events [])
@@ -41,11 +45,14 @@ cut_journals =
     ∷ (take 10 tie_journal, Faulty 10 Short)
     -- in a record, and in front of one
     ∷ (take 32 tie_journal, Faulty 32 Short)
-    ∷ (take 41 tie_journal, Faulty 41 Short)
+    ∷ (take 45 tie_journal, Faulty 45 Short)
+    -- in a check
+    ∷ (take 40 tie_journal, Faulty 40 Short)
+    ∷ (take 43 tie_journal, Faulty 43 Short)
     -- in the closing gate's place, which lies behind the header, or behind a record
     ∷ (take 11 tie_journal, Faulty 11 Short)
-    ∷ (take 40 tie_journal, Faulty 40 Short)
-    ∷ (take 69 tie_journal, Faulty 69 Short)
+    ∷ (take 44 tie_journal, Faulty 44 Short)
+    ∷ (take 77 tie_journal, Faulty 77 Short)
     ∷ []
 
 abbrev pub session_eight : List ℕ
@@ -66,7 +73,16 @@ faulty_journals =
     (set tie_journal 18 3, Faulty 18 NoSite)
     -- in another session, a number that isn't next, and no closing gate
     ∷ (set session_eight 20 2, Faulty 19 Turn)
-    ∷ (take 69 session_eight, Faulty 69 Short)
+    ∷ (take 77 session_eight, Faulty 77 Short)
+    -- another x, and another check, of the rect; and another height of the ellipse
+    ∷ (set tie_journal 26 4, Faulty 40 Check)
+    ∷ (set tie_journal 43 82, Faulty 40 Check)
+    ∷ (set tie_journal 71 21, Faulty 73 Check)
+    -- gates that are neither open nor closed: both open ones with another bit, and the closing one
+    ∷ (set tie_journal 11 194, Faulty 11 Behind)
+    ∷ (set tie_journal 44 67, Faulty 44 Behind)
+    ∷ (set tie_journal 77 1, Faulty 77 Behind)
+    ∷ (set worn_journal 77 255, Faulty 77 Behind)
     ∷ []
 
 -- ---- node 1 of 2
@@ -120,23 +136,27 @@ ellipse_row =
     0 ∷ 0 ∷ 0 ∷ 0 ∷ 0 ∷ 1 ∷ 1 ∷ 0 ∷ 1 ∷ 1 ∷ 2
     ∷ 0 ∷ 0 ∷ 0 ∷ 0 ∷ 0 ∷ 0 ∷ 0 ∷ 0 ∷ 0 ∷ 0 ∷ 0 ∷ 20 ∷ 0 ∷ 0 ∷ 0 ∷ 20 ∷ 0 ∷ []
 
+-- the check of both
+abbrev pub edit_check : List ℕ
+edit_check = 26 ∷ 253 ∷ 104 ∷ 112 ∷ []
+
 -- the frame for site 2: one event of it is held, and of the two own ones it has acknowledged none
 abbrev pub edit_frame : List ℕ
 edit_frame =
-    71 ∷ 68 ∷ 79 ∷ 70 ∷ 3 ∷ 0 ∷ 0 ∷ 0 ∷ 7 ∷ 1 ∷ 2 ∷ 0 ∷ 1 ∷ 0 ∷ 2 ∷ 0 ∷ 0 ∷ 0 ∷ 0 ∷ 0 ∷ 2
-    ∷ 0 ∷ 0 ∷ 0 ∷ 0 ∷ 0 ∷ 0 ∷ 0 ∷ 0 ∷ 0 ∷ 0 ∷ 2 ∷ ellipse_row ++ edit_row ++ 108 ∷ 228 ∷ 99 ∷ 55 ∷ []
+    71 ∷ 68 ∷ 79 ∷ 70 ∷ 3 ∷ 0 ∷ 0 ∷ 0 ∷ 7 ∷ 1 ∷ 2 ∷ 0 ∷ 1 ∷ 0 ∷ 2 ∷ 0 ∷ 0 ∷ 0 ∷ 0 ∷ 0 ∷ 2 ∷ edit_check
+    ++ 0 ∷ 0 ∷ 0 ∷ 0 ∷ 0 ∷ 0 ∷ 0 ∷ 0 ∷ 0 ∷ 0 ∷ 2 ∷ ellipse_row ++ edit_row ++ 149 ∷ 138 ∷ 37 ∷ 182 ∷ []
 
 abbrev pub edit_effects : List Effect
 edit_effects =
     works_of (1 ∷ 1 ∷ [])
     ++ Print (codes "ready 1 of 2\n")
-    ∷ Work 1 ∷ Record 69 (edit_event ∷ []) ∷ Print (codes "ok 2.1\n")
+    ∷ Work 1 ∷ Record 77 tie_events (edit_event ∷ []) ∷ Print (codes "ok 2.1\n")
     ∷ Try 2 edit_frame
     ∷ []
 
--- The gate, the record and a closed gate are 30 bytes. They stand over the old gate and 29 bytes behind it.
+-- The gate, the record, its check and a closed gate are 34 bytes. They stand over the old gate and 33 bytes behind it.
 abbrev pub edited_journal : List ℕ
-edited_journal = take 69 tie_journal ++ 195 ∷ edit_row ++ 0 ∷ 195 ∷ 1 ∷ 2 ∷ []
+edited_journal = take 77 tie_journal ++ 195 ∷ edit_row ++ edit_check ++ 0 ∷ 195 ∷ 1 ∷ 2 ∷ []
 
 abbrev pub edited_events : List Event
 edited_events = tie_events ++ edit_event ∷ []
@@ -153,7 +173,7 @@ abbrev pub noting_journal : List ℕ
 noting_journal =
     header_three_bytes
     ++ 195 ∷ 0 ∷ 0 ∷ 0 ∷ 0 ∷ 0 ∷ 1 ∷ 1 ∷ 0 ∷ 1 ∷ 1 ∷ 1
-    ∷ 0 ∷ 0 ∷ 0 ∷ 0 ∷ 0 ∷ 0 ∷ 0 ∷ 0 ∷ 0 ∷ 0 ∷ 0 ∷ 10 ∷ 0 ∷ 0 ∷ 0 ∷ 10 ∷ 0 ∷ 0 ∷ []
+    ∷ 0 ∷ 0 ∷ 0 ∷ 0 ∷ 0 ∷ 0 ∷ 0 ∷ 0 ∷ 0 ∷ 0 ∷ 0 ∷ 10 ∷ 0 ∷ 0 ∷ 0 ∷ 10 ∷ 0 ∷ 30 ∷ 43 ∷ 197 ∷ 94 ∷ 0 ∷ []
 
 -- two notes of a node that goes on
 abbrev pub notes_input : List ℕ

@@ -1,5 +1,5 @@
 -- Worked rows of sites and worlds: lists of steps, the frames of a site that runs ahead, and what becomes of them.
-use Rattle.std.specs.Prelude.{ℕ, ◌-◌, ℤ, pos, List, [], ◌∷◌, ◌++◌, codes, Option, Some, None}
+use Rattle.std.specs.Prelude.{ℕ, ◌-◌, ℤ, pos, List, [], ◌∷◌, ◌++◌, take, codes, Option, Some, None}
 use Rattle.gd_base.specs.declared.content.Content.TheVariants.{ToPlace, ToRank}
 use Rattle.gd_base.specs.declared.content.Height.TheVariants.{To}
 use Rattle.gd_base.specs.declared.content.Side.TheVariants.{Bottom, Top}
@@ -21,7 +21,7 @@ use Rattle.gd_reference.specs.World.{World, Step, Edits, Names, Focuses, At, Sen
 use Rattle.gd_rows.specs.Worked.{at_stamp, event, member}
 
 abbrev pub site_status : ℕ → ℕ → ℕ → ℕ → SiteStatus
-site_status held kept line clock = record { held = held; kept = kept; line = line; clock = clock }
+site_status held kept line clock = record { held = held; kept = kept; line = line; clock = clock; parted = 0 }
 
 -- a rect of size 10 10
 abbrev pub new_rect : ℤ → Edit
@@ -74,14 +74,16 @@ cover_held =
 abbrev pub cover_frame : Frame
 cover_frame =
     record {
-      head = record { session = 7; from = 2; to = 1; ack = 1; count = 1; clock = 2 };
+      head = record { session = 7; from = 2; to = 1; ack = 1; count = 1; clock = 2; check = 0x402983DB };
       note = no_note;
       events = covered_move ∷ [];
     }
 
--- its record lies behind the header, a create of 29 bytes with its gate, and two moves of 26
+-- its record lies behind the header, a create of 33 bytes with its gate and its check, and two moves of 30
 abbrev pub cover_effects : List Effect
-cover_effects = Work 0 ∷ Record 92 (covered_move ∷ []) ∷ Print (codes "echo 2.2 dropped by 3.1 move 1.1 90 90\n") ∷ []
+cover_effects =
+    Work 0 ∷ Record 104 (take 3 cover_held) (covered_move ∷ [])
+    ∷ Print (codes "echo 2.2 dropped by 3.1 move 1.1 90 90\n") ∷ []
 
 abbrev pub cover_text : List (List ℕ)
 cover_text = codes "rect 1.1 in - at 60 60 size 10 10 stroke 000000 fill none width 1\n" ∷ codes "end 1\n" ∷ []
@@ -126,7 +128,7 @@ lower_world = after 2 7 (lower_steps ++ Deliver 2 ∷ [])
 abbrev pub raise_frame : Frame
 raise_frame =
     record {
-      head = record { session = 7; from = 1; to = 2; ack = 0; count = 3; clock = 3 };
+      head = record { session = 7; from = 1; to = 2; ack = 0; count = 3; clock = 3; check = 0xC0246ECA };
       note = no_note;
       events = first_rect ∷ new_ellipse ∷ covered_raise ∷ [];
     }
@@ -134,7 +136,7 @@ raise_frame =
 abbrev pub covering_frame : Frame
 covering_frame =
     record {
-      head = record { session = 7; from = 2; to = 1; ack = 3; count = 1; clock = 3 };
+      head = record { session = 7; from = 2; to = 1; ack = 3; count = 1; clock = 3; check = 0x67C47562 };
       note = no_note;
       events = covering_lower ∷ [];
     }
@@ -198,18 +200,19 @@ closure_held =
 abbrev pub closure_frame : Frame
 closure_frame =
     record {
-      head = record { session = 7; from = 2; to = 1; ack = 2; count = 2; clock = 3 };
+      head = record { session = 7; from = 2; to = 1; ack = 2; count = 2; clock = 3; check = 0xB342D5C4 };
       note = no_note;
       events = other_create ∷ late_group ∷ [];
     }
 
 -- The create bears on nothing behind it. The group takes a member that the group 4.1 took, so that one and its move are
--- redone. Both are recorded behind one gate: with their gates the records in front have 29, 29, 18, 42 and 26 bytes.
+-- redone. Both are recorded behind one gate: with their gates and checks the records in front have 33, 33, 22, 46 and 30
+-- bytes.
 abbrev pub closure_effects : List Effect
 closure_effects =
     Work 1
     ∷ Work 5
-    ∷ Record 155 (other_create ∷ late_group ∷ [])
+    ∷ Record 175 (take 5 closure_held) (other_create ∷ late_group ∷ [])
     ∷ Print (codes "echo 1.2 applied create rect 40 0 10 10\n")
     ∷ Print (codes "echo 3.2 reworked 2 group 1.2 0 0 2.1 0 0\n")
     ∷ []
@@ -237,23 +240,38 @@ ahead_create = event 1 2 1 (op.Create Rect (pos 0) (pos 0) (pos 10) (pos 10) [])
 abbrev pub ahead_move : ℕ → Event
 ahead_move k = event k 2 k (op.Set (at_stamp 1 2) (ToPlace (pos (k - 1)) (pos (k - 1))))
 
-abbrev pub frame_of : ℕ → ℕ → List Event → Frame
-frame_of count clock events =
-    record { head = record { session = 7; from = 2; to = 1; ack = 0; count = count; clock = clock }; note = no_note; events = events }
+-- the checks of the first event, of the first two, and of the first four
+abbrev pub check_one : ℕ
+check_one = 0xBAFB18C2
+
+abbrev pub check_two : ℕ
+check_two = 0xC15B9524
+
+abbrev pub check_four : ℕ
+check_four = 0x858E99CD
+
+-- a frame of that count, that clock, that check of so many events, and these events
+abbrev pub frame_of : ℕ → ℕ → ℕ → List Event → Frame
+frame_of count clock check events =
+    record {
+      head = record { session = 7; from = 2; to = 1; ack = 0; count = count; clock = clock; check = check };
+      note = no_note;
+      events = events;
+    }
 
 -- a frame of no event, with that note
 abbrev pub noting_frame : Note → Frame
-noting_frame note = record (frame_of 0 0 []) { note = note }
+noting_frame note = record (frame_of 0 0 0 []) { note = note }
 
 -- the first event, then the third and the fourth, then the second to the fourth
 abbrev pub ahead_first : Frame
-ahead_first = frame_of 1 1 (ahead_create ∷ [])
+ahead_first = frame_of 1 1 check_one (ahead_create ∷ [])
 
 abbrev pub ahead_gap : Frame
-ahead_gap = frame_of 4 4 (ahead_move 3 ∷ ahead_move 4 ∷ [])
+ahead_gap = frame_of 4 4 check_four (ahead_move 3 ∷ ahead_move 4 ∷ [])
 
 abbrev pub ahead_rest : Frame
-ahead_rest = frame_of 4 4 (ahead_move 2 ∷ ahead_move 3 ∷ ahead_move 4 ∷ [])
+ahead_rest = frame_of 4 4 check_four (ahead_move 2 ∷ ahead_move 3 ∷ ahead_move 4 ∷ [])
 
 -- the listener behind the first of these, behind the second too, and behind all three
 abbrev pub ahead_one : SlowSite
@@ -267,7 +285,7 @@ ahead_all = take_frame ahead_none ahead_rest
 
 -- two events under a clock of 9, and then an event of that clock
 abbrev pub sure_frame : Frame
-sure_frame = frame_of 2 9 (ahead_create ∷ ahead_move 2 ∷ [])
+sure_frame = frame_of 2 9 check_two (ahead_create ∷ ahead_move 2 ∷ [])
 
 abbrev pub sure_site : SlowSite
 sure_site = take_frame listener sure_frame
@@ -276,14 +294,14 @@ abbrev pub sure_raise : Event
 sure_raise = event 9 2 3 (op.Set (at_stamp 1 2) (ToRank (To Top)))
 
 abbrev pub sure_late_frame : Frame
-sure_late_frame = frame_of 3 9 (sure_raise ∷ [])
+sure_late_frame = frame_of 3 9 0x701A5585 (sure_raise ∷ [])
 
 -- two events, and then a frame of fewer with a clock of 9
 abbrev pub two_held : SlowSite
-two_held = take_frame listener (frame_of 2 2 (ahead_create ∷ ahead_move 2 ∷ []))
+two_held = take_frame listener (frame_of 2 2 check_two (ahead_create ∷ ahead_move 2 ∷ []))
 
 abbrev pub lower_frame : Frame
-lower_frame = frame_of 1 9 []
+lower_frame = frame_of 1 9 check_one []
 
 -- heads that aren't those of a frame for the listener
 abbrev pub ahead_head : Head

@@ -2,6 +2,7 @@
 #![tactic(auto)]
 
 pub mod back_rows;
+pub mod check_rows;
 pub mod churn_rows;
 pub mod edit_rows;
 pub mod exit_rows;

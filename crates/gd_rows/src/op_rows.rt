@@ -1,17 +1,18 @@
 //! The operations of version three, computed on worked rows.
 #![tactic(auto, unfolding(crate::proofs::Computing::computing, crate::specs::WorkedOps::AllShort))]
 
-ghost use Rattle.std.specs.Prelude.{◌≡◌, Ok, Err, map};
+ghost use Rattle.std.specs.Prelude.{◌≡◌, Ok, Err, IsOk, map};
 ghost use Rattle.std.specs.List.{AllByRecursion};
 ghost use Rattle.gd_base.specs.declared.fault.LogWhy.TheVariants.{FutureId};
 ghost use Rattle.gd_grammar.specs.Drawings.{log, logged};
 ghost use Rattle.gd_json.specs.EventsJson.{event_json};
 ghost use Rattle.gd_rows.specs.Worked.{fault_at, header_three};
-ghost use Rattle.gd_rows.specs.WorkedOps.{AllShort, ChangesRead, disband_bytes, disband_changes, low_bytes, one_log, own_group_log, reopen_bytes, reopen_changes, rerank_changes, restore_changes, restored_log, tag_rows, turned_events, turned_json, turned_log};
+ghost use Rattle.gd_rows.specs.WorkedOps.{AllShort, ChangesRead, disband_changes, disbanded_log, own_group_log, reopen_changes, reopened_log, rerank_changes, reranked_log, restore_changes, restored_log, tag_rows, turned_events, turned_json, turned_log, whole_logs};
 
 /// Each has its bytes, and is read from them. Each is written as one of a line of JSON.
 pub fn operations_are_read_and_written()
     ensures read { log turned_log ≡ Ok (header_three, turned_events) }
+    ensures alone { AllByRecursion (λ bytes. IsOk (log bytes)) whole_logs }
     ensures written { logged header_three turned_events ≡ turned_log }
     ensures json { map event_json turned_events ≡ turned_json }
 {}
@@ -24,17 +25,17 @@ pub fn tags_have_their_versions()
 /// Each field of a restore has its range, and its fault.
 pub fn a_changed_restore()
     ensures changed { ChangesRead restored_log restore_changes }
-    ensures own_group { log own_group_log ≡ Err (fault_at FutureId 57) }
+    ensures own_group { log own_group_log ≡ Err (fault_at FutureId 61) }
 {}
 
-/// A restore that is cut anywhere is Short at its end.
+/// A restore that is cut anywhere, or its check, is Short at its end.
 pub fn a_cut_restore_is_short()
-    ensures { AllShort restored_log 104 }
+    ensures { AllShort restored_log 108 }
 {}
 
 /// So it is with the fields of the others.
 pub fn changed_operations()
-    ensures disband { ChangesRead (one_log disband_bytes) disband_changes }
-    ensures rerank { ChangesRead (one_log low_bytes) rerank_changes }
-    ensures reopen { ChangesRead (one_log reopen_bytes) reopen_changes }
+    ensures disband { ChangesRead disbanded_log disband_changes }
+    ensures rerank { ChangesRead reranked_log rerank_changes }
+    ensures reopen { ChangesRead reopened_log reopen_changes }
 {}

@@ -14,7 +14,7 @@ ghost use Rattle.gd_rows.specs.WorkedNodes.{asked, repeat_entries, repeat_journa
 ghost use Rattle.gd_rows.specs.WorkedRejoins.{again_effects, begins, closure_rejoined, cut_journals, edit_effects, edit_input, edited_events, edited_journal, faulty_journals, held_effects, new_effects, noting_input, noting_journal, noting_printed, notes_input, notes_printed, other_journals, rejoins, undos_input, undos_printed, whole_journals, worn_journal};
 ghost use Rattle.gd_rows.specs.WorkedWorlds.{closure_held};
 
-/// A log's events are found where its closing gate is there, whatever byte that is and whatever stands behind it.
+/// A log's events are found where its closing gate is there, whatever stands behind it.
 pub fn a_whole_journal_is_found()
     ensures { AllByRecursion (λ r. found header_three r.0 ≡ r.1) whole_journals }
 {}
@@ -29,7 +29,8 @@ pub fn another_journal_is_found()
     ensures { AllByRecursion (λ r. found header_three r.0 ≡ r.1) other_journals }
 {}
 
-/// A fault of the log counts before its header.
+/// A fault of the log counts before its header. Among these are a check of other events, and a gate that is neither open
+/// nor closed.
 pub fn a_fault_is_found_first()
     ensures { AllByRecursion (λ r. found header_three r.0 ≡ r.1) faulty_journals }
 {}
@@ -57,9 +58,9 @@ pub fn another_journal_is_refused()
 
 /// A journal that lacks its closing gate is refused with that place.
 pub fn a_cut_journal_is_refused()
-    ensures effects { effects_of (rejoins 7) (take 40 repeat_journal) (codes "status\n") []
-        ≡ prints_of (codes "bad log at 40: Short\n" ∷ []) }
-    ensures end { end_of (rejoins 7) (take 40 repeat_journal) (codes "status\n") ≡ BadLog }
+    ensures effects { effects_of (rejoins 7) (take 44 repeat_journal) (codes "status\n") []
+        ≡ prints_of (codes "bad log at 44: Short\n" ∷ []) }
+    ensures end { end_of (rejoins 7) (take 44 repeat_journal) (codes "status\n") ≡ BadLog }
 {}
 
 /// What was found isn't taken again.

@@ -16,7 +16,8 @@ use Rattle.gd_reference.specs.InputLines.{whole_lines}
 use Rattle.gd_reference.specs.NodeRun.{end_after, node_effects, node_lines}
 use Rattle.gd_reference.specs.Rejoin.{Found, found, node_header, rejoined, rejoined_end}
 use Rattle.gd_reference.specs.Said.{says}
-use Rattle.gd_reference.specs.SlowRun.{ended_by, replayed, upgraded_log}
+use Rattle.gd_reference.specs.SlowRun.{ended_by, upgraded_log}
+use Rattle.gd_reference.specs.UptoFault.{replayed_by}
 use Rattle.gd_viewing.specs.Snapshotting.{snapshotted}
 use Rattle.gd_viewing.specs.Viewing.{view_cut, view_effects, view_end}
 use Rattle.gd_worlds.specs.Churn.{churn_effects}
@@ -29,7 +30,7 @@ found_by session site addresses contents = found (node_header site (length addre
 -- what is done for a command; where words ask for none, it is said how the program is called
 abbrev pub effects_of : Option Command → List ℕ → List ℕ → List Entry → List Effect
 effects_of None contents input entries = says reply.Usage ∷ []
-effects_of (Some (Replay format counts)) contents input entries = replayed format counts input
+effects_of (Some (Replay format counts upto)) contents input entries = replayed_by upto format counts input
 effects_of (Some Upgrade) contents input entries = upgraded_log input
 effects_of (Some Snapshot) contents input entries = snapshotted input
 effects_of (Some View) contents input entries = view_effects input
@@ -45,7 +46,7 @@ effects_of (Some (Churn seed steps)) contents input entries = churn_effects seed
 -- and how that ends
 abbrev pub end_of : Option Command → List ℕ → List ℕ → Status
 end_of None contents input = status.Usage
-end_of (Some (Replay format counts)) contents input = ended_by input
+end_of (Some (Replay format counts upto)) contents input = ended_by input
 end_of (Some Upgrade) contents input = ended_by input
 end_of (Some Snapshot) contents input = ended_by input
 end_of (Some View) contents input = view_end input

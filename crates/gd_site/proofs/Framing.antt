@@ -1,12 +1,13 @@
 -- The frame that a site writes is the reference site's.
-use Rattle.std.proofs.Common.{◌≡◌, ℕ, ◌+◌, List, length, sym, ap, ap₂, ◌∙◌, subst}
+use Rattle.std.proofs.Common.{◌≡◌, ℕ, ◌+◌, ◌-◌, List, length, sym, ap, ap₂, ◌∙◌, subst, arith}
+use Rattle.std.specs.Prelude.{slice_index}
 use Rattle.gd_aware.specs.Notes.{note_of}
 use Rattle.gd_base.specs.declared.note.Note.{Note}
 use Rattle.gd_events.specs.Events.{Event}
 use Rattle.gd_grammar.specs.FrameBytes.{Frame, IsFrame, frame_bytes}
 use Rattle.gd_reference.specs.Fitting.{in_a_frame}
 use Rattle.gd_reference.specs.Offers.{brought, frame_for, unacked}
-use Rattle.gd_reference.specs.SlowSite.{SlowSite, own, least_acked}
+use Rattle.gd_reference.specs.SlowSite.{SlowSite, held_check, own, least_acked}
 use Rattle.gd_protocol.proofs.Least.{least_of_others-top, least_of_others-at}
 use Rattle.gd_base.proofs.SiteLemmas.{is_site-bounds}
 use Rattle.gd_protocol.proofs.SiteFrames.{well_frame}
@@ -14,21 +15,32 @@ use Rattle.gd_stable.specs.Peers.{IsOther, of_site}
 use Rattle.gd_stable.specs.Outboxes.{first_above}
 use Rattle.gd_wire.specs.Frames.{FrameEventsValue, spelled_events}
 use Rattle.gd_site.specs.Sites.{SiteValue, IsOtherOf, StandsFor}
+use Rattle.gd_site.proofs.Chained.{held_check_is}
 use Rattle.gd_site.proofs.Noting.{own_note_is}
 use Rattle.gd_site.proofs.Numbered.{numbered-drop}
 use Rattle.gd_site.proofs.Stands.{other_of}
 
-abbrev framed : SiteValue → ℕ → ℕ → ℕ → Note → List Event → Frame
-framed s to me ack note events =
+abbrev framed : SiteValue → ℕ → ℕ → ℕ → ℕ → Note → List Event → Frame
+framed s to me ack check note events =
     record {
-      head = record { session = s.session; from = me; to = to; ack = ack; count = s.made; clock = s.clock };
+      head =
+          record {
+            session = s.session;
+            from = me;
+            to = to;
+            ack = ack;
+            count = s.made;
+            clock = s.clock;
+            check = check;
+          };
       note = note;
       events = events;
     }
 
 abbrev pub frame_of : SiteValue → ℕ → Frame
 frame_of s to =
-    framed s to s.peers.me (of_site s.peers.counts to) (note_of s.notes s.peers.me)
+    framed s to s.peers.me (of_site s.peers.counts to) (slice_index s.chains (s.peers.me - 1))
+    (note_of s.notes s.peers.me)
     (first_above (of_site s.peers.acks to) s.outbox.events)
 
 module _ (slow : SlowSite) (s : SiteValue) (stands : StandsFor slow s) (to : ℕ) (other : IsOther s.peers to) where
@@ -46,6 +58,13 @@ module _ (slow : SlowSite) (s : SiteValue) (stands : StandsFor slow s) (to : ℕ
       ∙ ap (λ (l : List Event). in_a_frame l)
       (numbered-drop slow.me (own slow) (least_acked slow) (slow.acked to) (stands.well.chains slow.me) least few)
 
+  own_check : slice_index s.chains (s.peers.me - 1) ≡ held_check slow slow.me
+  own_check =
+      let bounds = is_site-bounds slow.sites slow.me stands.well.member in
+      ap (λ (m : ℕ). slice_index s.chains (m - 1)) stands.me
+      ∙ stands.chains.are slow.me bounds.0 (omega (arith, bounds.1, stands.well.met.1))
+      ∙ held_check_is slow slow.me
+
   pub frame_is : frame_of s to ≡ frame_for slow to
   unfolding frame_for
   frame_is = λ i.
@@ -58,6 +77,7 @@ module _ (slow : SlowSite) (s : SiteValue) (stands : StandsFor slow s) (to : ℕ
               ack = stands.counts to there i;
               count = stands.made i;
               clock = stands.clock_is i;
+              check = own_check i;
             };
         note = own_note_is slow s stands i;
         events = events_are i;
@@ -67,29 +87,33 @@ module _ (slow : SlowSite) (s : SiteValue) (stands : StandsFor slow s) (to : ℕ
   frame_good = subst IsFrame (sym frame_is) (well_frame slow to there.0 stands.well)
 
 -- what the calls of `write_frame` give
-pub record Framed (s : SiteValue) (to me ack : ℕ) (note : Note) (acked : ℕ) (events : FrameEventsValue) : Type 0 where
+pub record Framed (s : SiteValue) (to me ack check : ℕ) (note : Note) (acked : ℕ)
+    (events : FrameEventsValue) : Type 0 where
   pub me_is : me ≡ s.peers.me
   pub ack_is : ack ≡ of_site s.peers.counts to
+  pub check_is : check ≡ slice_index s.chains (me - 1)
   pub note_is : note ≡ note_of s.notes me
   pub acked_is : acked ≡ of_site s.peers.acks to
   pub events_are : events ≡ spelled_events (first_above acked s.outbox.events)
 
-module _ (s : SiteValue) (to me ack : ℕ) (note : Note) (acked : ℕ) (events : FrameEventsValue)
-    (f : Framed s to me ack note acked events)
+module _ (s : SiteValue) (to me ack check : ℕ) (note : Note) (acked : ℕ) (events : FrameEventsValue)
+    (f : Framed s to me ack check note acked events)
     (slow : SlowSite) (stands : StandsFor slow s) (other : IsOther s.peers to) where
   abbrev wanted : List Event
   wanted = first_above acked s.outbox.events
 
-  framed_is : framed s to me ack note wanted ≡ frame_for slow to
+  framed_is : framed s to me ack check note wanted ≡ frame_for slow to
   framed_is =
       let note_there = f.note_is ∙ ap (note_of s.notes) f.me_is in
-      let same : framed s to me ack note wanted ≡ frame_of s to =
-      λ i. framed s to (f.me_is i) (f.ack_is i) (note_there i) (first_above (f.acked_is i) s.outbox.events) in
+      let check_there = f.check_is ∙ ap (λ (m : ℕ). slice_index s.chains (m - 1)) f.me_is in
+      let same : framed s to me ack check note wanted ≡ frame_of s to =
+      λ i. framed s to (f.me_is i) (f.ack_is i) (check_there i) (note_there i)
+      (first_above (f.acked_is i) s.outbox.events) in
       same ∙ frame_is slow s stands to other
 
   -- so these are its bytes
   pub framed_bytes : (bytes : List ℕ)
-      → ((es : List Event) → events ≡ spelled_events es → bytes ≡ frame_bytes (framed s to me ack note es))
+      → ((es : List Event) → events ≡ spelled_events es → bytes ≡ frame_bytes (framed s to me ack check note es))
       → bytes ≡ frame_bytes (frame_for slow to)
   framed_bytes bytes are = are wanted f.events_are ∙ ap frame_bytes framed_is
 

@@ -8,7 +8,7 @@ use std::test::Fail;
 
 /// Site 2 of session 7 has made a rect at 0 0, of size 10 10, and holds nothing of site 1, which this is for.
 const FRAME: &[u8] =
-    b"GDOF\x03\x00\x00\x00\x07\x02\x01\x00\x00\x00\x01\x00\x00\x00\x00\x00\x01\x00\x00\x00\x00\x00\x00\x00\x00\x00\x00\x01\x00\x00\x00\x00\x00\x01\x02\x00\x01\x01\x01\x00\x00\x00\x00\x00\x00\x00\x00\x00\x00\x00\x0A\x00\x00\x00\x0A\x00\xF9\xE5\xD4\xD2";
+    b"GDOF\x03\x00\x00\x00\x07\x02\x01\x00\x00\x00\x01\x00\x00\x00\x00\x00\x01\xC2\x18\xFB\xBA\x00\x00\x00\x00\x00\x00\x00\x00\x00\x00\x01\x00\x00\x00\x00\x00\x01\x02\x00\x01\x01\x01\x00\x00\x00\x00\x00\x00\x00\x00\x00\x00\x00\x0A\x00\x00\x00\x0A\x00\x49\xB3\x4D\x30";
 
 const HEAD: Head = Head {
     session: 7,
@@ -17,6 +17,7 @@ const HEAD: Head = Head {
     ack: 0,
     count: 1,
     clock: 1,
+    check: 0xBAFB18C2,
 };
 
 /// The event of the frame.
@@ -73,21 +74,21 @@ fn a_frame_is_written(rt: HostRuntime) -> Result<(), Fail> {
     // 40 of 28 bytes fit into 1,144.
     let (out, put) = written(&rect, 40);
     assert!(rt; put);
-    assert_eq!(rt; out.as_slice().len(), 32 + 40 * 28 + 4);
+    assert_eq!(rt; out.as_slice().len(), 36 + 40 * 28 + 4);
     let (out, put) = written(&rect, 41);
     assert!(rt; !put);
-    assert_eq!(rt; out.as_slice().len(), 32 + 40 * 28 + 4);
+    assert_eq!(rt; out.as_slice().len(), 36 + 40 * 28 + 4);
     Ok(())
 }
 
 #[test]
 fn another_checksum_and_fewer_bytes_are_refused(rt: HostRuntime) -> Result<(), Fail> {
     let mut bytes = FRAME.to_vec(rt.alloc())?;
-    if let Some(byte) = bytes.get_mut(59) {
+    if let Some(byte) = bytes.get_mut(63) {
         *byte = 1;
     }
     let check = WireFault {
-        at: 60,
+        at: 64,
         why: WireWhy::Check,
     };
     match read_frame(rt.alloc(), bytes.as_slice()) {

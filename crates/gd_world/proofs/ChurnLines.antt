@@ -8,7 +8,9 @@ use Rattle.gd_base.specs.Sites.{is_site}
 use Rattle.gd_base.specs.declared.offer.Offer.{Offer}
 use Rattle.gd_base.specs.declared.offer.Offer.TheVariants.{Next, Repeat, Gap, Backdated}
 use Rattle.gd_base.specs.declared.refusal.EditRefusal.TheVariants.{ClockEnd, SessionFull}
-use Rattle.gd_base.specs.declared.refusal.FrameFault.{FrameFault}
+use Rattle.gd_base.specs.declared.verdict.Verdict.{Verdict}
+use Rattle.gd_base.specs.declared.verdict.Verdict.TheVariants.{Parted, Passed, Taken}
+use Rattle.gd_base.specs.declared.verdict.Verdict.TheVariants as verdicts
 use Rattle.gd_events.specs.Events.{Event}
 use Rattle.gd_events.specs.Ops.{Op}
 use Rattle.gd_grammar.specs.FrameBytes.{Frame, IsFrame, most_frame_events}
@@ -21,9 +23,9 @@ use Rattle.gd_lines.specs.declared.reply.Reply.TheVariants as reply
 use Rattle.gd_protocol.proofs.Backs.{single-due}
 use Rattle.gd_protocol.proofs.Ranged.{ranged_after}
 use Rattle.gd_protocol.specs.Kept.{AreSingle}
-use Rattle.gd_reference.specs.Offers.{arrived, frame_for, offer, refusal}
+use Rattle.gd_reference.specs.Offers.{arrived, frame_for, offer, verdict}
 use Rattle.gd_reference.specs.Backs.{due}
-use Rattle.gd_reference.specs.SiteEffects.{done_replies, events_replies, frame_replies, offer_replies, turn_replies, unless_refused_replies}
+use Rattle.gd_reference.specs.SiteEffects.{done_replies, events_replies, frame_replies, offer_replies, turn_replies, verdict_replies}
 use Rattle.gd_reference.specs.SlowSite.{SlowSite}
 use Rattle.gd_reference.specs.TakeBack.{Refused, done, turn, turn_by}
 use Rattle.gd_reference.specs.World.{World, delivered, happens, with_site}
@@ -48,14 +50,20 @@ events_few slow [] = omega arith
 events_few slow (e ∷ es) =
     omega (arith, offer_few slow.held e (offer slow e), events_few (arrived slow e) es, length-append (offer_replies slow.held e (offer slow e)) (events_replies (arrived slow e) es))
 
-frame_few : (slow : SlowSite) (f : Frame) (why : Option FrameFault) → IsFrame f → length (unless_refused_replies slow f why) ≤ 67
-frame_few slow f None h = omega (arith, events_few slow f.events, leb-true (length f.events) most_frame_events h.few)
-frame_few slow f (Some why) h = omega arith
+frame_few : (slow : SlowSite) (f : Frame) (v : Verdict) → IsFrame f → length (verdict_replies slow f v) ≤ 67
+frame_few slow f Taken h = omega (arith, events_few slow f.events, leb-true (length f.events) most_frame_events h.few)
+frame_few slow f (verdicts.Refused fault) h = omega arith
+frame_few slow f (Parted count) h = omega arith
+frame_few slow f Passed h = omega arith
 
 delivery_few : (w : World) (number : ℕ) (mail : Option Frame) → ((f : Frame) → mail ≡ Some f → IsFrame f) → length (delivery_replies w number mail) ≤ 68
 delivery_few w number None frame = omega arith
 delivery_few w number (Some f) frame =
-    omega (arith, frame_few (w.at f.head.to) f (refusal (w.at f.head.to) f) (frame f refl), length-append (frame_replies (w.at f.head.to) f) (reply.Delivered number ∷ []))
+    omega (
+      arith,
+      frame_few (w.at f.head.to) f (verdict (w.at f.head.to) f) (frame f refl),
+      length-append (frame_replies (w.at f.head.to) f) (reply.Delivered number ∷ []),
+    )
 
 frames_in : (w : World) (v : WorldValue) → StandsFor w v → Every IsFrame w.mail
 frames_in w v h =

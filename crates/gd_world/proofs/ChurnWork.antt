@@ -32,7 +32,7 @@ only_works [] = ([], refl)
 only_works (Work n ∷ xs) = let r = only_works xs in (n ∷ r.0, ap (λ ys. Work n ∷ ys) r.1)
 only_works (Head bytes ∷ xs) = only_works xs
 only_works (Print bytes ∷ xs) = only_works xs
-only_works (Record place e ∷ xs) = only_works xs
+only_works (Record place seen es ∷ xs) = only_works xs
 only_works (Try to frame ∷ xs) = only_works xs
 
 pub grows_line : (c : Churning) (line : ScriptLine) → Grows c (with_line c line)

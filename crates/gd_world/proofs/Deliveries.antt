@@ -18,11 +18,11 @@ use Rattle.gd_grammar.specs.declared.frame.Head.{Head}
 use Rattle.gd_lines.specs.declared.command.ScriptLine.TheVariants as script
 use Rattle.gd_lines.specs.declared.reply.Reply.{Reply}
 use Rattle.gd_model.specs.Arrivals.{outcome_of}
-use Rattle.gd_protocol.proofs.Interleavings.{all_in_turn, none_refused}
+use Rattle.gd_protocol.proofs.Interleavings.{all_in_turn, all_taken}
 use Rattle.gd_protocol.specs.Kept.{IsMail}
 use Rattle.gd_protocol.specs.Laws.{IsInTurn}
 use Rattle.gd_reference.specs.Offers.{arrived, offer, offers, take_frame}
-use Rattle.gd_reference.specs.SiteEffects.{echo, events_replies, frame_replies, offer_replies, unless_refused_replies}
+use Rattle.gd_reference.specs.SiteEffects.{echo, events_replies, frame_replies, offer_replies, verdict_replies}
 use Rattle.gd_reference.specs.SlowSite.{SlowSite}
 use Rattle.gd_reference.specs.World.{Deliver, World, delivered, happens, with_site}
 use Rattle.gd_repair.specs.Repair.{Stamped, Outcome, applied, dropped, reworked}
@@ -95,7 +95,7 @@ module _ (w : World) (v : WorldValue) (st : StandsFor w v) (number : ℕ) (f : F
   echoes : (rs : List Reply) → rs ≡ frame_replies (w.at f.head.to) f → AllByRecursion IsEcho rs
   echoes rs said =
       let at = found w f number is_mail in
-      let taken = ap (unless_refused_replies (w.at f.head.to) f) (none_refused w (kept w v st) at.0 f at.2) in
+      let taken = ap (verdict_replies (w.at f.head.to) f) (all_taken w (kept w v st) at.0 f at.2) in
       subst (AllByRecursion IsEcho) (sym (said ∙ taken)) (echo_events (w.at f.head.to) f.events (all_in_turn w (kept w v st) at.0 f at.2))
 
 -- a mail of that number, the place of its receiver, and the member there

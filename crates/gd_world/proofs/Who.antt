@@ -1,17 +1,30 @@
--- The notes of the sites, one after another.
+-- The notes of the sites and what this one has parted from, one after another.
 use Rattle.std.proofs.Common.{◌≡◌, ℕ, suc, ◌+◌, ◌-◌, ◌<◌, ◌≤◌, ◌==◌, arith, cond, List, [], ◌∷◌, ◌++◌, length, sym, ◌∙◌, ap, append_assoc, append-nil}
 use Rattle.std.proofs.lemmas.Bool.{ne_eqb}
+use Rattle.std.specs.Prelude.{Option}
 use Rattle.gd_base.specs.declared.note.Note.{Note}
 use Rattle.gd_lines.specs.declared.reply.Reply.{Reply}
 use Rattle.gd_lines.specs.declared.reply.Reply.TheVariants as reply
-use Rattle.gd_reference.specs.NodeRun.{who_at, who_behind, who_replies}
+use Rattle.gd_reference.specs.NodeRun.{note_said, parted_reply, parting_said, who_at, who_behind, who_replies}
 use Rattle.gd_reference.specs.SlowSite.{SlowSite}
 
 -- ---- one site
 
+-- its note, and then what this one has parted from it
+pub both_put : (slow : SlowSite) (site : ℕ) (replies noted all : List Reply) → noted ≡ replies ++ note_said slow site
+    → all ≡ noted ++ parting_said slow site → all ≡ replies ++ who_at slow site
+both_put slow site replies noted all first second =
+    second ∙ ap (λ rs. rs ++ parting_said slow site) first
+    ∙ append_assoc replies (note_said slow site) (parting_said slow site)
+
+-- what this one has parted from it
+pub parting_put : (slow : SlowSite) (site : ℕ) (replies : List Reply) (parted : Option ℕ) → parted ≡ slow.parted site
+    → replies ++ parted_reply site parted ≡ replies ++ parting_said slow site
+parting_put slow site replies parted is = ap (λ (o : Option ℕ). replies ++ parted_reply site o) is
+
 module _ (slow : SlowSite) (site : ℕ) (note : Note) (is : note ≡ slow.notes site) where
   -- one that has made a note
-  pub who_some : (note.number ≡ 0 → ⊥) → who_at slow site ≡ reply.Who site note ∷ []
+  pub who_some : (note.number ≡ 0 → ⊥) → note_said slow site ≡ reply.Who site note ∷ []
   who_some some = ap (λ n. cond (n.number == 0) [] (reply.Who site n ∷ [])) (sym is) ∙ ap (λ b. cond b [] (reply.Who site note ∷ [])) (ne_eqb note.number 0 some)
 
 -- ---- the sites behind one
@@ -25,7 +38,7 @@ module _ (slow : SlowSite) where
   unfolding who_behind
   none_more before over = let end : slow.sites - before ≡ 0 = omega (arith, over) in ap (who_behind slow before) end
 
-  -- these are the notes of the sites up to one
+  -- these are the replies of the sites up to one
   abbrev pub AreUpTo : ℕ → List Reply → Type 0
   AreUpTo before replies = replies ++ who_behind slow before (slow.sites - before) ≡ who_behind slow 0 slow.sites
 

@@ -2,9 +2,9 @@
 use Rattle.std.proofs.Common.{◌≡◌, ℕ, zero, suc, ◌+◌, ◌==◌, nat_lt, Bool, true, false, cond, List, [], ◌∷◌, ◌++◌, length, map, refl, ◌∙◌, ap, append-nil}
 use Rattle.std.proofs.lemmas.List.Elements.{filter-append}
 use Rattle.std.specs.List.{filter}
-use Rattle.std.specs.Prelude.{Option, None, Some}
-use Rattle.gd_answers.specs.Paying.{frame_works, works_unless}
-use Rattle.gd_base.specs.declared.refusal.FrameFault.{FrameFault}
+use Rattle.gd_answers.specs.Paying.{frame_works, works_by}
+use Rattle.gd_base.specs.declared.verdict.Verdict.{Verdict}
+use Rattle.gd_base.specs.declared.verdict.Verdict.TheVariants.{Taken}
 use Rattle.gd_effects.specs.Effects.{Effect, Try, Work}
 use Rattle.gd_events.specs.Events.{Event}
 use Rattle.gd_grammar.specs.FrameBytes.{Frame, frame_bytes}
@@ -12,10 +12,10 @@ use Rattle.gd_lines.specs.declared.command.Command.TheVariants as command
 use Rattle.gd_lines.specs.declared.reply.Reply.{Reply}
 use Rattle.gd_model.specs.Arrivals.{cost_of}
 use Rattle.gd_reference.specs.NodeRun.{of_received, received}
-use Rattle.gd_reference.specs.Offers.{arrived, brought, frame_for, offer, refusal}
+use Rattle.gd_reference.specs.Offers.{arrived, brought, frame_for, offer, verdict}
 use Rattle.gd_reference.specs.Said.{all_said}
-use Rattle.gd_reference.specs.SiteEffects.{events_replies, of_frame, of_own, recording, taken, taken_as, tries, tries_behind, tries_with, try_for, try_with, unless_refused_of, unless_refused_replies, works_of}
-use Rattle.gd_reference.specs.SlowSite.{SlowSite, log_end, own}
+use Rattle.gd_reference.specs.SiteEffects.{events_replies, of_frame, of_own, of_verdict, recording, taken, taken_as, tries, tries_behind, tries_with, try_for, try_with, verdict_replies, works_of}
+use Rattle.gd_reference.specs.SlowSite.{SlowSite, own}
 use Rattle.gd_reference.specs.TakeBack.{with_events}
 use Rattle.gd_world.specs.Telling.{work_of}
 use Rattle.gd_worlds.specs.Rehearsal.{is_work}
@@ -29,9 +29,9 @@ pub none_said : (replies : List Reply) → filter is_work (all_said replies) ≡
 none_said [] = refl
 none_said (r ∷ rs) = none_said rs
 
-none_recorded : (place : ℕ) (es : List Event) → filter is_work (recording place es) ≡ []
-none_recorded place [] = refl
-none_recorded place (e ∷ es) = refl
+none_recorded : (slow : SlowSite) (es : List Event) → filter is_work (recording slow es) ≡ []
+none_recorded slow [] = refl
+none_recorded slow (e ∷ es) = refl
 
 none_for : (slow : SlowSite) (to : ℕ) → filter is_work (try_for slow to) ≡ []
 none_for slow to = by (to == slow.me)
@@ -80,10 +80,11 @@ all_works ns (e ∷ es) = ap (λ (xs : List Effect). Work (ns e) ∷ xs) (all_wo
 pub own_works : (slow : SlowSite) (es : List Event) (replies : List Reply) → filter is_work (of_own slow es replies) ≡ map (λ e. Work 1) es
 own_works slow es replies =
     let ones = map (λ e. Work 1) es in
-    let records = recording (log_end slow) es in
+    let records = recording slow es in
     works_then (ones ++ records ++ all_said replies) (tries_with slow es) ones
     (works_then (ones ++ records) (all_said replies) ones
-    (works_then ones records ones (all_works (λ e. 1) es) (none_recorded (log_end slow) es)) (none_said replies)) (none_tried_with slow es)
+    (works_then ones records ones (all_works (λ e. 1) es) (none_recorded slow es)) (none_said replies))
+    (none_tried_with slow es)
 
 events_works : (slow : SlowSite) (es : List Event) → filter is_work (works_of slow es) ≡ works_of slow es
 unfolding works_of
@@ -94,13 +95,13 @@ events_works slow (e ∷ es) =
 
 -- those of a frame
 pub works_of_frame : (slow : SlowSite) (f : Frame) → filter is_work (of_frame slow f) ≡ frame_works slow f
-works_of_frame slow f = by (refusal slow f)
+works_of_frame slow f = by (verdict slow f)
   where
-    by : (why : Option FrameFault) → filter is_work (unless_refused_of slow f why) ≡ works_unless slow f why
-    by None =
+    by : (v : Verdict) → filter is_work (of_verdict slow f v) ≡ works_by slow f v
+    by Taken =
         let works = works_of slow f.events in
-        let records = recording (log_end slow) (taken slow f.events) in
+        let records = recording slow (taken slow f.events) in
         works_then (works ++ records) (all_said (events_replies slow f.events)) works
-        (works_then works records works (events_works slow f.events) (none_recorded (log_end slow) (taken slow f.events)))
+        (works_then works records works (events_works slow f.events) (none_recorded slow (taken slow f.events)))
         (none_said (events_replies slow f.events))
-    by (Some why) = none_said (unless_refused_replies slow f (Some why))
+    by v = none_said (verdict_replies slow f v)

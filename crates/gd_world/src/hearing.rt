@@ -10,7 +10,7 @@ use crate::fault::WorldFault;
 use crate::member::Member;
 use crate::replies::Replies;
 use crate::telling::only;
-use gd_answers::{Arrived, take_frame};
+use gd_answers::{Arrived, Came, take_frame};
 use gd_base::Steps;
 use gd_events::ListedEvent;
 use gd_wire::Frame;
@@ -29,9 +29,19 @@ pub(crate) fn hear<L: Ledger>(
     ensures { (slow : SlowSite) → StandsWith slow member.old.site member.old.backs
         → Hears slow frame.now result steps.old member.new steps.new }
 {
-    match take_frame(&mut member.site, frame, steps)? {
-        Ok(heard) => echoes(alloc, frame.events(), heard.as_slice()),
-        Err(fault) => only(alloc, Reply::NotTaken { fault }),
+    let came = take_frame(&mut member.site, frame, steps)?;
+    match came {
+        Came::Taken { heard } => echoes(alloc, frame.events(), heard.as_slice()),
+        Came::Refused { fault } => only(alloc, Reply::NotTaken { fault }),
+        Came::Parted { count } => {
+            let head = frame.head();
+            let reply = Reply::Parted {
+                site: head.from,
+                count,
+            };
+            only(alloc, reply)
+        }
+        Came::Passed => Ok(Replies::new(alloc)),
     }
 }
 

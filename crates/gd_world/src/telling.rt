@@ -6,7 +6,7 @@ ghost use Rattle.gd_base.specs.declared.refusal.Refusal.{Refusal as RefusalValue
 ghost use Rattle.gd_lines.specs.InRange.{IsCommand};
 ghost use Rattle.gd_lines.specs.declared.command.Command.TheVariants as command;
 ghost use Rattle.gd_lines.specs.declared.reply.Reply.TheVariants as reply;
-ghost use Rattle.gd_reference.specs.NodeRun.{command_replies, who_at};
+ghost use Rattle.gd_reference.specs.NodeRun.{command_replies, note_said, parting_said, who_at};
 ghost use Rattle.gd_reference.specs.SiteEffects.{done_replies};
 ghost use Rattle.gd_reference.specs.SlowSite.{SlowSite};
 ghost use Rattle.gd_site.specs.Sites.{StandsFor};
@@ -112,7 +112,8 @@ fn show(alloc: Global, site: &Site) -> Result<Replies, WorldFault>
     Ok(replies)
 }
 
-/// The notes of all sites that have made one, and how many these are.
+/// Of each site its note, where it has made one, and at which count this one has parted from it, if it has; and how many
+/// replies these are.
 fn who(alloc: Global, site: &Site) -> Result<Replies, WorldFault>
     ensures ok { (slow : SlowSite) → StandsFor slow site.now
         → IfOk result (λ replies. replies ≡ command_replies slow command.Who) }
@@ -120,22 +121,47 @@ fn who(alloc: Global, site: &Site) -> Result<Replies, WorldFault>
 {
     let mut replies = Replies::new(alloc);
     for before in 0..site.sites() {
-        push_note(site, before + 1, &mut replies)?;
+        push_site(site, before + 1, &mut replies)?;
     }
     let count = replies.as_slice().len() as u64;
     replies.push(Reply::End { count })?;
     Ok(replies)
 }
 
+/// Puts that of one site last. `AllocError` where memory ran out.
+fn push_site(site: &Site, number: u8, replies: &mut Replies) -> Result<(), AllocError>
+    requires { IsTrue (is_site site.now.peers.sites number) }
+    ensures { (slow : SlowSite) → StandsFor slow site.now
+        → OnOk result (replies.new ≡ replies.old ++ who_at slow number) }
+{
+    push_note(site, number, replies)?;
+    push_parting(site, number, replies)
+}
+
 /// Puts the note of a site last, if it has made one. `AllocError` where memory ran out.
 fn push_note(site: &Site, number: u8, replies: &mut Replies) -> Result<(), AllocError>
     requires { IsTrue (is_site site.now.peers.sites number) }
     ensures { (slow : SlowSite) → StandsFor slow site.now
-        → OnOk result (replies.new ≡ replies.old ++ who_at slow number) }
+        → OnOk result (replies.new ≡ replies.old ++ note_said slow number) }
 {
     let note = site.note(number);
     if note.number == 0 {
         return Ok(());
     }
     replies.push(Reply::Who { site: number, note })
+}
+
+/// Puts last that the site has parted from that one, if it has. `AllocError` where memory ran out.
+fn push_parting(site: &Site, number: u8, replies: &mut Replies) -> Result<(), AllocError>
+    requires { IsTrue (is_site site.now.peers.sites number) }
+    ensures { (slow : SlowSite) → StandsFor slow site.now
+        → OnOk result (replies.new ≡ replies.old ++ parting_said slow number) }
+{
+    match site.parted(number) {
+        None => Ok(()),
+        Some(count) => replies.push(Reply::Parted {
+            site: number,
+            count,
+        }),
+    }
 }

@@ -30,7 +30,8 @@ use Rattle.gd_protocol.proofs.NodeJournals.{journal_of_node}
 use Rattle.gd_reference.specs.InputLines.{whole_lines}
 use Rattle.gd_reference.specs.NodeRun.{end_after, node_lines}
 use Rattle.gd_reference.specs.Rejoin.{rejoined_end}
-use Rattle.gd_reference.specs.SlowRun.{IsReaderEnd, ended_by, replayed, upgraded_log}
+use Rattle.gd_reference.specs.SlowRun.{IsReaderEnd, ended_by, upgraded_log}
+use Rattle.gd_reference.specs.UptoFault.{replayed_by}
 use Rattle.gd_run.specs.Runs.{cut_of, effects_of, found_by}
 use Rattle.gd_viewing.specs.Snapshotting.{snapshotted}
 use Rattle.gd_viewing.specs.Viewing.{view_cut, view_effects, view_end}
@@ -217,10 +218,13 @@ opens_none a b other not = tt
 
 module _ {input input' : SeenSource} {output output' : SeenSink} (journal : SeenJournal) (link : SeenLink) (s : Status) (kind : IsReaderEnd s)
     (silent : (s ≡ ReadFault) ⊎ (s ≡ NoMemory) → output' ≡ output) where
-  pub carried_replay : {steps steps' : ℕ} (format : Format) (counts : Bool) → (s ≡ ReadFault → steps' ≡ steps)
-      → EndsAs (IsSome input'.left) (replayed format counts (told input.left)) no_effects (ended_by (told input.left)) s (outside input output journal link steps) (outside input' output' journal link steps')
-      → Carried (Some (Replay format counts)) s (outside input output journal link steps) (outside input' output' journal link steps')
-  carried_replay format counts unread ends = record {
+  pub carried_replay : {steps steps' : ℕ} (format : Format) (counts upto : Bool) → (s ≡ ReadFault → steps' ≡ steps)
+      → EndsAs (IsSome input'.left) (replayed_by upto format counts (told input.left)) no_effects
+      (ended_by (told input.left)) s (outside input output journal link steps)
+      (outside input' output' journal link steps')
+      → Carried (Some (Replay format counts upto)) s (outside input output journal link steps)
+      (outside input' output' journal link steps')
+  carried_replay format counts upto unread ends = record {
     ends = inl ends;
     kind = kind;
     untouched = (refl, refl);

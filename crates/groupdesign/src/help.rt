@@ -187,11 +187,13 @@ Exit statuses: 0, 2, 5, 8, 13.
 example: groupdesign churn --seed 1 --steps 100
 ";
 
-const REPLAY: &str = "usage: groupdesign replay [--format text|json|events] [--counts] < LOG
+const REPLAY: &str =
+    "usage: groupdesign replay [--format text|json|events] [--counts] [--upto-fault] < LOG
 
 Print the drawing of a log, as text (without --format) or JSON, or its events as JSON.
 
-  --counts  print last how many events were applied, covered and repaired
+  --counts      print last how many events were applied, covered and repaired
+  --upto-fault  of a log with a fault, print what stands before it, and then the fault
 
 Exit statuses: 0, 2, 3, 4, 5, 8, 13.
 

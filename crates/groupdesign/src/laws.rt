@@ -10,7 +10,8 @@ ghost use Rattle.gd_options.specs.declared.format.Format.{Format};
 ghost use Rattle.gd_outside.specs.Seen.{Entry};
 ghost use Rattle.gd_reference.specs.NodeRun.{end_after, node_effects, node_lines};
 ghost use Rattle.gd_reference.specs.Rejoin.{rejoined, rejoined_end};
-ghost use Rattle.gd_reference.specs.SlowRun.{replayed, upgraded_log};
+ghost use Rattle.gd_reference.specs.SlowRun.{upgraded_log};
+ghost use Rattle.gd_reference.specs.UptoFault.{replayed_by};
 ghost use Rattle.gd_run.specs.Runs.{effects_of, end_of, found_by};
 ghost use Rattle.gd_viewing.specs.Snapshotting.{snapshotted};
 ghost use Rattle.gd_viewing.specs.Viewing.{view_effects};
@@ -26,10 +27,10 @@ pub fn plain_words_are_carried_out()
     ensures end { (p : Plain) (contents input : List ℕ) → IsPlain p
         → end_of (command_of (plain_words p)) contents input
         ≡ end_of (Some (plain_command p)) contents input }
-    ensures replay { (format : Option Format) (counts : Bool) (contents input : List ℕ)
+    ensures replay { (format : Option Format) (counts upto : Bool) (contents input : List ℕ)
         (entries : List Entry)
-        → effects_of (command_of (plain_words (Replay format counts))) contents input entries
-        ≡ replayed (format_meant format) counts input }
+        → effects_of (command_of (plain_words (Replay format counts upto))) contents input entries
+        ≡ replayed_by upto (format_meant format) counts input }
     ensures upgrade { (contents input : List ℕ) (entries : List Entry)
         → effects_of (command_of (plain_words Upgrade)) contents input entries
         ≡ upgraded_log input }

@@ -68,9 +68,11 @@ fn carry_out<S: Source, K: Sink, J: Journal, N: Link, L: Ledger>(
         (N.seen link.new) steps.new) }
 {
     match command {
-        Command::Replay { format, counts } => {
-            replay(alloc, input, output, format, counts, steps)
-        }
+        Command::Replay {
+            format,
+            counts,
+            upto_fault,
+        } => replay(alloc, input, output, format, counts, upto_fault, steps),
         Command::Upgrade => upgrade(alloc, input, output),
         Command::Snapshot => snapshot(alloc, input, output, steps),
         Command::View => view(alloc, input, output, steps),

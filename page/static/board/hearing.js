@@ -3,7 +3,7 @@
 /** @typedef {import("./pending.js").Pending} Pending */
 /** @typedef {import("../core/node.js").NodeEar} NodeEar */
 
-const STANDING = new Set(["hello", "who", "peers", "standing", "end", "begun", "link", "carried", "presence", "open", "lost"]);
+const STANDING = new Set(["hello", "who", "peers", "standing", "end", "begun", "link", "carried", "parted", "presence", "open", "lost"]);
 
 /**
  * @param {Ed} ed

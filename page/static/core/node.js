@@ -8,6 +8,7 @@ import { Wire } from "./wire.js";
 /** @typedef {import("./types.js").Event} Event */
 /** @typedef {import("./types.js").End} End */
 /** @typedef {import("./types.js").Standing} Standing */
+/** @typedef {import("./types.js").Parted} Parted */
 /** @typedef {import("./types.js").LinkSettings} LinkSettings */
 /** @typedef {import("./types.js").Turns} Turns */
 /** @typedef {import("./picture.js").Difference} Difference */
@@ -79,6 +80,8 @@ export class Node {
     this.who = [];
     /** @type {Standing} */
     this.standing = { held: 0, kept: 0, line: 0, clock: 0 };
+    /** @type {Parted} */
+    this.parted = { sites: [], older: false };
     /** @type {LinkSettings | null} */
     this.link = null;
     /** What can be taken back and done again. @type {Turns} */
@@ -265,6 +268,7 @@ export class Node {
     if (is === "hello") this.greet(rest);
     else if (is === "who") this.who = rest.who;
     else if (is === "standing") this.standing = rest.standing;
+    else if (is === "parted") this.parted = { sites: rest.sites, older: rest.older };
     else if (is === "peers") Object.assign(this, { peers: rest.peers, waiting: rest.waiting, quiet: rest.quiet, silent: rest.silent });
     else if (is === "news") this.news.push(...rest.news);
     else if (is === "gestures") this.gestures.push(...rest.gestures);

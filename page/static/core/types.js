@@ -110,6 +110,7 @@
 /** @typedef {{number: number, undo: Due | null, redo: Due | null}} Turns what is next of each, and how often that has changed */
 /** @typedef {{site: number, name: string, me: boolean, here: boolean, away: string | null, selection: Set<string>}} Seat */
 /** @typedef {{held: number, kept: number, line: number, clock: number}} Standing */
+/** @typedef {{sites: number[], older: boolean}} Parted whose edits are others here than there, and whether the own ones are */
 /** @typedef {{loss: number, twice: number, delay: number, cut: number[]}} LinkSettings */
 /** @typedef {{status: number, meaning: string, said: string}} End */
 /** @typedef {{x: number, y: number, px: number, py: number}} Place a place of the board, and of the window */

@@ -126,15 +126,16 @@ export class Roster {
     const { carried, watcher, isOpenly } = this.ed.node;
     const more = watcher ? [] : [whatToCheck(carried), watchedWords(carried), isOpenly ? "The page isn’t encrypted." : ""];
     if (!watcher && !carried) more.push(howToInvite(carried));
+    const { advice } = this.ed.standing.parting;
     const words = [this.ed.standing.inWords().replace(/[^…]$/, "$&."), ...more].filter(Boolean).join(" ");
     const looks = seats.map((seat) => [this.shown, this.looksAt(seat) ?? "", this.stateWords(seat)]);
-    const key = JSON.stringify([words, looks]);
+    const key = JSON.stringify([words, advice, looks]);
     if (key === this.listed) return;
     this.listed = key;
     const focused = /** @type {HTMLElement | null} */ (document.activeElement)?.dataset?.site;
     const rows = seats.map((seat) => this.row(seat));
-    const fine = h("p", { class: "fine" }, words);
-    this.pop.replaceChildren(h("h2", {}, "People"), h("ul", { class: "seats" }, rows), fine);
+    const told = [...advice.map((/** @type {string} */ each) => h("p", { class: "advice", dir: "auto" }, each)), h("p", { class: "fine" }, words)];
+    this.pop.replaceChildren(h("h2", {}, "People"), h("ul", { class: "seats" }, rows), ...told);
     if (focused) /** @type {HTMLElement | null} */ (this.pop.querySelector(`[data-site="${focused}"]`))?.focus();
   }
 
@@ -149,7 +150,8 @@ export class Roster {
   /** @param {Seat} seat */
   stateWords(seat) {
     const looks = this.looksAt(seat);
-    const state = this.state(seat) + seatWords(this.ed.node.carried, seat.site);
+    const parted = this.ed.node.parted.sites.includes(seat.site) ? ", parted from you" : "";
+    const state = this.state(seat) + seatWords(this.ed.node.carried, seat.site) + parted;
     return `${state}${looks ? `, looks at ${this.ed.short(looks)}` : ""}`;
   }
 

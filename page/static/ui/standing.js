@@ -2,6 +2,7 @@
 
 import { CALLED } from "../core/called.js";
 import { retell } from "./banners.js";
+import { Parting } from "./parting.js";
 import { count } from "./words.js";
 
 /** @typedef {import("./file.js").FileIsland} FileIsland */
@@ -90,6 +91,7 @@ export class StandingIsland {
     this.ed = ed;
     this.file = file;
     this.link = link;
+    this.parting = new Parting(ed);
     /** @type {State} */
     this.state = { kind: "on", words: "", banner: null };
     /** @type {HTMLElement | null} */
@@ -118,6 +120,7 @@ export class StandingIsland {
       file.showName(nameOf(this.name));
     }
     file.showState(next.kind, next.words);
+    this.parting.update();
     ed.roster.update();
     this.link.update();
     ed.history.arrivals.standing(next.kind);
@@ -177,6 +180,8 @@ export function strangerWords(line) {
   if (why === "NotForMe" || why === "FromMe" || why === "NoSuchSite") {
     return "Somebody’s edits are meant for another person: did all start it with the addresses in the same order?";
   }
+  // That is said, as long as it is so, by what it means.
+  if (why === "OverAck") return null;
   if (why === "Check") return "Edits came damaged over the network. They are passed over, and come again";
   return why ? "Something else on the network sends data to this drawing’s address. It is passed over" : null;
 }

@@ -84,16 +84,31 @@ const WRITERS = {
   reopen: (bytes, e) => bytes.number(14, 1).stamp(e.on),
 };
 
-/** The log of events of so many sites, in the order in which they stand. */
+/** The CRC-32C of what has that check, with these bytes behind it. */
+function crc32c(list, check) {
+  let register = ~check;
+  for (const byte of list) {
+    register ^= byte;
+    for (let bit = 0; bit < 8; bit += 1) register = (register >>> 1) ^ (register & 1 ? 0x82f63b78 : 0);
+  }
+  return ~register >>> 0;
+}
+
+/** The log of events of so many sites, in the order in which they stand, each with the check of its site's events behind it. */
 export function logOf(events, sites) {
   const bytes = new Bytes();
   bytes.list.push(...new TextEncoder().encode("GDOL"));
-  bytes.number(3, 1).number(7, 4).number(1, 1).number(sites, 1);
-  const counts = new Map();
+  bytes.number(7, 1).number(7, 4).number(1, 1).number(sites, 1);
+  const counts = new Map(), checks = new Map();
   for (const event of events) {
     counts.set(event.site, (counts.get(event.site) ?? 0) + 1);
-    bytes.number(0xc3, 1).stamp(event).number(counts.get(event.site), 2);
+    bytes.number(0xc3, 1);
+    const first = bytes.list.length;
+    bytes.stamp(event).number(counts.get(event.site), 2);
     WRITERS[event.op](bytes, event);
+    const check = crc32c(bytes.list.slice(first), checks.get(event.site) ?? 0);
+    checks.set(event.site, check);
+    for (const shift of [0, 8, 16, 24]) bytes.number((check >>> shift) & 0xff, 1);
   }
   bytes.number(0, 1);
   return Buffer.from(bytes.list);

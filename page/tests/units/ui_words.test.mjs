@@ -8,6 +8,7 @@ const { chordOf } = await import("../../static/ui/keys.js");
 const { COMMANDS } = await import("../../static/ui/commands.js");
 const { keyText } = await import("../../static/ui/h.js");
 const { stateOf, nameOf, strangerWords } = await import("../../static/ui/standing.js");
+const { adviceOf, noticeOf, shortOf } = await import("../../static/ui/parting.js");
 const { letterOf, stateOf: personState } = await import("../../static/ui/roster.js");
 const { count, initialOf, plainWords, shortened } = await import("../../static/ui/words.js");
 const { tellArrived } = await import("../../static/ui/arrivals.js");
@@ -43,6 +44,23 @@ test("no key stands for two commands, and each command has a name and an icon", 
   assert.equal(keyText("Alt+ArrowLeft"), "Alt+←");
 });
 
+test("whose edits are others here than there, what that means and what to do", () => {
+  const none = { sites: [], older: false }, one = { sites: [2], older: false }, two = { sites: [2, 3], older: false }, own = { sites: [], older: true };
+  assert.equal(noticeOf(none, []), null);
+  assert.deepEqual(adviceOf(none, [], false), []);
+  assert.equal(noticeOf(one, ["Ben"]), "You and Ben have parted: nothing more that Ben draws comes here.");
+  assert.equal(noticeOf(two, ["Ben", "Person 3"]), "You and Ben and Person 3 have parted: nothing more that they draw comes here.");
+  assert.match(String(noticeOf(own, [])), /^This isn’t your newest file/);
+  assert.match(String(noticeOf({ ...one, older: true }, ["Ben"])), /^This isn’t your newest file.* You and Ben have parted/);
+  assert.equal(shortOf(one, ["Ben"]), "Parted from Ben");
+  assert.equal(shortOf(own, []), "Not your newest file");
+  const advice = adviceOf(two, ["Ben", "Cem"], false);
+  assert.equal(advice.length, 2);
+  assert.match(advice[0], /^Ben draws with a file that was put back.* Ben has to begin anew.* all begin a new drawing together\.$/);
+  assert.match(adviceOf(one, ["Ben"], true)[0], /Ben needs a link to another place/);
+  assert.match(adviceOf(own, [], true)[0], /^You draw with a file that was put back.* you need a link to another place/);
+});
+
 test("where the node stands, in words", () => {
   const fine = { connected: true, why: null, ended: null, silent: false, quiet: false, waiting: 0, others: 1, here: 1, wasHere: true };
   const rows = [
@@ -70,7 +88,7 @@ test("where the node stands, in words", () => {
   assert.equal(stateOf({ ...fine, silent: true }).kind, "silent");
   const strangers = [
     ["frame refused: Session", /another drawing/], ["frame refused: NotForMe", /same order/], ["frame refused: Short at 0", /Something else on the network/],
-    ["frame refused: Check at 60", /damaged/],
+    ["frame refused: Check at 60", /damaged/], ["frame refused: OverAck 5 4", null],
     ["polled 1", null], ["echo 1.1 applied", null],
   ];
   for (const [line, words] of strangers) words ? assert.match(strangerWords(line), words) : assert.equal(strangerWords(line), null);

@@ -1,6 +1,5 @@
 ghost use Rattle.std.specs.Prelude.{◌≡◌, IfOk, OnOk};
-ghost use Rattle.gd_outside.specs.Journals.{put_at};
-ghost use Rattle.gd_outside.specs.Records.{first_shot, landed, shot_kind, with_landed};
+ghost use Rattle.gd_outside.specs.Records.{first_shot, is_byte_over, landed, shot_kind, with_landed};
 
 use crate::memory::mark::Kind;
 use crate::memory::piece::put_over;
@@ -8,7 +7,7 @@ use std::alloc::{AllocError, Global};
 use std::marker::Model;
 
 /// The contents after some calls, and one image of a crash then: the first writes since the last sync that succeeded
-/// stand as written, and the ranges of the others hold one byte.
+/// stand as written, and the ranges of the others hold one byte, but for a byte that goes alone over another one, which stays.
 #[derive(Drop)]
 pub(crate) struct Shot {
     whole: u32,
@@ -88,11 +87,14 @@ impl Shot {
     /// Puts into the image what stands there of the next write.
     fn put(&mut self, alloc: Global, pos: u64, piece: &[u8]) -> Result<(), AllocError>
         ensures { OnOk result (self.new ≡ record self.old {
-          image = put_at self.old.image pos (landed self.old piece.now);
+          image = landed self.old pos piece.now;
         }) }
     {
         if self.count < u64::from(self.whole) {
             return put_over(&mut self.image, pos, piece);
+        }
+        if is_byte_over(&self.image, pos, piece) {
+            return Ok(());
         }
         let filled = vec![in alloc; self.fill; piece.len()]?;
         put_over(&mut self.image, pos, &filled)
@@ -103,4 +105,11 @@ impl Shot {
     {
         self.image
     }
+}
+
+/// Whether the piece is one byte, and goes over one that is there.
+fn is_byte_over(image: &[u8], pos: u64, piece: &[u8]) -> bool
+    ensures { result ≡ is_byte_over image.now pos piece.now }
+{
+    piece.len() == 1 && pos < image.len() as u64
 }

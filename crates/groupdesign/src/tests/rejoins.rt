@@ -7,10 +7,10 @@ use gd_outside::{Call, Fail, MemoryJournal, MemoryLink, Status};
 use std::alloc::{AllocError, Global};
 use std::test;
 
-/// The log of session 7, site 1 of 2, with a rect of site 2. Its closing gate stands at 40.
-const ONE: [u8; 41] = [
-    b'G', b'D', b'O', b'L', 3, 0, 0, 0, 7, 1, 2, 0xC3, 0, 0, 0, 0, 0, 1, 2, 0, 1, 1, 1, 0, 0, 0, 0,
-    0, 0, 0, 0, 0, 0, 0, 10, 0, 0, 0, 10, 0, 0,
+/// The log of session 7, site 1 of 2, with a rect of site 2 and its check. Its closing gate stands at 44.
+const ONE: [u8; 45] = [
+    b'G', b'D', b'O', b'L', 7, 0, 0, 0, 7, 1, 2, 0xC3, 0, 0, 0, 0, 0, 1, 2, 0, 1, 1, 1, 0, 0, 0, 0,
+    0, 0, 0, 0, 0, 0, 0, 10, 0, 0, 0, 10, 0, 0xC2, 0x18, 0xFB, 0xBA, 0,
 ];
 
 /// What is typed, and what is printed, where no call fails.

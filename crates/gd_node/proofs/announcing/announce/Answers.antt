@@ -4,13 +4,13 @@ use Rattle.gd_effects.specs.Effects.{Record}
 use Rattle.gd_lines.specs.declared.reply.Reply.TheVariants as reply
 use Rattle.gd_node.proofs.Edits.{ahead_ruled, announces_all, announces_cut}
 use Rattle.gd_reference.specs.Said.{says}
-use Rattle.gd_reference.specs.SlowSite.{journal_header, log_end}
+use Rattle.gd_reference.specs.SlowSite.{log_end}
 use Rattle.gd_reference.specs.TakeBack.{with_events}
 use Rattle.gd_site.proofs.Counts.{held_few}
 use Rattle.gd_node.proofs.announcing.announce.Goals as goal
 
 pub record_and_say-requires : goal.record_and_say-requires
-record_and_say-requires g c = let a = c.requires in (journal_header a.0, a.0.held, held_few a.0 a.1.well, a.1.log)
+record_and_say-requires g c = let a = c.requires in (a.0, held_few a.0 a.1.well, a.1.log)
 
 pub returns-in_err-record_and_say : goal.returns-in_err-record_and_say
 returns-in_err-record_and_say g c steps =
@@ -19,8 +19,8 @@ returns-in_err-record_and_say g c steps =
     let put = c.in_err-record_and_say.ensures in
     announces_cut es (reply.Done e.stamp ∷ []) refl refl _ c.from_residual.ensures.1 _ steps (record {
       does = λ slow a input link steps.
-          does_as (ap (λ id. Record (log_end slow) es ∷ says (reply.Done id) ∷ []) (sym c.stamp.ensures))
-          (put.does (journal_header slow) slow.held (ahead_ruled slow es a) a.log input link steps);
+          does_as (ap (λ id. Record (log_end slow) slow.held es ∷ says (reply.Done id) ∷ []) (sym c.stamp.ensures))
+          (put.does slow (ahead_ruled slow es a) a.log input link steps);
       log = tt;
       name = put.name;
     })
@@ -32,8 +32,8 @@ returns g c steps =
     let put = c.in_ok-record_and_say.ensures in
     announces_all es (reply.Done e.stamp ∷ []) refl refl steps (record {
       does = λ slow a input link steps.
-          does_as (ap (λ id. Record (log_end slow) es ∷ says (reply.Done id) ∷ []) (sym c.stamp.ensures))
-          (put.does (journal_header slow) slow.held (ahead_ruled slow es a) a.log input link steps);
-      log = λ slow a. put.log (journal_header slow) slow.held (ahead_ruled slow es a) a.log;
+          does_as (ap (λ id. Record (log_end slow) slow.held es ∷ says (reply.Done id) ∷ []) (sym c.stamp.ensures))
+          (put.does slow (ahead_ruled slow es a) a.log input link steps);
+      log = λ slow a. put.log slow (ahead_ruled slow es a) a.log;
       name = put.name;
     }) c.send_newest.ensures.takes (λ slow stands. c.send_newest.ensures.sends (with_events slow es) stands)

@@ -1,7 +1,10 @@
-use Rattle.std.proofs.Common.{◌≡◌, take}
+use Rattle.std.proofs.Common.{List, take}
+use Rattle.gd_events.specs.Events.{Event}
+use Rattle.gd_grammar.specs.Chains.{AreChains}
 use Rattle.gd_grammar.specs.Drawings.{drawings}
-use Rattle.gd_grammar.specs.LogBytes.{gated_bytes}
+use Rattle.gd_logs.specs.Written.{AreRecords}
 use Rattle.gd_node.proofs.announcing.records_of.Given as goal
 
 abbrev pub invariant-loop-listed : goal.invariant-loop-listed
-invariant-loop-listed l = l.records ≡ gated_bytes drawings (take l.listed-index l.events)
+invariant-loop-listed l =
+    (seen : List Event) → AreChains drawings l.log.chains seen → AreRecords drawings seen (take l.listed-index l.events) l.records

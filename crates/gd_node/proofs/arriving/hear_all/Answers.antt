@@ -1,13 +1,13 @@
-use Rattle.std.proofs.Common.{refl, ap, ◌∙◌}
+use Rattle.std.proofs.Common.{ap, ◌∙◌}
 use Rattle.std.proofs.lemmas.List.{length_push}
 use Rattle.std.proofs.lemmas.Slice.Zip.{zip_end, zip_turn}
 use Rattle.std.specs.Iterator.Adapters.{zip_first, zip_second}
 use Rattle.std.specs.Slice.Iter.{iter_rest}
-use Rattle.gd_node.proofs.Hearing.{heard_all, heard_more}
+use Rattle.gd_node.proofs.Hearing.{heard_all, heard_more, heard_none}
 use Rattle.gd_node.proofs.arriving.hear_all.Goals as goal
 
 pub events-init : goal.events-init
-events-init c = record { records_are = refl; said_are = refl }
+events-init c = heard_none c.args.events.now c.args.heard.now _ _
 
 pub events-preserved : goal.events-preserved
 events-preserved c =

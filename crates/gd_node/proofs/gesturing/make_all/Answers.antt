@@ -1,8 +1,8 @@
-use Rattle.std.proofs.Common.{◌≡◌, ◌+◌, ◌∷◌, drop, refl, sym, ap, ◌∙◌, subst}
+use Rattle.std.proofs.Common.{◌≡◌, ℕ, ◌+◌, ◌≤◌, ◌∷◌, drop, length, refl, sym, ap, ◌∙◌, subst}
 use Rattle.std.proofs.lemmas.List.{drop_all, drop_more}
 use Rattle.gd_node.proofs.Gestures.{judged_all, judged_cut, judged_front, judged_more, judged_none}
 use Rattle.gd_node.specs.Gesturing.{AreAsked}
-use Rattle.gd_reference.specs.TakeBack.{Asked}
+use Rattle.gd_reference.specs.TakeBack.{Asked, made}
 use Rattle.gd_takeback.specs.Making.{making}
 use Rattle.gd_node.proofs.gesturing.make_all.Goals as goal
 
@@ -43,3 +43,11 @@ returns-in_err-add-clause-judged g c slow stands =
     (judged_front slow asked c.args.said.now c.args.steps.now
     (judged_more slow asked c.args.said.now c.args.steps.now each (drop (i + 1) asked) left c.in_ok-reply.reply
     (c.loop-each.invariant.judged slow stands) c.in_ok-reply.ensures.judged refl))
+
+pub returns-in_err-reply-clause-judged : goal.returns-in_err-reply-clause-judged
+returns-in_err-reply-clause-judged g c slow stands =
+    let asked = c.args.asked.now in
+    let before = c.args.steps.now in
+    judged_cut slow _ _ _ c.from_residual.result c.from_residual.ensures.1 _ _ _
+    (subst (λ (n : ℕ). (before ≤ n) × (n ≤ before + length (made slow asked))) (sym c.in_err-reply.ensures.err_steps)
+    (judged_front slow asked c.args.said.now before (c.loop-each.invariant.judged slow stands)))

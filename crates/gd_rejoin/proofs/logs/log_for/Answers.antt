@@ -39,5 +39,6 @@ returns-clause-log c =
       closes = λ _. closes-stays drawing_laws c.in_ok-log.log.header c.in_ok-log.log.events c.args.front.items more c.in_ok-log.ensures.ruled
           (rw c.from_bytes-source.ensures at (c.in_ok-log.ensures.closes refl c.if-not-log.false));
       gate = (c.in_ok-log.ensures.exact refl).1;
+      chained = c.in_ok-log.ensures.chained;
       near = c.in_ok-log.ensures.near;
     })

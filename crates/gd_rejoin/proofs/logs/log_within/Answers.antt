@@ -16,4 +16,5 @@ returns-in_err-found-clause-fault g c =
 pub returns-clause-log : goal.returns-clause-log
 returns-clause-log g c =
     log-by_front c.args.header.now c.in_ok-front.front.items (g.J.Journal.seen c.front_of.new.journal).contents c.in_ok-front.ensures.front
-    c.in_ok-found.field-0.events c.in_ok-found.field-0.place (rw c.in_ok-found.was at c.log_for-found.ensures.log)
+    c.in_ok-found.field-0.events c.in_ok-found.field-0.place c.in_ok-found.field-0.chains
+    (rw c.in_ok-found.was at c.log_for-found.ensures.log)

@@ -7,7 +7,9 @@ loop-before-init c slow stands = subst (AreUpTo slow 0) (sym c.new-replies.ensur
 
 pub loop-before-preserved : goal.loop-before-preserved
 loop-before-preserved c slow stands =
-    up_to_next slow c.loop-before.before c.loop-before.replies (c.loop-before.invariant slow stands) _ (omega (arith, c.sites-before-end.ensures.slow slow stands, c.loop-before-test.true)) (c.in_ok-push_note.ensures slow stands)
+    up_to_next slow c.loop-before.before c.loop-before.replies (c.loop-before.invariant slow stands) _
+    (omega (arith, c.sites-before-end.ensures.slow slow stands, c.loop-before-test.true))
+    (c.in_ok-push_site.ensures slow stands)
 
 pub returns-clause-ok : goal.returns-clause-ok
 returns-clause-ok c slow stands =

@@ -11,7 +11,9 @@ pub returns-clause-end : goal.returns-clause-end
 returns-clause-end c = λ p contents input is. ap (λ k. end_of k contents input) (plain_is_asked p is)
 
 pub returns-clause-replay : goal.returns-clause-replay
-returns-clause-replay c = λ format counts contents input entries. returns-clause-effects c (Replay format counts) contents input entries tt
+returns-clause-replay c =
+    λ format counts upto contents input entries. returns-clause-effects c
+    (Replay format counts upto) contents input entries tt
 
 pub returns-clause-upgrade : goal.returns-clause-upgrade
 returns-clause-upgrade c = λ contents input entries. returns-clause-effects c Upgrade contents input entries tt

@@ -3,7 +3,8 @@ use Rattle.groupdesign.proofs.running.carry_out.Goals as goal
 
 pub returns-in-Replay : goal.returns-in-Replay
 returns-in-Replay g c =
-    carried_as c.in-Replay.is (carried_replay _ _ c.replay.result c.replay.ensures.kinds c.replay.ensures.silent _ _ c.replay.ensures.unread (c.replay.ensures.ends _ _))
+    carried_as c.in-Replay.is (carried_replay _ _ c.replay.result c.replay.ensures.kinds c.replay.ensures.silent _ _ _
+    c.replay.ensures.unread (c.replay.ensures.ends _ _))
 
 pub returns-in-Upgrade : goal.returns-in-Upgrade
 returns-in-Upgrade g c =
