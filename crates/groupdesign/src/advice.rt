@@ -76,7 +76,7 @@ fn advice_on_bad_log(
         }
         _ => {
             format!(in alloc;
-                "the journal {path} is no whole log: name the right file, or start with another one and without --resume"
+                "the journal {path} is no whole log: name the right file, or begin another session: a site that starts anew in this one parts from the others"
             )?
         }
     };
@@ -154,7 +154,7 @@ fn advice_on_other_journal(alloc: Global, command: &Command) -> Result<Option<St
         return Ok(None);
     };
     let text = format!(in alloc;
-        "the journal {path} is of another session, site or number of sites, or of version one: give the words that it was begun with, or name another"
+        "the journal {path} is of another session, site or number of sites, or of version one or two: give the words that it was begun with, or name another"
     )?;
     Ok(Some(text))
 }
