@@ -92,13 +92,13 @@ class Carrier:
 
     # Out.
 
-    def sent(self, to, window):
-        """The node sent a window of frames."""
+    def sent(self, to, frame):
+        """The node sent a frame."""
         if self.broker.up and self.runs() and to not in self.barred:
-            going = self.paces[to].takes(window, time.monotonic())
-            for frame in going:
+            if self.paces[to].takes(frame, time.monotonic()):
                 self.send(to, FRAME, frame)
-            self.counts["kept"] += len(window) - len(going)
+            else:
+                self.counts["kept"] += 1
 
     def send(self, to, kind, content):
         """Seals a content for a seat and sends it, where there is a connection; says whether there is one."""

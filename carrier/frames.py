@@ -7,8 +7,6 @@ MAGIC = b"GDOF\x03"
 # focus and no name, and behind the records the checksum.
 HEAD, NOTHING, CHECKSUM = struct.Struct(">5sIBBHHHI"), bytes(10), struct.Struct("<I")
 COUNT = slice(13, 15)
-# Where the length of the name stands. Behind the name is how many records there are, and in each its number behind seven bytes.
-NAME = HEAD.size + CHECKSUM.size + len(NOTHING) - 1
 # The records of a frame have at most so many bytes.
 ROOM = 1_144
 # A clock above which nothing more comes.
@@ -65,12 +63,6 @@ def frames(session, sender, to, first, records, clocks, check):
 def count_of(frame):
     """The number of the last record up to which a frame speaks."""
     return int.from_bytes(frame[COUNT], "big")
-
-
-def first_of(frame):
-    """The number of the first record in a frame, and 0 where it has none."""
-    counted = NAME + 1 + int.from_bytes(frame[NAME : NAME + 1], "big")
-    return int.from_bytes(frame[counted + 8 : counted + 10], "big") if frame[counted : counted + 1] > b"\0" else 0
 
 
 def closing(session, sender, to, count, check):

@@ -3,8 +3,6 @@
 import asyncio
 import socket
 
-from carrier.frames import first_of
-
 HERE = "127.0.0.1"
 # A datagram has at most so many bytes, and one more tells that it has too many.
 MOST_DATAGRAM = 1_200
@@ -27,7 +25,7 @@ def free_port():
 
 
 class Ways:
-    """The sockets of all other seats. `sent` is called with a seat and the frames that the node sent to it last."""
+    """The sockets of all other seats. `sent` is called with a seat and the newest frame that the node sent to it."""
 
     def __init__(self, seat, seats, sent):
         self.sent, self.loop, self.seat, self.seats = sent, asyncio.get_running_loop(), seat, seats
@@ -48,20 +46,18 @@ class Ways:
         return self.sockets[seat].getsockname()[1]
 
     def read(self, seat, way):
-        """Takes all that lies there. Of a poll's frames each goes on where the one before it ended, and together they have all
-        that those of earlier polls had and wasn't acknowledged: so the last ones alone go on."""
-        window = []
+        """Takes all that lies there. A frame has all that the frames before it had and wasn't acknowledged, so the last one
+        alone goes on."""
+        newest = None
         for _ in range(MOST_READ):
             try:
                 data, source = way.recvfrom(MOST_DATAGRAM + 1)
             except OSError:
                 break
             if source == self.node and len(data) <= MOST_DATAGRAM:
-                if window and first_of(data) <= first_of(window[-1]):
-                    window = []
-                window.append(data)
-        if window:
-            self.sent(seat, window)
+                newest = data
+        if newest is not None:
+            self.sent(seat, newest)
 
     def deliver(self, seat, data):
         """Hands the node a datagram from a seat. It may be lost, as datagrams may be, and is where the seat is held back."""

@@ -217,15 +217,13 @@ class Told(Case):
                 peers[site].received()
                 peers[site].send(node, frame(sender=site, held=said))
                 self.assertEqual(node.ask("poll"), ["polled 1"])
-                starts = range(known, max(60, known + 1), 40)
-                check = chain(events)
-                told = [frame(events[start : start + 40], sender=1, to=site, count=60, clock=60, check=check) for start in starts]
-                self.assertEqual(peers[site].received(), told, (site, said))
+                told = frame(events[known : known + 40], sender=1, to=site, count=60, clock=60, check=chain(events))
+                self.assertEqual(peers[site].received(), [told], (site, said))
             peers[2].send(node, frame(held=61))
             self.assertEqual(node.ask("poll"), ["frame refused: OverAck 61 60", "polled 1"])
 
     # Older events fill the frame for site 2, and site 3 has got them. An edit goes to site 3 alone, and the next poll sends the older
-    # ones in one frame and it in another. A delete is short enough to go to both.
+    # ones. A delete is short enough to go to both.
     def test_an_edit_goes_where_it_fits(self):
         labels = ["a" * 200] * 5
         events = [((1, 1), 1, ("create", "rect", 0, 0, 10, 10, "ab"))]
@@ -250,7 +248,6 @@ class Told(Case):
                 for to, peer in peers.items():
                     self.assertEqual(peer.received(), [frame(told[to], sender=1, to=to, check=check)] if told[to] else [], (line, to))
                 self.assertEqual(node.ask("poll"), ["polled 0"])
-                polled = {2: [told[2]] if told[2] else [events, [last]], 3: [[last]]}
+                polled = {2: told[2] or events, 3: [last]}
                 for to, peer in peers.items():
-                    window = [frame(part, sender=1, to=to, count=7, clock=7, check=check) for part in polled[to]]
-                    self.assertEqual(peer.received(), window, (line, to))
+                    self.assertEqual(peer.received(), [frame(polled[to], sender=1, to=to, count=7, clock=7, check=check)], (line, to))

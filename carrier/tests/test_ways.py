@@ -4,7 +4,6 @@ import asyncio
 import socket
 import unittest
 
-from carrier.frames import first_of, frame
 from carrier.ways import HERE, MOST_DATAGRAM, Ways
 from page.tests.places import until
 
@@ -32,19 +31,12 @@ class WaysOfANode(unittest.IsolatedAsyncioTestCase):
             self.assertEqual(self.node.recvfrom(100), (b"from %d" % seat, self.to(seat)))
             self.assertEqual(addresses[seat - 1], f"{HERE}:{self.ways.port(seat)}")
 
-    # Of two polls, one behind the other: those of the later one begin anew with what isn't acknowledged.
-    async def test_the_frames_of_the_newest_poll_alone_go_on(self):
-        def made(*numbers):
-            records = [bytes(7) + number.to_bytes(2, "big") + b"op" for number in numbers]
-            return frame(7, 2, 5, records, 9, 9, 0)
-
-        old, new, other = [made(1, 2), made(3, 4)], [made(2, 3), made(4), made(5, 6)], [made()]
-        self.assertEqual([first_of(each) for each in [*old, *new, *other]], [1, 3, 2, 4, 5, 0])
-        for each in [*old, *new]:
-            self.node.sendto(each, self.to(5))
-        self.node.sendto(other[0], self.to(6))
+    async def test_the_newest_frame_alone_goes_on(self):
+        for text in (b"old", b"older", b"new"):
+            self.node.sendto(text, self.to(5))
+        self.node.sendto(b"other", self.to(6))
         await until(lambda: len(self.sent) == 2)
-        self.assertEqual(sorted(self.sent), [(5, new), (6, other)])
+        self.assertEqual(sorted(self.sent), [(5, b"new"), (6, b"other")])
 
     async def test_what_another_sends_and_what_is_too_long_goes_nowhere(self):
         with socket.socket(socket.AF_INET, socket.SOCK_DGRAM) as stranger:
@@ -52,7 +44,7 @@ class WaysOfANode(unittest.IsolatedAsyncioTestCase):
         self.node.sendto(bytes(MOST_DATAGRAM + 1), self.to(6))
         self.node.sendto(bytes(MOST_DATAGRAM), self.to(7))
         await until(lambda: self.sent)
-        self.assertEqual(self.sent, [(7, [bytes(MOST_DATAGRAM)])])
+        self.assertEqual(self.sent, [(7, bytes(MOST_DATAGRAM))])
 
     async def test_a_node_that_isn_t_there_costs_nothing(self):
         self.node.close()

@@ -1055,28 +1055,20 @@ class Node:
         if len(lst) > 1024:
             del lst[0]
 
-    def frame(self, t, a):
-        """-> the frame for site t behind so many own events, and how many of these that one and those before it have"""
+    def frame(self, t):
+        """-> the frame for site t, and how many of the own events that one and those before it have"""
+        a = self.acked[t]
         k = fit(self.ownrec, a)
         return sealed(front(self.session, self.me, t, self.count[t], len(self.own), self.clock, self.check[self.me],
                             self.notes.get(self.me, (0, b'', None)), self.ownrec[a:a + k])), a + k
 
     def frames(self, new=None):
-        """sends a window of at most 32 frames to each other site; where the newest so many events are why, one to each that gets one of
-        them"""
+        """sends a frame to each other site; where the newest so many events are why, to each that gets one of them"""
         for t in range(1, self.n + 1):
             if t != self.me:
-                f, reached = self.frame(t, self.acked[t])
-                if new is not None:
-                    if reached > len(self.own) - new:
-                        self.send(t, f)
+                if new is not None and self.acked[t] + fit(self.ownrec, self.acked[t]) <= len(self.own) - new:
                     continue
-                self.send(t, f)
-                for _ in range(31):
-                    if reached >= len(self.own):
-                        break
-                    f, reached = self.frame(t, reached)
-                    self.send(t, f)
+                self.send(t, self.frame(t)[0])
 
     def do_gesture(self, lines, single):
         out, evs, backs = [], [], []

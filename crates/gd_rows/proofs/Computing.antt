@@ -17,7 +17,8 @@ use Rattle.gd_grammar.specs.Readers.{steps}
 use Rattle.gd_grammar.specs.Fields as fields
 use Rattle.gd_grammar.specs.Reading.{many_at}
 use Rattle.gd_grammar.specs.FieldBytes.{each_bytes}
-use Rattle.gd_grammar.specs.FrameBytes.{body_at, event_count_at, focus_at, frame, frame_at, frame_magic_at, frame_version_at, half_at, head_at, name_at, name_text_at, next_event_at, note_at, six_at}
+use Rattle.gd_grammar.specs.FrameBytes.{body_at, event_count_at, focus_at, frame, frame_at, frame_magic_at, frame_version_at, head_at, name_at, name_text_at, next_event_at, note_at, six_at}
+use Rattle.gd_grammar.specs.Fields.{half_at}
 use Rattle.gd_grammar.specs.Kinds as kinds
 use Rattle.gd_grammar.specs.LogBytes.{events_at, gated_bytes, log, record_at, step_at, turn_fault}
 use Rattle.gd_grammar.specs.HeaderBytes.{header_at, magic_at, sites_at, version_at}
@@ -44,7 +45,7 @@ use Rattle.gd_reference.specs.Fitting.{fitting, frame_count}
 use Rattle.gd_reference.specs.InputLines.{heard, lines_of, whole_lines}
 use Rattle.gd_reference.specs.Judging.{are_apart, by_id, edit, judged, targets}
 use Rattle.gd_reference.specs.NodeRun.{node_lines, of_received, received, who_behind}
-use Rattle.gd_reference.specs.Offers.{all_arrived, frame_behind, further_frames, offered, offers, refusal, shows_parting, take_frame, verdict, verdict_by}
+use Rattle.gd_reference.specs.Offers.{all_arrived, frame_for, offered, offers, refusal, shows_parting, take_frame, verdict, verdict_by}
 use Rattle.gd_reference.specs.PerSite.{least_of_others, put}
 use Rattle.gd_reference.specs.Rejoin.{found}
 use Rattle.gd_reference.specs.SiteEffects.{asked_replies, events_replies, taken, tries_behind, works_of}
@@ -75,7 +76,7 @@ lines_compute = tt
 
 -- drawings, sites, worlds and runs
 unfoldable pub sites_compute : ⊤
-unfolding stamp_cmp level_cmp rank_cmp inserted_by covers independent splice are_apart by_id edit judged targets heard lines_of whole_lines answered end_of_lines state_after node_lines of_received received who_behind all_arrived frame_behind further_frames offered offers refusal shows_parting take_frame verdict verdict_by fitting frame_count least_of_others put asked_replies events_replies taken works_of tries_behind greatest_clock made_by parted_behind resumed events_before events_upto found tally_from after_edit after_gesture after_turn backs_of done made turn with_events apply back after_from after_line happens with_site
+unfolding stamp_cmp level_cmp rank_cmp inserted_by covers independent splice are_apart by_id edit judged targets heard lines_of whole_lines answered end_of_lines state_after node_lines of_received received who_behind all_arrived frame_for offered offers refusal shows_parting take_frame verdict verdict_by fitting frame_count least_of_others put asked_replies events_replies taken works_of tries_behind greatest_clock made_by parted_behind resumed events_before events_upto found tally_from after_edit after_gesture after_turn backs_of done made turn with_events apply back after_from after_line happens with_site
 sites_compute = tt
 
 -- rehearsals and churn

@@ -95,7 +95,7 @@ held_rows =
     ++ concat (map label_row (2 ∷ 3 ∷ 4 ∷ 5 ∷ 6 ∷ []))
 
 -- Of the room for site 2 there are 24 bytes left, so that a move doesn't fit: the next poll sends the six events before
--- it in one frame, and it in another. The records of these, and their checks, stand in front of place 1161 of the journal.
+-- it. The records of these, and their checks, stand in front of place 1161 of the journal.
 abbrev pub moved : Edit
 moved = move_to 1 1 5 5
 
@@ -110,9 +110,7 @@ moved_effects =
     Work 1 ∷ Record 1161 (lettered 2 ∷ labels) (event 7 1 7 (op.Set (at_stamp 1 1) (ToPlace (pos 5) (pos 5))) ∷ [])
     ∷ Print (codes "ok 7.1\n")
     ∷ Try 3 moved_row
-    ∷ Try 2 (seventh_row 2 moved_check 6 (held_rows ++ 72 ∷ 33 ∷ 239 ∷ 69 ∷ []))
-    ∷ Try 2 (seventh_row 2 moved_check 1 (move_row 7 5 5 ++ 195 ∷ 114 ∷ 144 ∷ 9 ∷ []))
-    ∷ Try 3 moved_row
+    ∷ Try 2 (seventh_row 2 moved_check 6 (held_rows ++ 72 ∷ 33 ∷ 239 ∷ 69 ∷ [])) ∷ Try 3 moved_row
     ∷ Print (codes "polled 0\n")
     ∷ []
 

@@ -28,8 +28,7 @@ pub fn a_full_frame_is_read_and_written()
     ensures written { frame_bytes moves_frame ≡ moves_row }
 {}
 
-/// An edit sends nothing to a site for which older events fill the frame, and a poll sends these, and it in another frame. One that
-/// fits is sent.
+/// An edit sends nothing to a site for which older events fill the frame, and a poll sends these. One that fits is sent.
 pub fn an_edit_behind_older_ones()
     ensures waits { answers full_site [] (asked (command.Edit moved ∷ command.Poll ∷ []))
         ≡ moved_effects }

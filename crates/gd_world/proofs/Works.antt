@@ -12,9 +12,9 @@ use Rattle.gd_lines.specs.declared.command.Command.TheVariants as command
 use Rattle.gd_lines.specs.declared.reply.Reply.{Reply}
 use Rattle.gd_model.specs.Arrivals.{cost_of}
 use Rattle.gd_reference.specs.NodeRun.{of_received, received}
-use Rattle.gd_reference.specs.Offers.{arrived, brought, frame_for, offer, verdict, window}
+use Rattle.gd_reference.specs.Offers.{arrived, brought, frame_for, offer, verdict}
 use Rattle.gd_reference.specs.Said.{all_said}
-use Rattle.gd_reference.specs.SiteEffects.{events_replies, of_frame, of_own, of_verdict, recording, taken, taken_as, tries, tries_behind, tries_for, tries_of, tries_with, try_for, try_with, verdict_replies, works_of}
+use Rattle.gd_reference.specs.SiteEffects.{events_replies, of_frame, of_own, of_verdict, recording, taken, taken_as, tries, tries_behind, tries_with, try_for, try_with, verdict_replies, works_of}
 use Rattle.gd_reference.specs.SlowSite.{SlowSite, own}
 use Rattle.gd_reference.specs.TakeBack.{with_events}
 use Rattle.gd_world.specs.Telling.{work_of}
@@ -52,19 +52,8 @@ unfolding tries_behind
 none_behind try none site zero = refl
 none_behind try none site (suc k) = none_both (try (site + 1)) (tries_behind try (site + 1) k) (none (site + 1)) (none_behind try none (site + 1) k)
 
-none_of : (to : ℕ) (frames : List Frame) → filter is_work (tries_of to frames) ≡ []
-none_of to [] = refl
-none_of to (f ∷ fs) = none_of to fs
-
-none_window : (slow : SlowSite) (to : ℕ) → filter is_work (tries_for slow to) ≡ []
-none_window slow to = by (to == slow.me)
-  where
-    by : (own : Bool) → filter is_work (cond own [] (tries_of to (window slow to))) ≡ []
-    by true = refl
-    by false = none_of to (window slow to)
-
 none_tried : (slow : SlowSite) → filter is_work (tries slow) ≡ []
-none_tried slow = none_behind (tries_for slow) (none_window slow) 0 slow.sites
+none_tried slow = none_behind (try_for slow) (none_for slow) 0 slow.sites
 
 none_tried_with : (slow : SlowSite) (es : List Event) → filter is_work (tries_with slow es) ≡ []
 none_tried_with slow [] = refl
