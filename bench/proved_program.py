@@ -28,9 +28,9 @@ def lines_below(names):
     return {name: lines[name] for name in sorted(wanted)}
 
 
-def build(room, program, uses, words, called="measure"):
-    """The program over a copy of the crates, with what their checks have kept. `words` are for a first, short run, and
-    `called` is the function that `main` hands a blank."""
+def build(room, program, uses, words, called="measure", answered=()):
+    """The program over a copy of the crates, with what their checks have kept. `words` are for a first, short run,
+    `called` is the function that `main` hands a blank, and each function that is `answered` has answers here."""
     lines = lines_below(uses)
     (room / "crates.txt").write_text("\n".join([*lines.values(), f"{program}: {' '.join(uses)}"]) + "\n")
     shutil.copy(ROOT / "HANDLES", room)
@@ -41,6 +41,10 @@ def build(room, program, uses, words, called="measure"):
     (crate / "proofs/main").mkdir(parents=True)
     shutil.copy(HERE / f"{program}.rt.in", crate / "src/main.rt")
     (crate / "proofs/main/Invariants.antt").write_text(INVARIANTS.format(program=program, called=called))
+    for name in answered:
+        (crate / "proofs" / name).mkdir()
+        answers = (HERE / f"{name}.antt.in").read_text().replace("PROGRAM", program)
+        (crate / "proofs" / name / "Answers.antt").write_text(answers)
     print("proving and building the program, which can take some minutes ..", file=sys.stderr, flush=True)
     done = subprocess.run(["rt", "run", "--", *words], cwd=crate, capture_output=True, text=True)
     if done.returncode != 0:

@@ -10,7 +10,7 @@ use Rattle.gd_base.proofs.StampLemmas.{is_before-trans}
 use Rattle.gd_base.specs.Stamps.{Stamp, IsStamp, is_before}
 use Rattle.gd_base.specs.Typed.{AreTied, IsLinked}
 use Rattle.gd_base.specs.declared.content.Content.TheVariants.{ToText, ToRank}
-use Rattle.gd_base.specs.Whole.{Object}
+use Rattle.gd_base.specs.declared.object.Object.{Object}
 use Rattle.gd_base.specs.declared.ties.Tie.{Tie}
 use Rattle.gd_drawing.proofs.SoundObjects.{AreFieldsBefore, AreTiesBefore, IsContentBefore, IsEntryBefore, IsFormBefore, IsIdBefore, IsLookupBefore, IsTieBefore, board_before, each_before, form_before, object_before}
 use Rattle.gd_events.specs.Events.{Event}

@@ -6,7 +6,7 @@ use Rattle.std.specs.FinMap as map_of
 use Rattle.gd_base.proofs.StampLemmas.{is_same-refl}
 use Rattle.gd_base.specs.Stamps.{Stamp}
 use Rattle.gd_base.specs.declared.content.Content.TheVariants.{ToPlace}
-use Rattle.gd_base.specs.Whole.{Object}
+use Rattle.gd_base.specs.declared.object.Object.{Object}
 use Rattle.gd_drawing.proofs.Inverse.{inverse_by}
 use Rattle.gd_events.specs.Ops.{Op}
 use Rattle.gd_model.specs.Backs.{back, op_of}

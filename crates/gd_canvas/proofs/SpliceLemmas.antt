@@ -5,7 +5,7 @@ use Rattle.gd_base.specs.Stamps.{Stamp, is_same}
 use Rattle.gd_base.proofs.StampLemmas.{is_same-true}
 use Rattle.gd_model.specs.declared.form.Form.{Form}
 use Rattle.gd_model.specs.declared.form.Form.TheVariants.{Sets, Puts, Takes}
-use Rattle.gd_base.specs.Whole.{Object}
+use Rattle.gd_base.specs.declared.object.Object.{Object}
 use Rattle.gd_base.specs.declared.ties.Tie.{Tie}
 use Rattle.gd_model.specs.Contents.{Content}
 use Rattle.gd_model.specs.Forms.{form}

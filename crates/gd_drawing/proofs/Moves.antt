@@ -17,7 +17,7 @@ use Rattle.gd_events.specs.Events.{Event}
 use Rattle.gd_events.specs.Ordered.{inserted, ordered, is_new, are_distinct}
 use Rattle.gd_base.specs.Ranks.{level, is_same_rank, given_at, level_cmp}
 use Rattle.gd_base.specs.declared.object.Link.{Link}
-use Rattle.gd_base.specs.Whole.{Object}
+use Rattle.gd_base.specs.declared.object.Object.{Object}
 use Rattle.gd_events.specs.Ops.{Op}
 use Rattle.gd_base.specs.declared.op.Op.TheVariants.{Create, Delete, Set, Group, Restore, Disband}
 use Rattle.gd_base.specs.declared.rank.Rank.{Rank}

@@ -19,7 +19,7 @@ use Rattle.gd_base.specs.declared.content.Height.TheVariants.{To, At}
 use Rattle.gd_base.specs.declared.content.Side.TheVariants.{Bottom, Top}
 use Rattle.gd_base.specs.declared.member.Member.{Member}
 use Rattle.gd_base.specs.declared.object.Link.{Link}
-use Rattle.gd_base.specs.Whole.{Object}
+use Rattle.gd_base.specs.declared.object.Object.{Object}
 use Rattle.gd_base.specs.declared.op.Op.TheVariants.{Create, Delete, Set, Group, Restore, Disband}
 use Rattle.gd_base.specs.declared.shape.Shape.{Shape}
 use Rattle.gd_base.specs.declared.ranges.TheConstants.{MOST_MEMBERS}

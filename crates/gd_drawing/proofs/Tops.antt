@@ -12,7 +12,7 @@ use Rattle.gd_events.specs.Ordered.{ordered}
 use Rattle.gd_events.specs.Sound.{is_object_before, names_before}
 use Rattle.gd_base.proofs.StampLemmas.{is_before-trans}
 use Rattle.gd_base.specs.Ranks.{level, given_at, is_below}
-use Rattle.gd_base.specs.Whole.{Object}
+use Rattle.gd_base.specs.declared.object.Object.{Object}
 use Rattle.gd_events.specs.Ops.{Op}
 use Rattle.gd_base.specs.declared.op.Op.TheVariants.{Create, Set, Group, Restore}
 use Rattle.gd_base.specs.declared.rank.Rank.{Rank}

@@ -1,17 +1,15 @@
 //! The fields that drawings and events have in common. An id, a kind and a colour are strings, as in the printed lines; no
 //! parent and no fill are null.
 
-ghost use Rattle.std.specs.Prelude.{◌≡◌, OnOk, codes, decimal, true};
+ghost use Rattle.std.specs.Prelude.{◌≡◌, OnOk, decimal, true};
 ghost use Rattle.std.specs.Fmt.{signed_decimal};
 ghost use Rattle.gd_export.specs.Texts.{is_quiet};
-ghost use Rattle.gd_json.specs.Parts.{align_or_null, colour_json, colour_or_null, dash_json, heads_json, id_json, id_or_null, kind_json, number_or_null, style_fields, two};
-ghost use Rattle.gd_base.specs.Labels.{IsLabel};
-ghost use Rattle.gd_json.specs.EventsJson.{both_fields};
-ghost use Rattle.gd_json.specs.Values.{flag, plain, put_all, put_field, quoted};
+ghost use Rattle.gd_json.specs.Parts.{colour_json, colour_or_null, id_json, id_or_null, kind_json, two};
+ghost use Rattle.gd_json.specs.Values.{flag, plain, put_field, quoted};
 
 use crate::texts::{colour_of, id_of, kind_of};
 use crate::values::{Fields, Items, Json};
-use gd_base::{Align, Dash, Ends, Heads, Look, OPACITY_LIMIT, Shape, Stamp};
+use gd_base::{Label, Shape, Stamp};
 use std::alloc::AllocError;
 
 impl Fields {
@@ -47,9 +45,8 @@ impl Fields {
         self.put(key, Json::plain(text))
     }
 
-    pub fn label(&mut self, key: &str, label: &str) -> Result<(), AllocError>
-        requires key { is_quiet key.now ≡ true }
-        requires label { IsLabel label.now }
+    pub fn label(&mut self, key: &str, label: &Label) -> Result<(), AllocError>
+        requires { is_quiet key.now ≡ true }
         ensures { OnOk result (self.new ≡ put_field self.old (key.now, quoted label.now)) }
     {
         let label = Json::label(self.alloc(), label)?;
@@ -112,85 +109,5 @@ impl Fields {
         items.push(Json::integer(x))?;
         items.push(Json::integer(y))?;
         self.put(key, items.close())
-    }
-
-    pub fn dash(&mut self, dash: Dash) -> Result<(), AllocError>
-        ensures { OnOk result (self.new ≡ put_field self.old (codes "dash", dash_json dash)) }
-    {
-        let word = match dash {
-            Dash::Solid => "solid",
-            Dash::Dashed => "dashed",
-            Dash::Dotted => "dotted",
-        };
-        self.word("dash", word)
-    }
-
-    pub fn heads(&mut self, heads: Heads) -> Result<(), AllocError>
-        ensures { OnOk result (self.new ≡ put_field self.old (codes "heads", heads_json heads)) }
-    {
-        let word = match heads {
-            Heads::Bare => "none",
-            Heads::AtEnd => "end",
-            Heads::AtStart => "start",
-            Heads::AtBoth => "both",
-        };
-        self.word("heads", word)
-    }
-
-    pub fn number_or_null(&mut self, key: &str, number: Option<u64>) -> Result<(), AllocError>
-        requires { is_quiet key.now ≡ true }
-        ensures { OnOk result (self.new ≡ put_field self.old (key.now, number_or_null number)) }
-    {
-        match number {
-            Some(number) => self.count(key, number),
-            None => self.put(key, Json::null()),
-        }
-    }
-
-    pub fn align(&mut self, align: Option<Align>) -> Result<(), AllocError>
-        ensures { OnOk result (self.new ≡ put_field self.old (codes "align", align_or_null align)) }
-    {
-        match align {
-            Some(Align::Start) => self.word("align", "start"),
-            Some(Align::Middle) => self.word("align", "middle"),
-            Some(Align::End) => self.word("align", "end"),
-            None => self.put("align", Json::null()),
-        }
-    }
-
-    /// The ends of a connector.
-    pub fn both(&mut self, ends: Ends) -> Result<(), AllocError>
-        ensures { OnOk result (self.new ≡ put_all self.old (both_fields ends)) }
-    {
-        self.id("from", ends.from)?;
-        self.id("to", ends.to)
-    }
-
-    /// How something looks: a stroke, a fill and a width, and what else isn't as it is made.
-    pub fn look(&mut self, look: &Look) -> Result<(), AllocError>
-        ensures { OnOk result (self.new ≡ put_all self.old (style_fields look.now)) }
-    {
-        self.colour("stroke", look.stroke)?;
-        self.fill("fill", look.fill)?;
-        self.count("width", u64::from(look.width))?;
-        if look.dash != Dash::Solid {
-            self.dash(look.dash)?;
-        }
-        if look.heads != Heads::Bare {
-            self.heads(look.heads)?;
-        }
-        if let Some(round) = look.round {
-            self.count("round", u64::from(round))?;
-        }
-        if look.opacity != OPACITY_LIMIT {
-            self.count("opacity", u64::from(look.opacity))?;
-        }
-        if let Some(letters) = look.letters {
-            self.count("letters", u64::from(letters))?;
-        }
-        if look.align.is_some() {
-            self.align(look.align)?;
-        }
-        Ok(())
     }
 }

@@ -1,12 +1,12 @@
 //! A drawing.
 
 ghost use Rattle.std.specs.Prelude.{◌≡◌, IfOk, OnOk};
-ghost use Rattle.gd_json.specs.PictureJson.{at_fields, body_fields, item_json, picture_json};
+ghost use Rattle.gd_json.specs.PictureJson.{item_json, look_fields, picture_json, shape_fields};
 ghost use Rattle.gd_json.specs.Values.{put_all};
 
 use crate::array::{ArrayText, JsonText};
 use crate::values::{Fields, Json};
-use gd_base::{Body, Item};
+use gd_base::{Item, ShapeItem};
 use gd_view::Picture;
 use std::alloc::{AllocError, Global};
 
@@ -33,38 +33,30 @@ pub(crate) fn item_of(alloc: Global, item: &Item) -> Result<Json, AllocError>
     let mut fields = Fields::new(alloc);
     fields.id("id", item.id)?;
     fields.parent("in", item.parent)?;
-    put_at(&mut fields, item)?;
-    put_body(&mut fields, &item.body)?;
+    fields.two("at", item.at.x, item.at.y)?;
+    put_shape(&mut fields, &item.shape)?;
     Ok(fields.close())
 }
 
-/// Puts where an item is shown that isn't shown between its ends.
-fn put_at(fields: &mut Fields, item: &Item) -> Result<(), AllocError>
-    ensures { OnOk result (fields.new ≡ put_all fields.old (at_fields item.now item.now.body)) }
+/// Puts what only a shape has, or that the item is a group.
+fn put_shape(fields: &mut Fields, shape: &Option<ShapeItem>) -> Result<(), AllocError>
+    ensures { OnOk result (fields.new ≡ put_all fields.old (shape_fields shape.now)) }
 {
-    match &item.body {
-        Body::Joined(_) => Ok(()),
-        Body::Shape(_) | Body::Group => fields.two("at", item.at.x, item.at.y),
+    match shape {
+        Some(shape) => {
+            fields.kind("kind", shape.kind)?;
+            fields.label("label", &shape.label)?;
+            fields.two("size", i64::from(shape.w), i64::from(shape.h))?;
+            put_look(fields, shape)
+        }
+        None => fields.word("kind", "group"),
     }
 }
 
-/// Puts what only a shape has, or only a connector, or that the item is a group.
-fn put_body(fields: &mut Fields, body: &Body) -> Result<(), AllocError>
-    ensures { OnOk result (fields.new ≡ put_all fields.old (body_fields body.now)) }
+fn put_look(fields: &mut Fields, shape: &ShapeItem) -> Result<(), AllocError>
+    ensures { OnOk result (fields.new ≡ put_all fields.old (look_fields shape.now)) }
 {
-    match body {
-        Body::Shape(shape) => {
-            fields.kind("kind", shape.kind)?;
-            fields.label("label", shape.label.as_str())?;
-            fields.two("size", i64::from(shape.w), i64::from(shape.h))?;
-            fields.look(&shape.look)
-        }
-        Body::Joined(joined) => {
-            fields.word("kind", "connector")?;
-            fields.label("label", joined.label.as_str())?;
-            fields.both(joined.ends)?;
-            fields.look(&joined.look)
-        }
-        Body::Group => fields.word("kind", "group"),
-    }
+    fields.colour("stroke", shape.stroke)?;
+    fields.fill("fill", shape.fill)?;
+    fields.count("width", u64::from(shape.width))
 }

@@ -18,7 +18,7 @@ use Rattle.gd_grammar.proofs.Readers.{◌&◌, TookAs, AllTook, took-pure, took-
 use Rattle.gd_base.specs.declared.object.Kind.{Kind}
 use Rattle.gd_base.specs.declared.object.Kind.TheVariants.{Shape, Group}
 use Rattle.gd_base.specs.declared.object.Link.{Link}
-use Rattle.gd_base.specs.Whole.{Object}
+use Rattle.gd_base.specs.declared.object.Object.{Object}
 use Rattle.gd_base.specs.declared.rank.Rank.{Rank}
 use Rattle.gd_base.specs.declared.rank.Rank.TheVariants.{Low, High}
 use Rattle.gd_grammar.specs.ObjectBytes.{kind_rows, kind_at, thin_at, flag_rows, flag_at, parent_at, some_link_at, link_rows, link_at, given_at, rank_rows, rank_at, object_at}

@@ -8,7 +8,7 @@ use Rattle.gd_base.specs.Ranks.{given_at}
 use Rattle.gd_base.specs.Stamps.{Stamp, IsStamp, is_before}
 use Rattle.gd_base.specs.Typed.{AreTied, IsLinked, IsObject}
 use Rattle.gd_base.specs.declared.object.Link.{Link}
-use Rattle.gd_base.specs.Whole.{Object}
+use Rattle.gd_base.specs.declared.object.Object.{Object}
 use Rattle.gd_base.specs.declared.rank.Rank.{Rank}
 use Rattle.gd_base.specs.declared.ties.Tie.{Tie}
 use Rattle.gd_events.specs.Sound.{is_box_in_range, is_link_in_range, is_look_in_range, is_object_in_range, are_ties_in_range, is_link_before, is_object_before, is_tie_before, are_ties_before, is_above, rise_above}

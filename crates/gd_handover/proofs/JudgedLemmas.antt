@@ -11,7 +11,7 @@ use Rattle.gd_events.specs.Sound.{is_above}
 use Rattle.gd_grammar.specs.Drawings.{event_at}
 use Rattle.gd_grammar.specs.Fields.{stamp_at, word_at}
 use Rattle.gd_grammar.specs.Reading.{ranged}
-use Rattle.gd_base.specs.Whole.{Object}
+use Rattle.gd_base.specs.declared.object.Object.{Object}
 use Rattle.gd_outside.specs.Seen.{SeenSource}
 use Rattle.gd_grammar.specs.ObjectBytes.{object_at}
 use Rattle.gd_snapshots.specs.SnapshotBytes.{Views, in_view, misread_at, number_within, placed_at, kept_at}

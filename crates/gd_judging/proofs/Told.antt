@@ -5,7 +5,7 @@ use Rattle.std.specs.FinMap as map_of
 use Rattle.gd_base.specs.Stamps.{Stamp, stamp_cmp}
 use Rattle.gd_model.specs.Drawing.{Drawing}
 use Rattle.gd_model.specs.declared.above.Above.{Above}
-use Rattle.gd_base.specs.Whole.{Object}
+use Rattle.gd_base.specs.declared.object.Object.{Object}
 use Rattle.gd_model.specs.Shown.{above, is_gone, found_as}
 use Rattle.gd_reference.specs.Judging.{target_at, target}
 use Rattle.gd_view.specs.Seen.{seen, shown_at}

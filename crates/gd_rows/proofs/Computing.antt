@@ -17,8 +17,7 @@ use Rattle.gd_grammar.specs.Readers.{steps}
 use Rattle.gd_grammar.specs.Fields as fields
 use Rattle.gd_grammar.specs.Reading.{many_at}
 use Rattle.gd_grammar.specs.FieldBytes.{each_bytes}
-use Rattle.gd_grammar.specs.FrameBytes.{body_at, event_count_at, focus_at, frame, frame_at, frame_magic_at, frame_version_at, head_at, name_at, name_text_at, next_event_at, note_at, six_at}
-use Rattle.gd_grammar.specs.Fields.{half_at}
+use Rattle.gd_grammar.specs.FrameBytes.{body_at, event_count_at, focus_at, frame, frame_at, frame_magic_at, frame_version_at, half_at, head_at, name_at, name_text_at, next_event_at, note_at, six_at}
 use Rattle.gd_grammar.specs.Kinds as kinds
 use Rattle.gd_grammar.specs.LogBytes.{events_at, gated_bytes, log, record_at, step_at, turn_fault}
 use Rattle.gd_grammar.specs.HeaderBytes.{header_at, magic_at, sites_at, version_at}

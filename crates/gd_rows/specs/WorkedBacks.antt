@@ -3,15 +3,12 @@
 -- What takes an edit back is read off the drawing in front of the edit, and what takes that back off the drawing
 -- behind the edit. Drawings are worked from the events in the order of their stamps.
 use Rattle.std.specs.Prelude.{ℕ, pos, negsuc, true, false, List, [], ◌∷◌, ◌++◌, map, replicate, codes, Option, Some, None}
-use Rattle.gd_base.specs.Looks.{new_look, no_looks, only_fill, only_stroke, only_width}
 use Rattle.gd_base.specs.Stamps.{Stamp}
-use Rattle.gd_base.specs.declared.content.Content.TheVariants.{ToPlace, ToSize, ToLooks, ToText, ToFlag, ToEnds, ToRank}
+use Rattle.gd_base.specs.declared.content.Content.TheVariants.{ToPlace, ToSize, ToStroke, ToFill, ToWidth, ToText, ToFlag, ToRank}
 use Rattle.gd_base.specs.declared.content.Height.TheVariants.{At}
 use Rattle.gd_base.specs.declared.content.Side.TheVariants.{Bottom, Top}
-use Rattle.gd_base.specs.declared.look.Dash.TheVariants.{Solid, Dashed}
-use Rattle.gd_base.specs.declared.look.Heads.TheVariants.{Bare}
 use Rattle.gd_base.specs.declared.object.Link.{Link}
-use Rattle.gd_base.specs.Whole.{Object}
+use Rattle.gd_base.specs.declared.object.Object.{Object}
 use Rattle.gd_base.specs.declared.op.Op.TheVariants as op
 use Rattle.gd_base.specs.declared.rank.Rank.{Rank}
 use Rattle.gd_base.specs.declared.rank.Rank.TheVariants.{Low, High}
@@ -26,7 +23,7 @@ use Rattle.gd_lines.specs.declared.command.Turn.{Turn}
 use Rattle.gd_lines.specs.declared.command.Turn.TheVariants.{Undo, Redo}
 use Rattle.gd_lines.specs.declared.reply.Reply.{Reply}
 use Rattle.gd_lines.specs.declared.reply.Reply.TheVariants as reply
-use Rattle.gd_model.specs.Objects.{new_connector, new_group, new_shape}
+use Rattle.gd_model.specs.Objects.{new_group, new_shape}
 use Rattle.gd_reference.specs.Backs.{Backs}
 use Rattle.gd_reference.specs.NodeRun.{HeardLine, site_after}
 use Rattle.gd_reference.specs.SlowSite.{SlowSite, new_site}
@@ -165,9 +162,9 @@ dressing =
     (op.Create Rect (pos 1) (pos 2) (pos 3) (pos 4) (codes "old")
     ∷ new_rect (pos 20)
     ∷ new_rect (pos 40)
-    ∷ op.Set (at_stamp 1 1) (ToLooks (only_stroke 0x00AB0C))
-    ∷ op.Set (at_stamp 1 1) (ToLooks (only_fill (Some 0xFF8000)))
-    ∷ op.Set (at_stamp 1 1) (ToLooks (only_width 9))
+    ∷ op.Set (at_stamp 1 1) (ToStroke 0x00AB0C)
+    ∷ op.Set (at_stamp 1 1) (ToFill (Some 0xFF8000))
+    ∷ op.Set (at_stamp 1 1) (ToWidth 9)
     ∷ group_of 1 1 2 1
     ∷ move_to 7 1 100 200
     ∷ [])
@@ -189,9 +186,9 @@ abbrev pub dressed_backs : List Op
 dressed_backs =
     place_of 7 1 0 0
     ∷ op.Disband (at_stamp 7 1) (free 1 ∷ free 2 ∷ [])
-    ∷ op.Set (at_stamp 1 1) (ToLooks (only_width 1))
-    ∷ op.Set (at_stamp 1 1) (ToLooks (only_fill None))
-    ∷ op.Set (at_stamp 1 1) (ToLooks (only_stroke 0))
+    ∷ op.Set (at_stamp 1 1) (ToWidth 1)
+    ∷ op.Set (at_stamp 1 1) (ToFill None)
+    ∷ op.Set (at_stamp 1 1) (ToStroke 0)
     ∷ op.Delete (at_stamp 3 1)
     ∷ op.Delete (at_stamp 2 1)
     ∷ op.Delete (at_stamp 1 1)
@@ -201,7 +198,9 @@ dressed_backs =
 abbrev pub dressed_shape : Object
 dressed_shape =
     record (new_shape (at_stamp 1 1) Rect (pos 1) (pos 2) (pos 3) (pos 4) (codes "old")) {
-      look = record (new_look Bare) { stroke = 0x00AB0C; fill = Some 0xFF8000; width = 9 };
+      stroke = 0x00AB0C;
+      fill = Some 0xFF8000;
+      width = 9;
       link = Some (record { parent = at_stamp 7 1; dx = pos 0; dy = pos 0 });
     }
 
@@ -239,10 +238,6 @@ made_and_taken =
     ∷ taken (group_of 7 1 3 1)
     (op.Disband (at_stamp 9 1) (free 3 ∷ free 7 ∷ []))
     (op.Restore (at_stamp 9 1) (new_group (at_stamp 9 1)) (tied 3 9 0 0 ∷ tied 7 9 0 0 ∷ []))
-    -- a connector of a shape and a group
-    ∷ taken (op.Connect (record { from = at_stamp 1 1; to = at_stamp 7 1 }) (codes "new"))
-    (op.Delete (at_stamp 9 1))
-    (op.Restore (at_stamp 9 1) (new_connector (at_stamp 9 1) (record { from = at_stamp 1 1; to = at_stamp 7 1 }) (codes "new")) [])
     -- what is deleted goes back as it was, with its link and its rank
     ∷ taken (op.Delete shape) (op.Restore shape dressed_shape []) (op.Delete shape)
     ∷ taken (op.Delete group) (op.Restore group dressed_group []) (op.Delete group)
@@ -256,20 +251,16 @@ set_and_taken =
     ∷ taken (op.Set shape (ToSize (pos 5) (negsuc 5)))
     (op.Set shape (ToSize (pos 3) (pos 4)))
     (op.Set shape (ToSize (pos 5) (negsuc 5)))
-    ∷ taken (op.Set shape (ToLooks (only_stroke 7))) (op.Set shape (ToLooks (only_stroke 0x00AB0C))) (op.Set shape (ToLooks (only_stroke 7)))
-    ∷ taken (op.Set shape (ToLooks (only_fill None)))
-    (op.Set shape (ToLooks (only_fill (Some 0xFF8000))))
-    (op.Set shape (ToLooks (only_fill None)))
-    ∷ taken (op.Set lone (ToLooks (only_fill (Some 7)))) (op.Set lone (ToLooks (only_fill None))) (op.Set lone (ToLooks (only_fill (Some 7))))
-    ∷ taken (op.Set shape (ToLooks (only_width 7))) (op.Set shape (ToLooks (only_width 9))) (op.Set shape (ToLooks (only_width 7)))
+    ∷ taken (op.Set shape (ToStroke 7)) (op.Set shape (ToStroke 0x00AB0C)) (op.Set shape (ToStroke 7))
+    ∷ taken (op.Set shape (ToFill None))
+    (op.Set shape (ToFill (Some 0xFF8000)))
+    (op.Set shape (ToFill None))
+    ∷ taken (op.Set lone (ToFill (Some 7))) (op.Set lone (ToFill None)) (op.Set lone (ToFill (Some 7)))
+    ∷ taken (op.Set shape (ToWidth 7)) (op.Set shape (ToWidth 9)) (op.Set shape (ToWidth 7))
     ∷ taken (op.Set shape (ToText [])) (op.Set shape (ToText (codes "old"))) (op.Set shape (ToText []))
     ∷ taken (op.Set lone (ToText (codes "new")))
     (op.Set lone (ToText []))
     (op.Set lone (ToText (codes "new")))
-    -- several parts of a look, of which two are as the kind has them
-    ∷ taken (op.Set shape (ToLooks (record no_looks { stroke = Some 7; dash = Some Dashed; round = Some (Some 4); align = Some None })))
-    (op.Set shape (ToLooks (record no_looks { stroke = Some 0x00AB0C; dash = Some Solid; round = Some None; align = Some None })))
-    (op.Set shape (ToLooks (record no_looks { stroke = Some 7; dash = Some Dashed; round = Some (Some 4); align = Some None })))
     -- the group is whole again, and what was raised or lowered has the rank of its own stamp again
     ∷ taken (op.Set group (ToFlag true)) (op.Set group (ToFlag false)) (op.Set group (ToFlag true))
     ∷ taken (op.Set shape (ToRank Top)) (ranked 1 (High (at_stamp 1 1))) (ranked 1 (High (at_stamp 9 1)))
@@ -281,13 +272,9 @@ set_and_taken =
 abbrev pub unacceptable : List Edit
 unacceptable =
     move_to 9 9 0 0
-    ∷ op.Set group (ToLooks (only_width 7))
+    ∷ op.Set group (ToWidth 7)
     ∷ op.Set lone (ToFlag true)
     ∷ group_of 1 1 3 1
-    -- no such end, both ends the same, and a shape that is no connector
-    ∷ op.Connect (record { from = lone; to = at_stamp 9 9 }) []
-    ∷ op.Connect (record { from = lone; to = lone }) []
-    ∷ op.Set lone (ToEnds (Some (record { from = shape; to = group })))
     ∷ []
 
 -- ---- groups, one behind the other
@@ -520,8 +507,8 @@ restoring =
     ∷ Deliver 0
     ∷ at_one (Edits (move_to 1 1 5 5) ∷ Edits (op.Delete (at_stamp 1 1)) ∷ Turns Undo ∷ [])
     ++ world.At 2 (Edits (move_to 1 1 50 60))
-    ∷ world.At 2 (Edits (op.Set (at_stamp 1 1) (ToLooks (only_stroke 7))))
-    ∷ world.At 2 (Edits (op.Set (at_stamp 1 1) (ToLooks (only_fill (Some 7)))))
+    ∷ world.At 2 (Edits (op.Set (at_stamp 1 1) (ToStroke 7)))
+    ∷ world.At 2 (Edits (op.Set (at_stamp 1 1) (ToFill (Some 7))))
     ∷ Send 2 1
     ∷ Send 1 2
     ∷ []
@@ -530,10 +517,10 @@ abbrev pub late_move : Event
 late_move = event 2 2 1 (place_of 1 1 50 60)
 
 abbrev pub late_stroke : Event
-late_stroke = event 3 2 2 (op.Set (at_stamp 1 1) (ToLooks (only_stroke 7)))
+late_stroke = event 3 2 2 (op.Set (at_stamp 1 1) (ToStroke 7))
 
 abbrev pub late_fill : Event
-late_fill = event 4 2 3 (op.Set (at_stamp 1 1) (ToLooks (only_fill (Some 7))))
+late_fill = event 4 2 3 (op.Set (at_stamp 1 1) (ToFill (Some 7)))
 
 -- what site 1 puts back is what it had when it deleted it, before site 2's events came
 abbrev pub put_back : Event
@@ -568,7 +555,7 @@ restored_text =
 abbrev pub restored_backs : Backs
 restored_backs =
     backs_of
-    (op.Restore (at_stamp 1 1) (record (rect_of 1 1) { x = pos 5; y = pos 5; look = record (new_look Bare) { fill = Some 7 } }) []
+    (op.Restore (at_stamp 1 1) (record (rect_of 1 1) { x = pos 5; y = pos 5; fill = Some 7 }) []
     ∷ place_of 1 1 0 0
     ∷ op.Delete (at_stamp 1 1)
     ∷ [])
@@ -579,15 +566,15 @@ restored_backs =
 abbrev pub lost_backs : List (List Turn × Backs)
 lost_backs = (
   [],
-  backs_of (op.Set (at_stamp 1 1) (ToLooks (only_fill None)) ∷ op.Set (at_stamp 1 1) (ToLooks (only_stroke 0)) ∷ place_of 1 1 0 0 ∷ []) [],
+  backs_of (op.Set (at_stamp 1 1) (ToFill None) ∷ op.Set (at_stamp 1 1) (ToStroke 0) ∷ place_of 1 1 0 0 ∷ []) [],
 )
     ∷ (
       Undo ∷ Undo ∷ Undo ∷ [],
-      backs_of [] (place_of 1 1 5 5 ∷ op.Set shape (ToLooks (only_stroke 0)) ∷ op.Set shape (ToLooks (only_fill (Some 7))) ∷ []),
+      backs_of [] (place_of 1 1 5 5 ∷ op.Set shape (ToStroke 0) ∷ op.Set shape (ToFill (Some 7)) ∷ []),
     )
     ∷ (
       Undo ∷ Undo ∷ Undo ∷ Redo ∷ Redo ∷ Redo ∷ [],
-      backs_of (op.Set (at_stamp 1 1) (ToLooks (only_fill None)) ∷ op.Set (at_stamp 1 1) (ToLooks (only_stroke 0)) ∷ place_of 1 1 0 0 ∷ []) [],
+      backs_of (op.Set (at_stamp 1 1) (ToFill None) ∷ op.Set (at_stamp 1 1) (ToStroke 0) ∷ place_of 1 1 0 0 ∷ []) [],
     )
     ∷ []
 

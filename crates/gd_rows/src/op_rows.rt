@@ -1,13 +1,13 @@
 //! The operations of version three, computed on worked rows.
 #![tactic(auto, unfolding(crate::proofs::Computing::computing, crate::specs::WorkedOps::AllShort))]
 
-ghost use Rattle.std.specs.Prelude.{◌≡◌, ◌++◌, Ok, Err, IsOk, map};
+ghost use Rattle.std.specs.Prelude.{◌≡◌, Ok, Err, IsOk, map};
 ghost use Rattle.std.specs.List.{AllByRecursion};
 ghost use Rattle.gd_base.specs.declared.fault.LogWhy.TheVariants.{FutureId};
 ghost use Rattle.gd_grammar.specs.Drawings.{log, logged};
 ghost use Rattle.gd_json.specs.EventsJson.{event_json};
 ghost use Rattle.gd_rows.specs.Worked.{fault_at, header_three};
-ghost use Rattle.gd_rows.specs.WorkedOps.{AllShort, ChangesRead, disband_changes, disbanded_log, joined_events, joined_json, joined_log, own_group_log, reopen_changes, reopened_log, rerank_changes, reranked_log, restore_changes, restored_log, tag_rows, turned_events, turned_json, turned_log, whole_logs};
+ghost use Rattle.gd_rows.specs.WorkedOps.{AllShort, ChangesRead, disband_changes, disbanded_log, own_group_log, reopen_changes, reopened_log, rerank_changes, reranked_log, restore_changes, restored_log, tag_rows, turned_events, turned_json, turned_log, whole_logs};
 
 /// Each has its bytes, and is read from them. Each is written as one of a line of JSON.
 pub fn operations_are_read_and_written()
@@ -15,13 +15,6 @@ pub fn operations_are_read_and_written()
     ensures alone { AllByRecursion (λ bytes. IsOk (log bytes)) whole_logs }
     ensures written { logged header_three turned_events ≡ turned_log }
     ensures json { map event_json turned_events ≡ turned_json }
-{}
-
-/// So it is with those of connectors and looks behind them.
-pub fn connectors_and_looks_are_read_and_written()
-    ensures read { log joined_log ≡ Ok (header_three, joined_events) }
-    ensures written { logged header_three joined_events ≡ joined_log }
-    ensures json { map event_json joined_events ≡ turned_json ++ joined_json }
 {}
 
 /// Versions one and two have none of them.
@@ -37,7 +30,7 @@ pub fn a_changed_restore()
 
 /// A restore that is cut anywhere, or its check, is Short at its end.
 pub fn a_cut_restore_is_short()
-    ensures { AllShort restored_log 119 }
+    ensures { AllShort restored_log 108 }
 {}
 
 /// So it is with the fields of the others.

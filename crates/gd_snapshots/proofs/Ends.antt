@@ -15,8 +15,7 @@ use Rattle.gd_events.specs.Ops.{Done}
 use Rattle.gd_grammar.specs.Drawings as drawing
 use Rattle.gd_grammar.specs.EventBytes.{most_label_in, shape_at, label_at, colour_at, fill_at, width_at, count_at, member_id_at, parent_id_at}
 use Rattle.gd_grammar.specs.Fields.{byte_at, byte_within, clock_at, site_at, stamp_at, id_at, number_at, signed_at, word_at, label_within}
-use Rattle.gd_grammar.specs.FrameBytes.{frame_version_at, six_at}
-use Rattle.gd_grammar.specs.Fields.{half_at}
+use Rattle.gd_grammar.specs.FrameBytes.{frame_version_at, half_at, six_at}
 use Rattle.gd_grammar.specs.HeaderBytes.{magic_at, sites_at}
 use Rattle.gd_grammar.specs.Kinds.{event_at}
 use Rattle.gd_grammar.specs.ObjectBytes.{kind_rows, kind_at, thin_at, flag_rows, flag_at, parent_at, some_link_at, link_rows, link_at, given_at, rank_rows, rank_at, object_at}

@@ -18,7 +18,7 @@ use Rattle.gd_grammar.specs.Spelling.{fill_bytes, kind_byte, flag_byte, link_byt
 use Rattle.gd_grammar.proofs.DrawingKind.{newest-spelled}
 use Rattle.gd_grammar.proofs.SoundFields.{HasFields, sound-fields}
 use Rattle.gd_base.specs.declared.object.Link.{Link}
-use Rattle.gd_base.specs.Whole.{Object}
+use Rattle.gd_base.specs.declared.object.Object.{Object}
 use Rattle.gd_base.specs.declared.rank.Rank.{Rank}
 use Rattle.gd_base.specs.declared.rank.Rank.TheVariants.{Low, High}
 use Rattle.gd_snapshots.specs.SnapshotBytes.{head_bytes, known_bytes, placed_bytes}
@@ -68,13 +68,13 @@ tail-least front fill label link rank width dissolved four one eight =
       length-append front fill,
     )
 
-pub object-least : (o : Object) → 48 ≤ length (object_bytes o)
+pub object-least : (o : Object) → 37 ≤ length (object_bytes o)
 unfolding object_bytes
 object-least o =
     let front = kind_byte o.kind ∷ signed_bytes o.x ++ signed_bytes o.y ++ signed_bytes o.w ++ signed_bytes o.h ++ word_bytes o.stroke in
     tail-least front (fill_bytes o.fill) o.label (link_bytes o.link) (rank_bytes o.rank) o.width (flag_byte o.dissolved) (fill-length o.fill) (link-least o.link) (rank-length o.rank)
 
-pub placed-least : (p : Placed) → 55 ≤ length (placed_bytes p)
+pub placed-least : (p : Placed) → 44 ≤ length (placed_bytes p)
 placed-least p = omega (arith, length-append (stamp_bytes p.0) (object_bytes p.1), object-least p.1)
 
 -- ---- events

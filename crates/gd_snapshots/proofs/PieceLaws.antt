@@ -42,8 +42,8 @@ number_piece = piece 4 4 exact_word Steady-word (omega arith) (λ n s. omega ari
 pub id_piece : PieceLaws stamp_at 7
 id_piece = piece 7 7 exact_stamp Steady-stamp (omega arith) (λ id s. omega arith) end-stamp
 
-pub object_piece : PieceLaws (object_at None) 48
-object_piece = piece OBJECT_BYTES 48 exact_object (Steady-object None) (omega arith) (λ o s. object-least o) (end-object None)
+pub object_piece : PieceLaws (object_at None) 37
+object_piece = piece OBJECT_BYTES 37 exact_object (Steady-object None) (omega arith) (λ o s. object-least o) (end-object None)
 
 pub event_piece : PieceLaws event_at 17
 event_piece = piece EVENT_BYTES 17 exact_event Steady-event (omega arith) spelling-least end-event

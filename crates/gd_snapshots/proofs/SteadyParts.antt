@@ -5,8 +5,7 @@ use Rattle.std.specs.Int.{w16, w64, from_be_bytes}
 use Rattle.gd_base.specs.declared.fault.FieldWhy.TheVariants as why
 use Rattle.gd_base.specs.Results.{◌>>=◌}
 use Rattle.gd_grammar.specs.Fields.{byte_at, site_at, word_at}
-use Rattle.gd_grammar.specs.FrameBytes.{frame_version_at, six_at}
-use Rattle.gd_grammar.specs.Fields.{half_at}
+use Rattle.gd_grammar.specs.FrameBytes.{frame_version_at, half_at, six_at}
 use Rattle.gd_grammar.specs.HeaderBytes.{magic_at, sites_at}
 use Rattle.gd_grammar.specs.Reading.{fault_at, bytes_at, ranged}
 use Rattle.gd_grammar.specs.Steady.{Steady}

@@ -8,7 +8,7 @@ use Rattle.gd_base.specs.Ranks.{given_at}
 use Rattle.gd_base.specs.Stamps.{Stamp, IsStamp, is_before, is_same, stamp_cmp}
 use Rattle.gd_base.specs.Typed.{IsLinked}
 use Rattle.gd_base.specs.declared.object.Link.{Link}
-use Rattle.gd_base.specs.Whole.{Object}
+use Rattle.gd_base.specs.declared.object.Object.{Object}
 use Rattle.gd_base.specs.declared.rank.Rank.{Rank}
 use Rattle.gd_base.specs.declared.rank.Rank.TheVariants.{Low, High}
 use Rattle.gd_drawing.proofs.SoundObjects.{AreFieldsBefore, IsEntryBefore, board_before}

@@ -104,7 +104,7 @@ fn show(alloc: Global, site: &Site) -> Result<Replies, WorldFault>
     let items = picture.as_slice();
     let mut replies = Replies::new(alloc);
     for item in items {
-        replies.push(Reply::Item { item: item.share()? })?;
+        replies.push(Reply::Item { item: item.copy() })?;
     }
     replies.push(Reply::End {
         count: items.len() as u64,
