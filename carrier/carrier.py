@@ -92,13 +92,13 @@ class Carrier:
 
     # Out.
 
-    def sent(self, to, frame):
-        """The node sent a frame."""
+    def sent(self, to, window):
+        """The node sent a window of frames."""
         if self.broker.up and self.runs() and to not in self.barred:
-            if self.paces[to].takes(frame, time.monotonic()):
+            going = self.paces[to].takes(window, time.monotonic())
+            for frame in going:
                 self.send(to, FRAME, frame)
-            else:
-                self.counts["kept"] += 1
+            self.counts["kept"] += len(window) - len(going)
 
     def send(self, to, kind, content):
         """Seals a content for a seat and sends it, where there is a connection; says whether there is one."""

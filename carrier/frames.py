@@ -65,6 +65,11 @@ def count_of(frame):
     return int.from_bytes(frame[COUNT], "big")
 
 
+def head_of(frame):
+    """What all frames have in common that a node sends to one seat in one poll."""
+    return frame[: HEAD.size + CHECKSUM.size]
+
+
 def closing(session, sender, to, count, check):
     """A frame that says that a seat has so many records, which have that check, and never more."""
     return frame(session, sender, to, [], count, LAST_CLOCK, check)

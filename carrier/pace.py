@@ -1,6 +1,6 @@
-"""When a frame for a seat goes out: one with something new at once, and the same again ever more seldom."""
+"""When frames for a seat go out: with something new at once, and the same again ever more seldom."""
 
-# Seconds until the same frame goes out again: at first, and at most. A seat that isn't there is only sent one so often.
+# Seconds until the same frames go out again: at first, and at most. A seat that isn't there is only sent one so often.
 FIRST, LONGEST = 1.0, 10.0
 # Where a frame says how many events its seat has, its clock, and the check of these. One that has nothing else new but its checksum
 # tells a seat what it may be sure of, which can wait so long.
@@ -9,16 +9,16 @@ BEAT, CHECKSUM, BETWEEN = slice(13, 25), 4, 0.5
 GONE = 2.5 * LONGEST
 
 
-def news_of(frame):
-    """What of a frame goes out at once where it is new: acknowledgement, note and events."""
-    return frame[: BEAT.start] + frame[BEAT.stop : -CHECKSUM]
+def news_of(window):
+    """What of frames goes out at once where it is new: acknowledgement, note and events."""
+    return [frame[: BEAT.start] + frame[BEAT.stop : -CHECKSUM] for frame in window]
 
 
 class Pace:
     """What was sent to one seat, and when it was heard. All times are seconds of one clock that is handed in."""
 
     def __init__(self):
-        self.frame, self.sent_at, self.due_at, self.pause, self.heard_at = b"", float("-inf"), float("-inf"), FIRST, None
+        self.window, self.sent_at, self.due_at, self.pause, self.heard_at = [], float("-inf"), float("-inf"), FIRST, None
 
     def is_here(self, now):
         """Whether the seat was heard lately."""
@@ -37,17 +37,18 @@ class Pace:
         self.heard_at = None
 
     def again(self):
-        """What was sent may be lost: the next frame goes out at once."""
-        self.frame, self.due_at, self.pause = b"", float("-inf"), FIRST
+        """What was sent may be lost: the next frames go out at once."""
+        self.window, self.due_at, self.pause = [], float("-inf"), FIRST
 
-    def takes(self, frame, now):
-        """Whether a frame goes out now. It has then been sent."""
-        is_new = news_of(frame) != news_of(self.frame) or (frame != self.frame and now - self.sent_at >= BETWEEN)
+    def takes(self, window, now):
+        """Those of a poll's frames that go out now: all, none, or the first one alone where the seat isn't there. They have then
+        been sent."""
+        is_new = news_of(window) != news_of(self.window) or (window != self.window and now - self.sent_at >= BETWEEN)
         if self.is_here(now) and is_new:
             self.pause = FIRST
         elif now >= self.due_at:
             self.pause = min(2 * self.pause, LONGEST) if self.is_here(now) else LONGEST
         else:
-            return False
-        self.frame, self.sent_at, self.due_at = frame, now, now + self.pause
-        return True
+            return []
+        self.window, self.sent_at, self.due_at = window, now, now + self.pause
+        return window if self.is_here(now) else window[:1]

@@ -3,6 +3,8 @@
 import asyncio
 import socket
 
+from carrier.frames import head_of
+
 HERE = "127.0.0.1"
 # A datagram has at most so many bytes, and one more tells that it has too many.
 MOST_DATAGRAM = 1_200
@@ -25,7 +27,7 @@ def free_port():
 
 
 class Ways:
-    """The sockets of all other seats. `sent` is called with a seat and the newest frame that the node sent to it."""
+    """The sockets of all other seats. `sent` is called with a seat and the frames that the node sent to it last."""
 
     def __init__(self, seat, seats, sent):
         self.sent, self.loop, self.seat, self.seats = sent, asyncio.get_running_loop(), seat, seats
@@ -46,18 +48,20 @@ class Ways:
         return self.sockets[seat].getsockname()[1]
 
     def read(self, seat, way):
-        """Takes all that lies there. A frame has all that the frames before it had and wasn't acknowledged, so the last one
-        alone goes on."""
-        newest = None
+        """Takes all that lies there. The frames of the last poll go on, each once: they have all that those of earlier polls had and
+        wasn't acknowledged, and what the node sends twice for links that lose is sent once here."""
+        window = {}
         for _ in range(MOST_READ):
             try:
                 data, source = way.recvfrom(MOST_DATAGRAM + 1)
             except OSError:
                 break
             if source == self.node and len(data) <= MOST_DATAGRAM:
-                newest = data
-        if newest is not None:
-            self.sent(seat, newest)
+                if window and head_of(data) != head_of(next(iter(window))):
+                    window = {}
+                window[data] = None
+        if window:
+            self.sent(seat, list(window))
 
     def deliver(self, seat, data):
         """Hands the node a datagram from a seat. It may be lost, as datagrams may be, and is where the seat is held back."""

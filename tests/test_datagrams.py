@@ -130,12 +130,14 @@ class Longest(Case):
         self.assertEqual((node.text, node.status), (f"ready 1 of 2\n{printed}", DONE))
 
     def acknowledged(self, node, peer, made):
-        """All frames that a node sends to a peer that has nothing since so many events, and then acknowledges what came."""
+        """The first frame of each poll that a node sends to a peer that has nothing since so many events, and acknowledges each."""
         sent, held = [], made
         while not sent or sent[-1][-1]:
+            node.ask("status")
+            peer.received()
             peer.send(node, frame(sender=1, to=2, held=held))
             self.assertEqual(node.ask("poll"), ["polled 1"])
-            datagram = peer.received()[-1]
+            datagram = peer.received()[0]
             sent.append((datagram, frame_events(datagram)))
             held += len(sent[-1][-1])
         return sent[:-1], held

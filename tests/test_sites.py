@@ -217,10 +217,31 @@ class Told(Case):
                 peers[site].received()
                 peers[site].send(node, frame(sender=site, held=said))
                 self.assertEqual(node.ask("poll"), ["polled 1"])
-                told = frame(events[known : known + 40], sender=1, to=site, count=60, clock=60, check=chain(events))
-                self.assertEqual(peers[site].received(), [told], (site, said))
+                starts = range(known, max(known + 1, 60), 40)
+                told = [frame(events[start:][:40], sender=1, to=site, count=60, clock=60, check=chain(events)) for start in starts]
+                self.assertEqual(peers[site].received(), told * len(told), (site, said))
             peers[2].send(node, frame(held=61))
             self.assertEqual(node.ask("poll"), ["frame refused: OverAck 61 60", "polled 1"])
+
+    # Of 45 moves each, to site 2 alone, since of site 3 nothing came.
+    def test_a_window_has_24_frames_and_8_of_them_once_more(self):
+        moves = [((clock, 1), clock, ("move", (1, 1), clock, 0)) for clock in range(2, 1202)]
+        events = [square((1, 1), 1), *moves]
+        head = {"sender": 1, "count": 1201, "clock": 1201, "check": chain(events)}
+        told = {to: [frame(events[start:][:45], to=to, **head) for start in range(0, 1080, 45)] for to in (2, 3)}
+        with started((1, 3)) as (node, peers):
+            self.assertTrue(node.is_ready())
+            self.assertEqual(node.ask("create rect 0 0 10 10"), ["ok 1.1"])
+            for start in range(0, 1200, 400):
+                lines = [f"move 1.1 {clock} 0" for ((clock, _), _, _) in moves[start : start + 400]]
+                node.ask("\n".join(["begin", *lines, "end"]))
+            node.ask("status")
+            for peer in peers.values():
+                peer.received()
+            peers[2].send(node, frame(held=0))
+            self.assertEqual(node.ask("poll"), ["polled 1"])
+            self.assertEqual(peers[2].received(), [*told[2], *told[2][:8]])
+            self.assertEqual(peers[3].received(), told[3][:1])
 
     # Older events fill the frame for site 2, and site 3 has got them. An edit goes to site 3 alone, and the next poll sends the older
     # ones. A delete is short enough to go to both.

@@ -4,6 +4,7 @@ import asyncio
 import socket
 import unittest
 
+from carrier.frames import frame
 from carrier.ways import HERE, MOST_DATAGRAM, Ways
 from page.tests.places import until
 
@@ -31,12 +32,18 @@ class WaysOfANode(unittest.IsolatedAsyncioTestCase):
             self.assertEqual(self.node.recvfrom(100), (b"from %d" % seat, self.to(seat)))
             self.assertEqual(addresses[seat - 1], f"{HERE}:{self.ways.port(seat)}")
 
-    async def test_the_newest_frame_alone_goes_on(self):
-        for text in (b"old", b"older", b"new"):
-            self.node.sendto(text, self.to(5))
-        self.node.sendto(b"other", self.to(6))
+    # Of two polls, one behind the other, between which the node took a frame: those of the later one, each once.
+    async def test_the_frames_of_the_newest_poll_alone_go_on(self):
+        def made(clock, *numbers):
+            records = [bytes(7) + number.to_bytes(2, "big") + b"op" for number in numbers]
+            return frame(7, 2, 5, records, 9, clock, 0)
+
+        old, new, other = [made(8, 1, 2), made(8, 3, 4)], [made(9, 2, 3), made(9, 4), made(9, 5, 6)], [made(9)]
+        for each in [*old, *new, *new[:2]]:
+            self.node.sendto(each, self.to(5))
+        self.node.sendto(other[0], self.to(6))
         await until(lambda: len(self.sent) == 2)
-        self.assertEqual(sorted(self.sent), [(5, b"new"), (6, b"other")])
+        self.assertEqual(sorted(self.sent), [(5, new), (6, other)])
 
     async def test_what_another_sends_and_what_is_too_long_goes_nowhere(self):
         with socket.socket(socket.AF_INET, socket.SOCK_DGRAM) as stranger:
@@ -44,7 +51,7 @@ class WaysOfANode(unittest.IsolatedAsyncioTestCase):
         self.node.sendto(bytes(MOST_DATAGRAM + 1), self.to(6))
         self.node.sendto(bytes(MOST_DATAGRAM), self.to(7))
         await until(lambda: self.sent)
-        self.assertEqual(self.sent, [(7, bytes(MOST_DATAGRAM))])
+        self.assertEqual(self.sent, [(7, [bytes(MOST_DATAGRAM)])])
 
     async def test_a_node_that_isn_t_there_costs_nothing(self):
         self.node.close()

@@ -27,7 +27,7 @@ use Rattle.gd_reference.specs.Judging.{edit, with_event}
 use Rattle.gd_reference.specs.NodeRun.{HeardLine, NodeState, ReadLine, after_command, after_line_alone, after_line_of, after_line_within, answers, at_rest, in_gesture, node_manner, site_after, with_waiting}
 use Rattle.gd_reference.specs.SlowSite.{SlowSite}
 use Rattle.gd_reference.specs.TakeBack.{Asked, BackRefusal, after_edit, after_gesture, after_turn, backs_of, events_in, made, turn, with_events, with_made, with_turned}
-use Rattle.gd_reference.specs.World.{Line, Edits, Focuses, Names, Prints, Turns, Step, At, Deliver, Restart, Send, Unfinished, Editing, Nothing, Taking, Turning, World, after_from, after_line, after_unfinished, happens, restarted, start, with_site}
+use Rattle.gd_reference.specs.World.{Line, Edits, Focuses, Names, Prints, Turns, Step, At, Deliver, Restart, Send, SendBehind, Unfinished, Editing, Nothing, Taking, Turning, World, after_from, after_line, after_unfinished, happens, restarted, start, with_site}
 use Rattle.gd_worlds.specs.Churn.{Churning, churned, ids_made, new_churning, rounded, rounds_to_all, step, stepped, times, with_drawn, with_idle, with_line, with_reply}
 use Rattle.gd_worlds.specs.Rehearsal.{HeardScript, ReadScript, after_script, rehearsal_effects, rehearsal_manner, script_replies, script_work, told_by}
 
@@ -215,6 +215,7 @@ unfinished-drawn w site (Taking mail) = refl
 unfoldable pub step_drawn : World → Step → World
 step_drawn w (At site line) = if is_site w.sites site then with_site w site (line_drawn (w.at site) line) else w
 step_drawn w (Send from to) = happens w (Send from to)
+step_drawn w (SendBehind from to start) = happens w (SendBehind from to start)
 step_drawn w (Deliver mail) = happens w (Deliver mail)
 step_drawn w (Restart site stored unfinished) =
     if is_site w.sites site
@@ -226,6 +227,7 @@ unfolding happens step_drawn
 step-drawn w (At site line) =
     ap (λ (s : SlowSite). if is_site w.sites site then with_site w site s else w) (line-drawn (w.at site) line)
 step-drawn w (Send from to) = refl
+step-drawn w (SendBehind from to start) = refl
 step-drawn w (Deliver mail) = refl
 step-drawn w (Restart site stored unfinished) =
     ap (λ (s : SlowSite). if is_site w.sites site then with_site w site (restarted (w.at site) stored s) else w)

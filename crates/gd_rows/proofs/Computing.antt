@@ -43,8 +43,8 @@ use Rattle.gd_reference.specs.Dialogues.{answered, end_of_lines, state_after}
 use Rattle.gd_reference.specs.Fitting.{fitting, frame_count}
 use Rattle.gd_reference.specs.InputLines.{heard, lines_of, whole_lines}
 use Rattle.gd_reference.specs.Judging.{are_apart, by_id, edit, judged, targets}
-use Rattle.gd_reference.specs.NodeRun.{node_lines, of_received, received, who_behind}
-use Rattle.gd_reference.specs.Offers.{all_arrived, frame_for, offered, offers, refusal, shows_parting, take_frame, verdict, verdict_by}
+use Rattle.gd_reference.specs.NodeRun.{node_lines, of_received, received, senders, who_behind}
+use Rattle.gd_reference.specs.Offers.{all_arrived, frame_behind, further_frames, offered, offers, refusal, shows_parting, take_frame, verdict, verdict_by}
 use Rattle.gd_reference.specs.PerSite.{least_of_others, put}
 use Rattle.gd_reference.specs.Rejoin.{found}
 use Rattle.gd_reference.specs.SiteEffects.{asked_replies, events_replies, taken, tries_behind, works_of}
@@ -75,7 +75,7 @@ lines_compute = tt
 
 -- drawings, sites, worlds and runs
 unfoldable pub sites_compute : ⊤
-unfolding stamp_cmp level_cmp rank_cmp inserted_by covers independent splice are_apart by_id edit judged targets heard lines_of whole_lines answered end_of_lines state_after node_lines of_received received who_behind all_arrived frame_for offered offers refusal shows_parting take_frame verdict verdict_by fitting frame_count least_of_others put asked_replies events_replies taken works_of tries_behind greatest_clock made_by parted_behind resumed events_before events_upto found tally_from after_edit after_gesture after_turn backs_of done made turn with_events apply back after_from after_line happens with_site
+unfolding stamp_cmp level_cmp rank_cmp inserted_by covers independent splice are_apart by_id edit judged targets heard lines_of whole_lines answered end_of_lines state_after node_lines of_received received senders who_behind all_arrived frame_behind further_frames offered offers refusal shows_parting take_frame verdict verdict_by fitting frame_count least_of_others put asked_replies events_replies taken works_of tries_behind greatest_clock made_by parted_behind resumed events_before events_upto found tally_from after_edit after_gesture after_turn backs_of done made turn with_events apply back after_from after_line happens with_site
 sites_compute = tt
 
 -- rehearsals and churn

@@ -6,11 +6,14 @@ use Rattle.gd_base.specs.declared.op.Op.TheVariants as op
 use Rattle.gd_base.specs.declared.shape.Shape.TheVariants.{Rect}
 use Rattle.gd_effects.specs.Effects.{Effect, Print, Record, Try, Work}
 use Rattle.gd_events.specs.Events.{Event}
-use Rattle.gd_grammar.specs.FrameBytes.{Frame}
+use Rattle.gd_base.specs.Notes.{no_note}
+use Rattle.gd_grammar.specs.FrameBytes.{Frame, frame_bytes}
 use Rattle.gd_lines.specs.Edits.{Edit}
+use Rattle.gd_outside.specs.Seen.{Entry, Packet}
 use Rattle.gd_reference.specs.PerSite.{put}
 use Rattle.gd_reference.specs.SlowSite.{SlowSite, new_site}
 use Rattle.gd_rows.specs.Worked.{at_stamp, event}
+use Rattle.gd_rows.specs.WorkedBacks.{tied}
 use Rattle.gd_rows.specs.WorkedGestures.{move_row}
 use Rattle.gd_rows.specs.WorkedInputs.{letters}
 use Rattle.gd_rows.specs.WorkedNodes.{delete_event}
@@ -130,3 +133,61 @@ deleted_effects =
     ∷ Try 2 (seventh_row 2 deleted_check 7 (held_rows ++ deleted_row ++ 210 ∷ 56 ∷ 151 ∷ 147 ∷ []))
     ∷ Try 3 (seventh_row 3 deleted_check 1 (deleted_row ++ 56 ∷ 2 ∷ 81 ∷ 238 ∷ []))
     ∷ []
+
+-- ---- the frames of a poll
+
+-- Site 1 of 3, which has made a rect of 30 bytes and six labels, of which five fit into a frame. Site 2 says in a frame
+-- that it holds the rect; before that a frame of site 3 comes, of another session.
+abbrev pub lagging_site : SlowSite
+lagging_site = record (new_site 1 3 7) { held = lettered 2 ∷ labels ++ long_label 7 ∷ [] }
+
+abbrev pub lagging_frame : Frame
+lagging_frame = let none = frame_of 0 0 0 [] in record none { head = record none.head { ack = 1 } }
+
+abbrev pub lagging_entries : List Entry
+lagging_entries =
+    Packet (frame_bytes (record lagging_frame { head = record lagging_frame.head { session = 8; from = 3 } }))
+    ∷ Packet (frame_bytes lagging_frame)
+    ∷ []
+
+-- the site's frame for another one, with these events
+abbrev pub lagging_frame_to : ℕ → List Event → Frame
+lagging_frame_to to events =
+    record {
+      head = record { session = 7; from = 1; to = to; ack = 0; count = 7; clock = 7; check = 0xFD1E8B32 };
+      note = no_note;
+      events = events;
+    }
+
+-- A poll takes the frame of site 2 alone. So it sends that one the five labels that fit, then the last one, and both frames
+-- once more. Site 3 is sent one frame, though an event is left.
+abbrev pub lagging_effects : List Effect
+lagging_effects =
+    Print (codes "frame refused: Session\n")
+    ∷ Try 2 (frame_bytes (lagging_frame_to 2 labels))
+    ∷ Try 2 (frame_bytes (lagging_frame_to 2 (long_label 7 ∷ [])))
+    ∷ Try 2 (frame_bytes (lagging_frame_to 2 labels))
+    ∷ Try 2 (frame_bytes (lagging_frame_to 2 (long_label 7 ∷ [])))
+    ∷ Try 3 (frame_bytes (lagging_frame_to 3 (lettered 2 ∷ labels)))
+    ∷ Print (codes "polled 2\n")
+    ∷ []
+
+-- so many events of site 1, from that number on, of which no two fit into a frame
+abbrev pub wide_from : ℕ → ℕ → List Event
+wide_from first zero = []
+wide_from first (suc count) =
+    event first 1 first (op.Disband (at_stamp 1 1) (replicate 32 (tied 1 1 0 0))) ∷ wide_from (first + 1) count
+
+-- site 1 of 2, which has made so many
+abbrev pub wide_site : ℕ → SlowSite
+wide_site count = record (new_site 1 2 7) { held = wide_from 1 count }
+
+abbrev pub numbers_of : Frame → List ℕ
+numbers_of f = map (λ e. e.number) f.events
+
+-- of 25: those of 24 frames in turn, and of the first eight once more
+abbrev pub wide_numbers : List (List ℕ)
+wide_numbers =
+    map (λ number. number ∷ [])
+    (1 ∷ 2 ∷ 3 ∷ 4 ∷ 5 ∷ 6 ∷ 7 ∷ 8 ∷ 9 ∷ 10 ∷ 11 ∷ 12 ∷ 13 ∷ 14 ∷ 15 ∷ 16 ∷ 17 ∷ 18 ∷ 19 ∷ 20 ∷ 21 ∷ 22 ∷ 23 ∷ 24
+    ∷ 1 ∷ 2 ∷ 3 ∷ 4 ∷ 5 ∷ 6 ∷ 7 ∷ 8 ∷ [])

@@ -1,5 +1,5 @@
 -- Whether a frame shows a parting, and that a site notes one.
-use Rattle.std.proofs.Common.{◌≡◌, ◌∙◌, ℕ, suc, ◌+◌, ◌-◌, ◌≤◌, Bool, false, cond, List, [], ◌∷◌, length, get_or-set_same, get_or-set_other, Option, None, Some, Ok, Err, IsTrue, refl, sym, ap, subst, arith, eqb-true, ◌==◌, nat_le, nat_lt}
+use Rattle.std.proofs.Common.{◌≡◌, ◌∙◌, ℕ, suc, ◌+◌, ◌≤◌, Bool, false, cond, List, [], ◌∷◌, length, get_or-set_same, get_or-set_other, Option, None, Some, Ok, Err, IsTrue, refl, sym, ap, subst, arith, eqb-true, ◌==◌, nat_le, nat_lt}
 use Rattle.std.proofs.lemmas.Bool.{and_parts, leb-false}
 use Rattle.gd_base.proofs.SiteLemmas.{is_site-bounds}
 use Rattle.gd_base.specs.Sites.{IsSite, is_site}

@@ -18,9 +18,9 @@ use Rattle.gd_grammar.specs.declared.frame.Head.{Head}
 use Rattle.gd_lines.specs.declared.command.ScriptLine.TheVariants as script
 use Rattle.gd_lines.specs.declared.reply.Reply.{Reply}
 use Rattle.gd_model.specs.Arrivals.{outcome_of}
-use Rattle.gd_protocol.proofs.Interleavings.{all_in_turn, all_taken}
+use Rattle.gd_protocol.proofs.Interleavings.{all_on_time, all_taken}
 use Rattle.gd_protocol.specs.Kept.{IsMail}
-use Rattle.gd_protocol.specs.Laws.{IsInTurn}
+use Rattle.gd_protocol.specs.Laws.{IsOnTime}
 use Rattle.gd_reference.specs.Offers.{arrived, offer, offers, take_frame}
 use Rattle.gd_reference.specs.SiteEffects.{echo, events_replies, frame_replies, offer_replies, verdict_replies}
 use Rattle.gd_reference.specs.SlowSite.{SlowSite}
@@ -45,13 +45,13 @@ echo_is e applied = tt
 echo_is e (dropped c) = tt
 echo_is e (reworked cs) = tt
 
-echo_offer : (held : List Event) (e : Event) (o : Offer) → IsInTurn o → AllByRecursion IsEcho (offer_replies held e o)
+echo_offer : (held : List Event) (e : Event) (o : Offer) → IsOnTime o → AllByRecursion IsEcho (offer_replies held e o)
 echo_offer held e Next h = (echo_is e (outcome_of held e), tt)
 echo_offer held e Repeat h = tt
 echo_offer held e Gap h = tt
 echo_offer held e (Backdated clock sure) h = absurd h
 
-echo_events : (slow : SlowSite) (es : List Event) → AllByRecursion IsInTurn (offers slow es) → AllByRecursion IsEcho (events_replies slow es)
+echo_events : (slow : SlowSite) (es : List Event) → AllByRecursion IsOnTime (offers slow es) → AllByRecursion IsEcho (events_replies slow es)
 unfolding offers events_replies
 echo_events slow [] h = tt
 echo_events slow (e ∷ es) h =
@@ -91,12 +91,12 @@ module _ (w : World) (v : WorldValue) (st : StandsFor w v) (number : ℕ) (f : F
   pub within : (1 ≤ f.head.to) × (f.head.to ≤ length v.members)
   within = is_site-bounds (length v.members) f.head.to inside
 
-  -- it is taken, and each event of it is the next one or a repeat
+  -- it is taken, and none of its events is backdated
   echoes : (rs : List Reply) → rs ≡ frame_replies (w.at f.head.to) f → AllByRecursion IsEcho rs
   echoes rs said =
       let at = found w f number is_mail in
       let taken = ap (verdict_replies (w.at f.head.to) f) (all_taken w (kept w v st) at.0 f at.2) in
-      subst (AllByRecursion IsEcho) (sym (said ∙ taken)) (echo_events (w.at f.head.to) f.events (all_in_turn w (kept w v st) at.0 f at.2))
+      subst (AllByRecursion IsEcho) (sym (said ∙ taken)) (echo_events (w.at f.head.to) f.events (all_on_time w (kept w v st) at.0 f at.2))
 
 -- a mail of that number, the place of its receiver, and the member there
 pub record IsHanded (v : WorldValue) (number : ℕ) (f : Frame) (place : ℕ) (member : Member) : Type 0 where

@@ -11,10 +11,10 @@ use Rattle.gd_grammar.specs.FrameBytes.{Frame, frame_bytes}
 use Rattle.gd_lines.specs.declared.command.Command.TheVariants as command
 use Rattle.gd_lines.specs.declared.reply.Reply.{Reply}
 use Rattle.gd_model.specs.Arrivals.{cost_of}
-use Rattle.gd_reference.specs.NodeRun.{of_received, received}
-use Rattle.gd_reference.specs.Offers.{arrived, brought, frame_for, offer, verdict}
+use Rattle.gd_reference.specs.NodeRun.{of_received, received, senders}
+use Rattle.gd_reference.specs.Offers.{arrived, brought, frame_for, offer, verdict, window}
 use Rattle.gd_reference.specs.Said.{all_said}
-use Rattle.gd_reference.specs.SiteEffects.{events_replies, of_frame, of_own, of_verdict, recording, taken, taken_as, tries, tries_behind, tries_with, try_for, try_with, verdict_replies, works_of}
+use Rattle.gd_reference.specs.SiteEffects.{events_replies, is_among, of_frame, of_own, of_verdict, recording, taken, taken_as, tries, tries_behind, tries_for, tries_of, tries_with, try_for, try_with, verdict_replies, works_of}
 use Rattle.gd_reference.specs.SlowSite.{SlowSite, own}
 use Rattle.gd_reference.specs.TakeBack.{with_events}
 use Rattle.gd_world.specs.Telling.{work_of}
@@ -52,8 +52,19 @@ unfolding tries_behind
 none_behind try none site zero = refl
 none_behind try none site (suc k) = none_both (try (site + 1)) (tries_behind try (site + 1) k) (none (site + 1)) (none_behind try none (site + 1) k)
 
-none_tried : (slow : SlowSite) → filter is_work (tries slow) ≡ []
-none_tried slow = none_behind (try_for slow) (none_for slow) 0 slow.sites
+none_of : (to : ℕ) (frames : List Frame) → filter is_work (tries_of to frames) ≡ []
+none_of to [] = refl
+none_of to (f ∷ fs) = none_of to fs
+
+none_window : (slow : SlowSite) (heard : List ℕ) (to : ℕ) → filter is_work (tries_for slow heard to) ≡ []
+none_window slow heard to = by (to == slow.me)
+  where
+    by : (own : Bool) → filter is_work (cond own [] (tries_of to (window slow (is_among heard to) to))) ≡ []
+    by true = refl
+    by false = none_of to (window slow (is_among heard to) to)
+
+none_tried : (slow : SlowSite) (heard : List ℕ) → filter is_work (tries slow heard) ≡ []
+none_tried slow heard = none_behind (tries_for slow heard) (none_window slow heard) 0 slow.sites
 
 none_tried_with : (slow : SlowSite) (es : List Event) → filter is_work (tries_with slow es) ≡ []
 none_tried_with slow [] = refl
@@ -63,8 +74,8 @@ none_tried_with slow (e ∷ es) =
 
 -- a world has no link, and a poll there takes nothing in
 pub none_polled : (slow : SlowSite) → work_of slow command.Poll ≡ []
-unfolding of_received received
-none_polled slow = none_both (tries slow) _ (none_tried slow) refl
+unfolding of_received received senders
+none_polled slow = none_both (tries slow []) _ (none_tried slow []) refl
 
 -- ---- what takes steps
 

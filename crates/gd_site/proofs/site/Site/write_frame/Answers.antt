@@ -1,49 +1,14 @@
-use Rattle.std.proofs.Common.{arith}
-use Rattle.gd_site.proofs.Framing.{framed_bytes, framed_brought, frame_good}
+use Rattle.std.proofs.Common.{ℕ, ap, ◌∙◌}
+use Rattle.gd_grammar.specs.FrameBytes.{frame_bytes}
+use Rattle.gd_reference.specs.Offers.{brought_behind, frame_behind}
 use Rattle.gd_site.proofs.site.Site.write_frame.Goals as goal
 
-pub write_frame-requires : goal.write_frame-requires
-write_frame-requires c =
-    let i = c.self.invariant in
-    let other = rw (← c.self.view_is) at c.requires in
-    (frame_good i.slow _ i.stands c.args.to other).head.clock
-
-pub at-requires-clause-above : goal.at-requires-clause-above
-at-requires-clause-above c = rw c.me-me.ensures c.self.invariant.peers.me_from
-
-pub at-requires-clause-below : goal.at-requires-clause-below
-at-requires-clause-below c =
-    let sized = c.self.invariant.peers in
-    rw c.me-me.ensures (omega (arith, sized.me_to, sized.sites_to))
-
 pub returns-clause-bytes : goal.returns-clause-bytes
-returns-clause-bytes c =
-    let other = rw (← c.self.view_is) at c.requires in
-    rw (← c.self.view_is)
-    (λ slow stands.
-    framed_bytes _ c.args.to c.me-me.result c.held.result c.at.result c.get.result c.acked-acked.result
-    c.after-events.result
-    (record {
-      me_is = c.me-me.ensures;
-      ack_is = c.held.ensures;
-      check_is = c.at.ensures;
-      note_is = c.get.ensures.note;
-      acked_is = c.acked-acked.ensures;
-      events_are = c.after-events.ensures;
-    }) slow stands other c.write_frame.new.out c.write_frame.ensures)
+returns-clause-bytes c slow stands =
+    c.write_frame_behind.ensures.bytes slow stands
+    ∙ ap (λ (k : ℕ). frame_bytes (frame_behind slow c.args.to k)) (c.acked.ensures.slow slow stands)
 
 pub returns-clause-brought : goal.returns-clause-brought
-returns-clause-brought c =
-    let other = rw (← c.self.view_is) at c.requires in
-    rw (← c.self.view_is, c.from.ensures, c.from-2.ensures, c.count.ensures)
-    (λ slow stands.
-    framed_brought _ c.args.to c.me-me.result c.held.result c.at.result c.get.result c.acked-acked.result
-    c.after-events.result
-    (record {
-      me_is = c.me-me.ensures;
-      ack_is = c.held.ensures;
-      check_is = c.at.ensures;
-      note_is = c.get.ensures.note;
-      acked_is = c.acked-acked.ensures;
-      events_are = c.after-events.ensures;
-    }) slow stands other)
+returns-clause-brought c slow stands =
+    c.write_frame_behind.ensures.brought slow stands
+    ∙ ap (λ (k : ℕ). brought_behind slow c.args.to k) (c.acked.ensures.slow slow stands)
