@@ -256,6 +256,7 @@ class Others(WithUndo):
     def test_what_the_other_one_set_since_goes_with_it_which_is_said_and_comes_back_with_a_redo(self):
         first, second = self.make(self.one, "create rect 300 200 100 60", "create rect 500 200 100 60", select=True)
         self.typed_by(self.one, lambda: self.one.drag((350, 200), (360, 230), hold=["ctrl"]))
+        self.assert_seen(second, x=510, y=230)
         self.typed_by(self.two, lambda: self.two.do("ed.edits.do('m', [`move ${arguments[0]} 700 500`])", first))
         self.assert_seen(first, x=700)
         wait_for(lambda: self.one.ask("ed.node.events.at(-1).site") == 2)

@@ -1,12 +1,12 @@
 use crate::card::Card;
 use crate::op::CardChange;
-use gd_base::Title;
+use gd_base::Label;
 
 /// What an operation does to the card of its id. The definitions and the code go by these three forms.
 #[derive(Drop)]
 pub enum Form {
     /// The card that is there is changed.
-    Changes(CardChange<Title>),
+    Changes(CardChange<Label>),
     /// The card stands there, where none does.
     Puts(Card),
     /// The card that is there goes.

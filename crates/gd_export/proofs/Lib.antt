@@ -1,4 +1,3 @@
 pub mod Marks
 pub mod Spelled
 pub mod Begin
-pub mod Puts

@@ -3,7 +3,6 @@
 
 mod array;
 mod events;
-mod looks;
 mod objects;
 mod parts;
 mod picture;

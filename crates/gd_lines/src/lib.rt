@@ -2,9 +2,7 @@
 #![tactic(auto)]
 
 mod command;
-mod look_name;
 mod reply;
 
 pub use command::{Command, LONGEST_LINE, ScriptLine, Turn};
-pub use look_name::LookName;
 pub use reply::Reply;

@@ -13,6 +13,5 @@ pub mod WorkedRejoins
 pub mod WorkedSnapshots
 pub mod WorkedOps
 pub mod WorkedPairs
-pub mod WorkedConnectors
 pub mod WorkedViews
 pub mod WorkedChecks

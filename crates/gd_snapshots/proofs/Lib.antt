@@ -1,4 +1,5 @@
 pub mod SteadyParts
+pub mod Lengths
 pub mod ExactObject
 pub mod ExactParts
 pub mod ExactSnapshot

@@ -104,8 +104,7 @@ fn show(alloc: Global, site: &Site) -> Result<Replies, WorldFault>
     let items = picture.as_slice();
     let mut replies = Replies::new(alloc);
     for item in items {
-        let shared = item.share()?;
-        replies.push(Reply::Item { item: shared })?;
+        replies.push(Reply::Item { item: item.copy() })?;
     }
     replies.push(Reply::End {
         count: items.len() as u64,

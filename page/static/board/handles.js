@@ -4,7 +4,7 @@ import { has } from "./boxes.js";
 import { HANDLES } from "./overlay.js";
 
 /** @typedef {import("./overlay.js").Handle} Handle */
-/** @typedef {{handle?: Handle, end?: "start" | "end", dot?: boolean, item?: Item}} Found */
+/** @typedef {{handle?: Handle, end?: "start" | "end", item?: Item}} Found */
 
 const REACH = 8;
 const REACH_TOUCH = 22;
@@ -26,8 +26,6 @@ export function handleAt(ed, at, event) {
   const reach = isTouch ? REACH_TOUCH : REACH;
   const frame = ed.overlay.frame();
   if (!frame) return endAt(ed, at, reach + 2);
-  const dotted = dotAt(ed, at, reach);
-  if (dotted) return dotted;
   const handle = knobAt(ed, frame, at, reach) ?? (isTouch ? null : sideAt(ed, frame, at));
   return handle && { handle };
 }
@@ -47,18 +45,6 @@ function knobAt(ed, frame, { px, py }, reach) {
     return Math.hypot(px - frame.x0 - w * atX, py - frame.y0 - h * atY) <= near;
   };
   return ed.overlay.handlesOf(w, h).find(isNear) ?? null;
-}
-
-/**
- * A dot from which a connector is drawn.
- * @param {Ed} ed
- * @param {Place} at
- * @param {number} reach
- * @returns {Found | null}
- */
-function dotAt(ed, { px, py }, reach) {
-  const isNear = ed.overlay.dots().some(([x, y]) => Math.hypot(px - x, py - y) <= reach);
-  return isNear ? { dot: true, item: ed.selection.list()[0] } : null;
 }
 
 /**

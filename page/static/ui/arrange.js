@@ -117,10 +117,7 @@ export function withMembers({ model, selection }) {
     for (let at = item; at; at = model.byId.get(at.parent ?? "")) if (selection.ids.has(at.id)) return true;
     return false;
   };
-  const own = new Set(model.items.filter(isPicked).map(({ id }) => id));
-  // A connector goes along where both its ends do.
-  const isJoined = (/** @type {Item} */ item) => item.kind === "connector" && own.has(item.from ?? "") && own.has(item.to ?? "");
-  return model.items.filter((item) => own.has(item.id) || isJoined(item));
+  return model.items.filter(isPicked);
 }
 
 /** @param {Ed} ed */

@@ -6,7 +6,6 @@ import { commandButton } from "./aid.js";
 import { commandOf } from "./commands.js";
 import { button, h } from "./h.js";
 import { icon } from "./icons.js";
-import { Marks } from "./marks.js";
 import { Recent } from "./recent.js";
 import { count } from "./words.js";
 
@@ -62,7 +61,6 @@ export class StylePanel {
       fill: this.colourRow("fill", FILLS),
       width: this.widthRow(),
     };
-    this.marks = new Marks(ed, this.body);
     this.arrange = this.arrangeRow();
     this.shown = "";
   }
@@ -169,7 +167,6 @@ export class StylePanel {
     }
     const values = this.values(shapes, kinds);
     const title = this.titleText();
-    this.marks.update(shapes);
     const shown = JSON.stringify([title, [...kinds].sort(), values, ed.scene.dark]);
     if (shown === this.shown && !isAnew) return;
     this.shown = shown;

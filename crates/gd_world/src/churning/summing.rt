@@ -91,8 +91,7 @@ fn text_of(alloc: Global, items: &[Item]) -> Result<Vec<u8>, AllocError>
 {
     let mut text = Vec::new(alloc);
     for item in items {
-        let shared = item.share()?;
-        put(&mut text, &Reply::Item { item: shared })?;
+        put(&mut text, &Reply::Item { item: item.copy() })?;
     }
     let count = items.len() as u64;
     put(&mut text, &Reply::End { count })?;
