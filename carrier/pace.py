@@ -43,7 +43,9 @@ class Pace:
     def takes(self, window, now):
         """Those of a poll's frames that go out now: all, none, or the first one alone where the seat isn't there. They have then
         been sent."""
-        is_new = news_of(window) != news_of(self.window) or (window != self.window and now - self.sent_at >= BETWEEN)
+        # A poll that took no frame sends but the first of them.
+        last = self.window[: len(window)]
+        is_new = news_of(window) != news_of(last) or (window != last and now - self.sent_at >= BETWEEN)
         if self.is_here(now) and is_new:
             self.pause = FIRST
         elif now >= self.due_at:

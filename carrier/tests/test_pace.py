@@ -60,6 +60,9 @@ class Paces(unittest.TestCase):
         self.assertEqual(pace.takes([b"one", b"two"], 1.5), [])
         later = [b"one" * 20, b"three" * 20]
         self.assertEqual(pace.takes(later, 1.5), later)
+        # The next poll takes no frame, and sends the first one alone; the one behind it takes one again.
+        self.assertEqual(pace.takes(later[:1], 1.6), [])
+        self.assertEqual(pace.takes(later, 1.7), [])
 
     def test_who_comes_is_sent_all_anew(self):
         pace = Pace()
