@@ -11,7 +11,8 @@ A log is a header, then each event behind an open gate, then a closed gate. Numb
     stamp    clock (6); site (1)
 
     tag 1    create: kind (1: rect, ellipse, line or text as 1 to 4); x, y, width and height (4 each, signed);
-             the length of the label (1: at most 64 in version 1, 200 in later ones); the label
+             the length of the label (1: at most 64 in version 1, 200 in later ones; a longer label, up to 500,
+             which version 3 has, is in none of these); the label
     tag 2    delete: the stamp of the event that made the object, which is the object's id (7)
     tag 3    move: id (7); x and y (4 each, signed)
     tag 4    resize: id (7); width and height (4 each, signed)
@@ -26,8 +27,14 @@ A log is a header, then each event behind an open gate, then a closed gate. Numb
     tag 12   disband, since version 3: id (7); ties
     tag 13   rerank, since version 3: id (7); rank
     tag 14   reopen, since version 3: id (7)
-    object   kind (1: group as 5); x, y, width and height (4 each, signed); stroke and fill (4 each); width (1); the length
-             of the label (1); the label; link; whether it is dissolved (1); rank
+    tag 15   style, since version 3: id (7); of each of the nine looks below 0 (1), or 1 (1) and what is set
+    tag 16   connect, since version 3: the ids of the two ends (7 each); the length of the label (1); the label
+    tag 17   reconnect, since version 3: id (7); the ids of the two ends (7 each)
+    object   kind (1: group as 5, connector as 6); x, y, width and height (4 each, signed); the looks; the length of the label (1);
+             the label; ends as 0 (1), or 1 (1) and the ids of both (7 each); link; whether it is dissolved (1); rank
+    looks    stroke and fill (4 each); width (1); dash (1: solid, dashed or dotted as 0 to 2); heads (1: none, end, start
+             or both as 0 to 3); round (4: FFFFFFFF as the kind has it); opacity (1: of 100); how high the letters are (2: 0
+             as the kind has it); align (1: as the kind has it, start, middle or end as 0 to 3)
     ties     how many (1: at most 32); for each its id (7) and its link
     link     none as 0 (1); or 1 (1), the id of a group (7), and the shift in x and y (4 each, signed)
     rank     low or high as 0 or 1 (1); a stamp (7)
@@ -50,6 +57,9 @@ STORED_INPUT = HERE.parent / "crates/groupdesign/stdin"
 RECT, ELLIPSE, LINE, TEXT, GROUP = 1, 2, 3, 4, 5
 STROKE, FILL, WIDTH = 1, 2, 3
 NONE = 0xFFFFFFFF
+# The looks of a shape as it is made, and of each look how it is spelled, in their order.
+MADE = {"stroke": 0, "fill": NONE, "width": 1, "dash": 0, "heads": 0, "round": NONE, "opacity": 100, "letters": 0, "align": 0}
+LOOKS_SPELLED = dict(zip(MADE, (">I", ">I", ">B", ">B", ">B", ">I", ">B", ">H", ">B")))
 # The byte of each version of a log.
 VERSION_BYTES = {1: 1, 2: 2, 3: 7}
 OPEN, CLOSED = b"\xC3", b"\x00"
@@ -136,8 +146,9 @@ def tied(ties):
 
 def whole(kind, x, y, width, height, rank, label=""):
     """An object of the usual look, in no group, with a high rank."""
-    look = pack(">II", 0, NONE) + b"\1" + labelled(label)
-    return bytes([kind]) + pack(">iiii", x, y, width, height) + look + link_to(None) + b"\0\1" + stamp(*rank)
+    look = b"".join(pack(LOOKS_SPELLED[name], value) for name, value in MADE.items())
+    front = bytes([kind]) + pack(">iiii", x, y, width, height) + look + labelled(label)
+    return front + b"\0" + link_to(None) + b"\0\1" + stamp(*rank)
 
 
 def restore(clock, site, object, *ties):
@@ -155,6 +166,20 @@ def rerank(clock, site, rank):
 
 def reopen(clock, site):
     return b"\x0E" + stamp(clock, site)
+
+
+def style(clock, site, **looks):
+    """Several looks at once, or one that restyle can't set."""
+    parts = [b"\1" + pack(spelled, looks[name]) if name in looks else b"\0" for name, spelled in LOOKS_SPELLED.items()]
+    return b"\x0F" + stamp(clock, site) + b"".join(parts)
+
+
+def connect(start, end, label=""):
+    return b"\x10" + stamp(*start) + stamp(*end) + labelled(label)
+
+
+def reconnect(clock, site, start, end):
+    return b"\x11" + stamp(clock, site) + stamp(*start) + stamp(*end)
 
 
 def add_card(column, title):
@@ -210,8 +235,7 @@ TWO_SHAPES_SNAPSHOT = (
     b"GDOS" + b"\x03" + pack(">I", 7) + bytes([1, 2])
     + 2 * (pack(">H", 1) + (1).to_bytes(6, "big"))
     + pack(">I", 2)
-    + stamp(1, 1) + bytes([ELLIPSE]) + pack(">iiii", 0, 0, 20, 20) + pack(">II", 0, NONE) + b"\x01\0\0\0\x01" + stamp(1, 1)
-    + stamp(1, 2) + bytes([RECT]) + pack(">iiii", 5, 5, 10, 10) + pack(">II", 0, NONE) + b"\x01\0\0\0\x01" + stamp(1, 2)
+    + stamp(1, 1) + whole(ELLIPSE, 0, 0, 20, 20, (1, 1)) + stamp(1, 2) + whole(RECT, 5, 5, 10, 10, (1, 2))
     + pack(">I", 0)
 )
 
@@ -349,6 +373,29 @@ LATE_GROUP = log(7, 1, 2, [
     (3, 2, group((1, 2), (2, 1))),
 ])
 
+# A chart of who tells whom, by site 1. Site 2 comes late: the style of it has a part that nobody sets later, and one that is covered;
+# the box that it moves takes its connectors along; and with the box that it deletes both connectors of that are hidden, until one is
+# given another end.
+ORGANISATION = log(7, 1, 2, [
+    (1, 1, create(RECT, 100, 0, 120, 40, "Captain\nand owner")),
+    (2, 1, create(RECT, 0, 100, 100, 40, "Deck")),
+    (3, 1, create(RECT, 120, 100, 100, 40, "Galley")),
+    (4, 1, create(RECT, 240, 100, 100, 40, "Engine")),
+    (5, 1, connect((1, 1), (2, 1))),
+    (6, 1, connect((1, 1), (3, 1), "on\nSundays")),
+    (7, 1, connect((3, 1), (4, 1))),
+    (8, 1, style(6, 1, stroke=0x336699, dash=1, heads=3)),
+    (9, 1, style(1, 1, fill=0xFFE0A0, width=3, round=8)),
+    (10, 1, style(1, 1, letters=18, align=1)),
+    (11, 1, connect((1, 1), (4, 1))),
+    (12, 1, delete(11, 1)),
+    (5, 2, style(1, 1, width=2, opacity=80)),
+    (6, 2, create(ELLIPSE, 20, 200, 60, 40, "Cook")),
+    (7, 2, move(2, 1, -20, 120)),
+    (13, 2, delete(3, 1)),
+    (14, 2, reconnect(6, 1, (1, 1), (6, 2))),
+], version=3)
+
 
 def stored_run():
     """A log that takes more than one read of 64 KiB, and ends with the last byte of its last event and no closed gate.
@@ -384,6 +431,7 @@ EXAMPLES = {
     "regrouped": REGROUPED,
     "lowered": LOWERED,
     "taken-back": TAKEN_BACK,
+    "organisation": ORGANISATION,
     "late-group": LATE_GROUP,
     "empty": log(7, 1, 1, []),
     # The end of the file ends a log as a closed gate does.

@@ -14,7 +14,11 @@ MOST_TOGETHER = 512
 # `@K` as a whole word stands for the id that the line K of the batch made.
 REFERENCE = re.compile(r"(?<![^ ])@([1-9][0-9]{0,4})(?![^ ])")
 # What stands in front of a label, in which `@K` is a word like any other.
-HEADS = {"create": re.compile(r" *create(?: +[^ ]+){5}"), "text": re.compile(r" *text +[^ ]+")}
+HEADS = {
+    "create": re.compile(r" *create(?: +[^ ]+){5}"),
+    "connect": re.compile(r" *connect(?: +[^ ]+){2}"),
+    "text": re.compile(r" *text +[^ ]+"),
+}
 # A line was typed, and the node ended before it had answered: it may have been taken.
 UNANSWERED = "unanswered"
 

@@ -10,13 +10,18 @@ VERSIONS = {1: 1, 2: 2, 7: 3}
 # From that version on so many bytes of a check stand behind each event.
 CHECKED, CHECK = 3, 4
 KINDS = {1: "rect", 2: "ellipse", 3: "line", 4: "text"}
-OBJECT_KINDS = {**KINDS, 5: "group"}
+OBJECT_KINDS = {**KINDS, 5: "group", 6: "connector"}
+DASHES = {0: "solid", 1: "dashed", 2: "dotted"}
+HEADS = {0: "none", 1: "end", 2: "start", 3: "both"}
+ALIGNS = {0: None, 1: "start", 2: "middle", 3: "end"}
 HEIGHTS = {0: "low", 1: "high"}
 NO_FILL = 0xFFFFFFFF
 # A record begins with its clock in 6 bytes, its site, its number and its tag. An id is a clock of 6 bytes and a site.
 STAMP, HEAD, TWO, FOUR, SHIFTS = Struct(">HIB"), Struct(">HIBHB"), Struct(">ii"), Struct(">iiii"), Struct(">HIBii")
-# What an object of a restore begins with: its kind, place, size, stroke, fill and width.
-LOOK = Struct(">BiiiiIIB")
+# What an object of a restore begins with: its kind, place, size and look.
+LOOK = Struct(">BiiiiIIBBBIBHB")
+# A length of a label has two bytes above that.
+SHORT_LABEL, LONG_LABEL = 200, 202
 BODY = HEAD.size
 
 
@@ -34,12 +39,23 @@ def name_at(data, place):
     return f"{clock_of(high, low)}.{site}"
 
 
+def length_at(data, place):
+    """The length of a label at a place, and the place behind it."""
+    first = data[place]
+    if first <= SHORT_LABEL:
+        return first, place + 1
+    if first > LONG_LABEL:
+        raise KeyError(first)
+    return SHORT_LABEL + 1 + (first - SHORT_LABEL - 1) * 256 + data[place + 1], place + 2
+
+
 def label_at(data, place):
     """The label whose length stands at a place, and the place behind it."""
-    end = place + 1 + data[place]
+    length, at = length_at(data, place)
+    end = at + length
     if end > len(data):
         raise IndexError
-    return data[place + 1 : end].decode(), end
+    return data[at:end].decode(), end
 
 
 def colour(number):
@@ -48,6 +64,28 @@ def colour(number):
 
 def fill_of(number):
     return None if number == NO_FILL else colour(number)
+
+
+def looks_of(dash, heads, rounding, opacity, letters, align):
+    """What of a look isn't as it is made, in the words of a drawing's JSON."""
+    looks = {
+        "dash": DASHES[dash] if dash else None,
+        "heads": HEADS[heads] if heads else None,
+        "round": None if rounding == NO_FILL else rounding,
+        "opacity": None if opacity == 100 else opacity,
+        "letters": letters or None,
+        "align": ALIGNS[align],
+    }
+    return {name: value for name, value in looks.items() if value is not None}
+
+
+def ends_at(data, place):
+    """The ends whose flag stands at a place, if there are any, and the place behind them."""
+    return (both_at(data, place + 1), place + 15) if data[place] else ({}, place + 1)
+
+
+def both_at(data, place):
+    return {"from": name_at(data, place), "to": name_at(data, place + 7)}
 
 
 def shift_at(data, place):
@@ -112,15 +150,53 @@ def group(data, place):
     return {"op": "group", "members": [shift_at(data, at) for at in range(place + 1, end, SHIFTS.size)]}, end
 
 
+# The parts of a style: how many bytes each has, and what they say.
+STYLES = (
+    ("stroke", 4, colour),
+    ("fill", 4, fill_of),
+    ("width", 1, int),
+    ("dash", 1, DASHES.__getitem__),
+    ("heads", 1, HEADS.__getitem__),
+    ("round", 4, lambda number: None if number == NO_FILL else number),
+    ("opacity", 1, int),
+    ("letters", 2, lambda number: number or None),
+    ("align", 1, ALIGNS.__getitem__),
+)
+
+
+def style(data, place):
+    looks, at = {}, place + STAMP.size
+    for name, size, said in STYLES:
+        is_set, at = data[at], at + 1
+        if is_set:
+            if at + size > len(data):
+                raise IndexError
+            looks[name] = said(int.from_bytes(data[at : at + size], "big"))
+            at += size
+    return {"op": "restyle", "target": name_at(data, place), **looks}, at
+
+
+def connect(data, place):
+    label, end = label_at(data, place + 2 * STAMP.size)
+    return {"op": "connect", **both_at(data, place), "label": label}, end
+
+
+def reconnect(data, place):
+    return {"op": "reconnect", "target": name_at(data, place), **both_at(data, place + STAMP.size)}, place + 3 * STAMP.size
+
+
 def restore(data, place):
-    kind, x, y, w, h, stroke, fill, width = LOOK.unpack_from(data, place + STAMP.size)
+    kind, x, y, w, h, stroke, fill, width, *marks = LOOK.unpack_from(data, place + STAMP.size)
     label, at = label_at(data, place + STAMP.size + LOOK.size)
+    ends, at = ends_at(data, at)
     link, at = link_at(data, at)
     dissolved = bool(data[at])
     rank, at = rank_at(data, at + 1)
     ties, end = ties_at(data, at)
-    look = {"stroke": colour(stroke), "fill": fill_of(fill), "width": width, "label": label}
-    whole = {"kind": OBJECT_KINDS[kind], "at": [x, y], "size": [w, h], **look, "link": link, "dissolved": dissolved, "rank": rank}
+    look = {"stroke": colour(stroke), "fill": fill_of(fill), "width": width, **looks_of(*marks), "label": label}
+    whole = {
+        "kind": OBJECT_KINDS[kind], "at": [x, y], "size": [w, h], **look, **ends, "link": link, "dissolved": dissolved, "rank": rank
+    }
     return {"op": "restore", "target": name_at(data, place), **whole, "ties": ties}, end
 
 
@@ -149,6 +225,9 @@ READERS = {
     12: disband,
     13: rerank,
     14: plain("reopen"),
+    15: style,
+    16: connect,
+    17: reconnect,
 }
 
 

@@ -6,7 +6,10 @@ Nothing here judges a drawing. docs/LINES.md has the lines, and the node alone s
 import re
 
 MOST_BYTES = 1024
-EDITS = frozenset(b"create delete move resize stroke fill width text group ungroup raise lower undo redo".split())
+EDITS = frozenset(
+    b"create connect reconnect delete move resize stroke fill width dash heads round opacity size align style text group ungroup"
+    b" raise lower undo redo".split()
+)
 # Those that take the last gesture back, or do it again.
 TURNS = frozenset([b"undo", b"redo"])
 NOTES = frozenset([b"name", b"focus"])
@@ -53,17 +56,38 @@ def last_of(typed_lines):
     return LAST.get(first_word(typed_lines.partition(b"\n")[0]), (b"",))
 
 
+# How a label on a line is written: a line feed as a backslash and an n, a backslash as two of them.
+ESCAPED = re.compile(r"\\(.)", re.DOTALL)
+# The looks that a line has only where they aren't as they are made, and how they are called in the JSON of a drawing.
+LOOKS = {"dash": "dash", "heads": "heads", "round": "round", "opacity": "opacity", "size": "letters", "align": "align"}
+NUMBERS = frozenset(["round", "opacity", "size"])
+
+
+def label_of(text):
+    """The label that stands on a line so."""
+    return ESCAPED.sub(lambda found: "\n" if found[1] == "n" else found[1], text) if "\\" in text else text
+
+
 def item_of(line):
     """What a line of `show` says of an object, with the keys that the JSON of a drawing has."""
-    words = line.split(" ", 17)
+    head, has_label, label = line.partition(" text ")
+    words = head.split(" ")
+    # The kind may be `text` too, which no space stands in front of.
     item = {"kind": words[0], "id": words[1], "in": None if words[3] == "-" else words[3]}
-    item["at"] = [int(words[5]), int(words[6])]
-    if words[0] != "group":
-        item["size"] = [int(words[8]), int(words[9])]
-        item["stroke"] = words[11]
-        item["fill"] = None if words[13] == "none" else words[13]
-        item["width"] = int(words[15])
-        item["label"] = words[17] if len(words) > 17 else ""
+    if words[0] == "connector":
+        item["from"], item["to"], at = words[5], words[7], 8
+    else:
+        item["at"], at = [int(words[5]), int(words[6])], 7
+    if words[0] == "group":
+        return item
+    if words[0] != "connector":
+        item["size"], at = [int(words[8]), int(words[9])], 10
+    item["stroke"] = words[at + 1]
+    item["fill"] = None if words[at + 3] == "none" else words[at + 3]
+    item["width"] = int(words[at + 5])
+    for name, value in zip(words[at + 6 :: 2], words[at + 7 :: 2]):
+        item[LOOKS[name]] = int(value) if name in NUMBERS else value
+    item["label"] = label_of(label) if has_label else ""
     return item
 
 

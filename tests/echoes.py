@@ -1,5 +1,7 @@
 """Echoes, and the operations in words with which they end, written from docs/LINES.md, section 6, alone."""
 
+from tests.spelled import LOOKS
+
 
 def id_text(id):
     return f"{id[0]}.{id[1]}"
@@ -13,9 +15,26 @@ def colour(value):
     return "none" if value is None else f"{value:06X}"
 
 
+def escaped(text):
+    """A label on a line."""
+    return text.replace("\\", "\\\\").replace("\n", "\\n")
+
+
 def behind(text):
     """A label behind the words of a line that asks for it."""
-    return f" {text}" if text else ""
+    return f" {escaped(text)}" if text else ""
+
+
+def look(name, value):
+    """A look, by its name, as a line sets it."""
+    return f" {name} {colour(value) if name in ('stroke', 'fill') else 'none' if value is None else value}"
+
+
+def marks(dash, heads, round, opacity, size, align):
+    """The looks that aren't as they are made."""
+    looks = {"dash": dash, "heads": heads, "round": round, "opacity": opacity, "size": size, "align": align}
+    made = {"dash": "solid", "heads": "none", "opacity": 100}
+    return "".join(f" {name} {value}" for name, value in looks.items() if value != made.get(name))
 
 
 def link(to):
@@ -30,9 +49,11 @@ def ties(given):
     return "".join(f" tie {id_text(id)} {link(to)}" for id, to in given)
 
 
-def whole(kind, x, y, w, h, stroke, fill, width, label, to, is_dissolved, given):
+def whole(kind, x, y, w, h, stroke, fill, width, dash, heads, round, opacity, size, align, label, ends, to, is_dissolved, given):
     """All of an object but its id and its label."""
-    front = f" {kind}{numbers((x, y, w, h))} {colour(stroke)} {colour(fill)} {width} {link(to)}"
+    between = "".join(f" {id_text(id)}" for id in ends or ())
+    front = f" {kind}{between}{numbers((x, y, w, h))} {colour(stroke)} {colour(fill)} {width}"
+    front += f"{marks(dash, heads, round, opacity, size, align)} {link(to)}"
     return f"{front}{' dissolved' if is_dissolved else ''} {rank(given)}"
 
 
@@ -45,8 +66,17 @@ def words(op):
         case "group":
             return "group" + "".join(f" {id_text(id)}{numbers(shift)}" for id, *shift in given)
         case "restore":
-            label = given[1][8]
+            label = escaped(given[1][14])
             return f"restore {id_text(given[0])}{whole(*given[1])}{ties(given[2:])}{f' text {label}' if label else ''}"
+        case "connect" | "reconnect":
+            ids = [each for each in given if isinstance(each, tuple)]
+            return name + "".join(f" {id_text(id)}" for id in ids) + behind("".join(given[len(ids) :]))
+        case "style":
+            id, looks = id_text(given[0]), [look(each, given[1][each]) for each in LOOKS if each in given[1]]
+            if len(looks) > 1:
+                return f"style {id}{''.join(looks)}"
+            set_look, value = looks[0].split()
+            return f"{set_look} {id} {value}"
     line = f"{name} {id_text(given[0])}"
     match name:
         case "move" | "resize" | "width":

@@ -1,10 +1,13 @@
 """Events that are read from logs and frames, from docs/FORMATS.md alone: only what is sound is handed to this."""
 
-from tests.spelled import CHECKSUM, HEIGHTS, NO_FILL, OBJECT_KINDS, STYLES, TAGS, VERSION, VERSION_BYTES, header
+from tests.spelled import (
+    ALIGNS, CHECKSUM, DASHES, HEADS, HEIGHTS, LOOKS, NO_FILL, OBJECT_KINDS, STYLES, TAGS, VERSION, VERSION_BYTES, header,
+)
 
 NAMES = {tag: name for name, tag in TAGS.items() if name not in STYLES}
 KIND_NAMES = {byte: name for name, byte in OBJECT_KINDS.items()}
 HEIGHT_NAMES = {byte: name for name, byte in HEIGHTS.items()}
+DASH_NAMES, HEADS_NAMES, ALIGN_NAMES = ({byte: name for name, byte in table.items()} for table in (DASHES, HEADS, ALIGNS))
 STYLE_NAMES = {byte: name for name, byte in STYLES.items()}
 RESTYLE = 5
 # The place of the events in a frame without a name, and that of the length of the name.
@@ -31,7 +34,8 @@ class Reader:
         return self.number(6), self.number(1)
 
     def label(self):
-        return self.take(self.number(1)).decode()
+        size = self.number(1)
+        return self.take(size if size <= 200 else 201 + (size - 201) * 256 + self.number(1)).decode()
 
     def fill(self):
         value = self.number(4)
@@ -43,10 +47,31 @@ class Reader:
     def rank(self):
         return HEIGHT_NAMES[self.number(1)], self.stamp()
 
+    def look(self, name):
+        """A part of a look."""
+        match name:
+            case "stroke":
+                return self.number(4)
+            case "fill" | "round":
+                return self.fill()
+            case "dash":
+                return DASH_NAMES[self.number(1)]
+            case "heads":
+                return HEADS_NAMES[self.number(1)]
+            case "size":
+                return self.number(2) or None
+            case "align":
+                return ALIGN_NAMES[self.number(1)]
+            case _:
+                return self.number(1)
+
+    def ends(self):
+        return (self.stamp(), self.stamp()) if self.number(1) else None
+
     def whole(self):
         """An object without its id."""
-        front = KIND_NAMES[self.number(1)], *self.signed(4), self.number(4), self.fill(), self.number(1), self.label()
-        return *front, self.link(), bool(self.number(1)), self.rank()
+        front = KIND_NAMES[self.number(1)], *self.signed(4), *(self.look(name) for name in LOOKS), self.label()
+        return *front, self.ends(), self.link(), bool(self.number(1)), self.rank()
 
     def ties(self):
         return [(self.stamp(), self.link()) for _ in range(self.number(1))]
@@ -57,6 +82,8 @@ class Reader:
             return "create", KIND_NAMES[self.number(1)], *self.signed(4), self.label()
         if tag == TAGS["group"]:
             return "group", *((self.stamp(), *self.signed(2)) for _ in range(self.number(1)))
+        if tag == TAGS["connect"]:
+            return "connect", self.stamp(), self.stamp(), self.label()
         id = self.stamp()
         if tag == RESTYLE:
             name = STYLE_NAMES[self.number(1)]
@@ -70,6 +97,10 @@ class Reader:
                 return self.signed(2)
             case "text":
                 return [self.label()]
+            case "style":
+                return [{name: self.look(name) for name in LOOKS if self.number(1)}]
+            case "reconnect":
+                return [self.stamp(), self.stamp()]
             case "restore":
                 return [self.whole(), *self.ties()]
             case "disband":

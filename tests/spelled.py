@@ -4,9 +4,13 @@ GREATEST_CLOCK = (1 << 48) - 1
 KINDS = {"rect": 1, "ellipse": 2, "line": 3, "text": 4}
 TAGS = {"create": 1, "delete": 2, "move": 3, "resize": 4, "stroke": 5, "fill": 5, "width": 5, "text": 6}
 TAGS |= {"group": 7, "ungroup": 8, "raise": 9, "lower": 10, "restore": 11, "disband": 12, "rerank": 13, "reopen": 14}
+TAGS |= {"style": 15, "connect": 16, "reconnect": 17}
 STYLES = {"stroke": 1, "fill": 2, "width": 3}
-# What an object of a restore is: a shape, or a group.
-OBJECT_KINDS = KINDS | {"group": 5}
+# What an object of a restore is: a shape, a group or a connector.
+OBJECT_KINDS = KINDS | {"group": 5, "connector": 6}
+DASHES = {"solid": 0, "dashed": 1, "dotted": 2}
+HEADS = {"none": 0, "end": 1, "start": 2, "both": 3}
+ALIGNS = {None: 0, "start": 1, "middle": 2, "end": 3}
 HEIGHTS = {"low": 0, "high": 1}
 # The newest version of each format, and the byte of each version of a log.
 VERSION, VERSION_BYTES = 3, {1: 1, 2: 2, 3: 7}
@@ -34,7 +38,37 @@ def stamp(id):
 
 def label(text):
     text = text.encode() if isinstance(text, str) else text
-    return number(len(text), 1) + text
+    if len(text) <= 200:
+        return number(len(text), 1) + text
+    return number(201 + (len(text) - 201) // 256, 1) + number((len(text) - 201) % 256, 1) + text
+
+
+# How each part of a look is spelled.
+LOOKS = {
+    "stroke": lambda value: number(value, 4),
+    "fill": lambda value: number(NO_FILL if value is None else value, 4),
+    "width": lambda value: number(value, 1),
+    "dash": lambda value: number(DASHES[value], 1),
+    "heads": lambda value: number(HEADS[value], 1),
+    "round": lambda value: number(NO_FILL if value is None else value, 4),
+    "opacity": lambda value: number(value, 1),
+    "size": lambda value: number(value or 0, 2),
+    "align": lambda value: number(ALIGNS[value], 1),
+}
+
+
+# The looks behind the width of a shape as it is made.
+PLAIN = "solid", "none", None, 100, None, None
+
+
+def looks(given):
+    """What is set of a look, by the names of the parts."""
+    return b"".join(b"\1" + spell(given[name]) if name in given else b"\0" for name, spell in LOOKS.items())
+
+
+def ends(given):
+    """The ends of a connector, or none."""
+    return b"\0" if given is None else b"\1" + stamp(given[0]) + stamp(given[1])
 
 
 def link(given):
@@ -46,11 +80,12 @@ def rank(height, id):
     return number(HEIGHTS[height], 1) + stamp(id)
 
 
-def whole(kind, x, y, w, h, stroke, fill, width, text, to, is_dissolved, given):
+def whole(kind, x, y, w, h, stroke, fill, width, dash, heads, round, opacity, size, align, text, between, to, is_dissolved, given):
     """All of an object but its id."""
-    look = number(stroke, 4) + number(NO_FILL if fill is None else fill, 4) + number(width, 1)
+    parts = zip(LOOKS.values(), (stroke, fill, width, dash, heads, round, opacity, size, align))
+    look = b"".join(spell(value) for spell, value in parts)
     front = number(OBJECT_KINDS[kind], 1) + signed(x, y, w, h) + look + label(text)
-    return front + link(to) + number(is_dissolved, 1) + rank(*given)
+    return front + ends(between) + link(to) + number(is_dissolved, 1) + rank(*given)
 
 
 def ties(given):
@@ -71,6 +106,12 @@ def body(op, *given):
             return stamp(given[0]) + number(STYLES[op], 1) + number(value, 4)
         case "text":
             return stamp(given[0]) + label(given[1])
+        case "style":
+            return stamp(given[0]) + looks(given[1])
+        case "connect":
+            return stamp(given[0]) + stamp(given[1]) + label(given[2])
+        case "reconnect":
+            return stamp(given[0]) + stamp(given[1]) + stamp(given[2])
         case "group":
             return number(len(given), 1) + b"".join(stamp(id) + signed(dx, dy) for id, dx, dy in given)
         case "restore":

@@ -4,8 +4,8 @@ from tests.echoes import applied, echoes
 from tests.nodes import answered, started
 from tests.program import DONE, Case
 from tests.read import frame_events
-from tests.spelled import CHECKSUM, GREATEST_CLOCK, OPEN, chain, changed, checked, crc32c, frame, little, log, number, rechecked, record
-from tests.spelled import square
+from tests.spelled import CHECKSUM, GREATEST_CLOCK, OPEN, PLAIN, chain, changed, checked, crc32c, frame, little, log, number, rechecked
+from tests.spelled import record, square
 from tests.test_frames import AT_ONCE, HEAD_CHECK, PARTED, TAKEN, bad, line_of, noticed, places, retold
 from tests.worked import CHECK, EVENT, FRAME
 
@@ -94,29 +94,36 @@ class Datagrams(Case):
 
 
 class Longest(Case):
-    # An object that is put back with a label of 200 bytes, in a group, with 32 ties to groups, whose echo is the longest that says
-    # `applied`; and a rect whose label fills the frame. It has a name of 16 bytes and a focus. One that is a byte longer is refused,
-    # and so is one that acknowledges what was never made.
+    # A group that is put back with a label of 200 bytes, in a group, with 32 ties to groups, whose echo is the longest that says
+    # `applied`; and a rect whose label fills the frame. It has a name of 16 bytes and a focus. One that is a byte longer is refused, and
+    # so is one that acknowledges what was never made. Of the other objects the longest that is put back has a label of 500 bytes.
     def test_the_longest_frame_is_taken(self):
         base = GREATEST_CLOCK - 108
         link, size = ((base + 99, 16), -FARTHEST, -FARTHEST), -1_000_000
-        whole = ("ellipse", -FARTHEST, -FARTHEST, size, size, 0, 0, 64, "é" * 100, link, True, ("high", (base + 50, 16)))
+        looks, ends = ("dashed", "both", 1_000_000, 100, 1_000, "middle"), ((base + 51, 16), (base + 52, 16))
+        group, connector = [
+            (kind, -FARTHEST, -FARTHEST, size, size, 0, 0, 64, *looks, "é" * count, ends, link, True, ("high", (base + 50, 16)))
+            for kind, count in (("group", 100), ("connector", 250))
+        ]
         ties = [((base + clock, 16), link) for clock in range(1, 33)]
-        put_back = (base + 101, 16), 1, ("restore", (base + 50, 16), whole, *ties)
+        put_back = (base + 101, 16), 1, ("restore", (base + 50, 16), group, *ties)
+        last = (base + 103, 16), 3, ("restore", (base + 50, 16), connector)
         of = {"clock": GREATEST_CLOCK, "note": 65_535, "focus": (GREATEST_CLOCK, 16), "name": SIXTEEN}
-        of |= {"session": 2**32 - 1, "sender": 16}
-        rects = [((base + 102, 16), 2, ("create", "rect", 0, 0, 10, 10, "a" * letters)) for letters in (110, 111)]
-        (longest, longer), event = [frame([put_back, rect], **of) for rect in rects], record(*put_back)
-        self.assertEqual((len(longest), len(longer), len(event)), (1_200, 1_201, 1_006))
-        self.assertEqual(event[:18], bytes.fromhex("FFFFFFFFFFF8 10 0001 0B FFFFFFFFFFC5 10 02"))
+        of |= {"session": 2**32 - 1, "sender": 16, "count": 3}
+        rects = [((base + 102, 16), 2, ("create", "rect", 0, 0, 10, 10, "a" * letters)) for letters in (85, 86)]
+        # That the third one is still to come, both frames say by their count: so the clock of all is none up to which nothing comes.
+        (longest, longer), event = [frame([put_back, rect], check=chain([put_back, rect, last]), **of) for rect in rects], record(*put_back)
+        alone = frame([last], before=[put_back, rects[0]], **of)
+        self.assertEqual((len(longest), len(longer), len(event), len(record(*last)), len(alone)), (1_200, 1_201, 1_031, 596, 652))
+        self.assertEqual(event[:18], bytes.fromhex("FFFFFFFFFFF8 10 0001 0B FFFFFFFFFFC5 10 05"))
         self.assertEqual(event[-23:], bytes.fromhex("FFFFFFFFFFB3 10 01 FFFFFFFFFFF6 10 C4653600 C4653600"))
-        events = [put_back, rects[0]]
-        datagrams = [frame(events, held=65_535, **of), longer, longest]
+        events = [put_back, rects[0], last]
+        datagrams = [frame(events[:2], held=65_535, check=chain(events), **of), longer, longest, alone]
         node = answered((1, 16), "poll\nwho\n", datagrams, sender=16, session=2**32 - 1)
         printed = echoes(*events)
-        self.assertEqual(max(map(len, printed.encode().splitlines())), 2_619)
+        self.assertEqual(max(map(len, printed.encode().splitlines())), 2_715)
         who = "who 16 sixteen-letters! focus 281474976710655.16\nend 1\n"
-        printed = f"frame refused: OverAck 65535 0\n{bad('Trailing', 1_200)}\n{printed}polled 3\n{who}"
+        printed = f"frame refused: OverAck 65535 0\n{bad('Trailing', 1_200)}\n{printed}polled 4\n{who}"
         self.assertEqual((node.text, node.status), (f"ready 1 of 16\n{printed}", DONE))
         self.assertEqual(node.journal, log(events, sites=16, session=2**32 - 1))
 
@@ -153,7 +160,7 @@ class Longest(Case):
         disbands, restores = [], []
         for turn, part in enumerate(ids):
             group = (257 + turn, 2)
-            whole = ("group", 0, 0, 0, 0, 0, None, 1, "", None, False, ("high", group))
+            whole = ("group", 0, 0, 0, 0, 0, None, 1, *PLAIN, "", None, None, False, ("high", group))
             # The last one is taken back first.
             disbands.insert(0, ((272 - turn, 2), 272 - turn, ("disband", group, *((id, None) for id in part))))
             ties = [(id, (group, 0, 0)) for id in part]
@@ -172,7 +179,7 @@ class Longest(Case):
             for events, lines, fit, end, sizes in [
                 (groups, grouping, 2, [], [1_038] * 4),
                 (disbands, ["undo"] * 8, 4, ["end 1"], [1_152] * 2),
-                (restores, ["redo"] * 8, 1, ["end 1"], [847] * 8),
+                (restores, ["redo"] * 8, 1, ["end 1"], [858] * 8),
             ]:
                 for turn, line in enumerate(lines):
                     clock = events[turn][0][0]

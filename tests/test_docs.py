@@ -12,9 +12,10 @@ from tests.test_formats import VOTES
 from tests.worked import FRAME, TIE
 
 # The commands of docs/LINES.md, section 3: in a dialogue with a node a line is typed where it begins so, and printed else.
-TYPED = "create delete move resize stroke fill width text group ungroup raise lower undo redo".split()
+TYPED = "create delete move resize stroke fill width dash heads round opacity size align style text".split()
+TYPED += "connect reconnect group ungroup raise lower undo redo".split()
 TYPED += "show status name focus who poll quit".split()
-SHAPE = re.compile(r"(rect|ellipse|line|text|group) \d+\.\d+ in ")
+SHAPE = re.compile(r"(rect|ellipse|line|text|group|connector) \d+\.\d+ in ")
 
 
 def is_typed(line):

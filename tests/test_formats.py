@@ -99,26 +99,26 @@ class Formats(Case):
         ])
 
 
-# Site 2 can't colour a rect of site 4, and then gets it. Site 4 raises it, and site 2 deletes it and takes that back. Of two rounds
-# the first one brings all to all.
+# Site 3 makes a rect, which site 1 gets, and deletes it. Site 1 raises and moves it, and makes another one. Of two rounds the first one
+# brings all to all.
 SEVEN_STEPS = (
-    "".join(f"site {site} held 4 kept 0 line 3 clock 3\n" for site in range(1, 5))
-    + "edits 4 refused 1 sent 25 delivered 25 idle 0\narrivals applied 6 dropped 2 reworked 4 undone 4\nsame yes\n"
-)
-# Then site 2 deletes it again, by a redo.
-EIGHT_STEPS = (
     "".join(f"site {site} held 5 kept 0 line 4 clock 4\n" for site in range(1, 5))
-    + "edits 5 refused 1 sent 25 delivered 25 idle 0\narrivals applied 9 dropped 2 reworked 4 undone 7\nsame yes\n"
+    + "edits 5 refused 0 sent 25 delivered 25 idle 0\narrivals applied 9 dropped 1 reworked 5 undone 7\nsame yes\n"
 )
-# Site 2 makes two rects and a group of them, takes the group back, makes it again, and moves it.
+# Then site 1 connects the two.
+EIGHT_STEPS = (
+    "".join(f"site {site} held 6 kept 0 line 5 clock 5\n" for site in range(1, 5))
+    + "edits 6 refused 0 sent 25 delivered 25 idle 0\narrivals applied 12 dropped 1 reworked 5 undone 7\nsame yes\n"
+)
+# Site 3 makes a rect, which site 2 gets, another one, and a group of both, which it connects to the first one. Site 2 moves and raises that.
 GROUP_STEPS = (
-    "".join(f"site {site} held 6 kept 0 line 6 clock 6\n" for site in range(1, 5))
-    + "edits 6 refused 0 sent 25 delivered 24 idle 1\narrivals applied 18 dropped 0 reworked 0 undone 0\nsame yes\n"
+    "".join(f"site {site} held 6 kept 0 line 4 clock 4\n" for site in range(1, 5))
+    + "edits 6 refused 0 sent 25 delivered 25 idle 0\narrivals applied 16 dropped 0 reworked 2 undone 4\nsame yes\n"
 )
-# An undo that is refused, an empty mail, two rects of site 4, and four steps without anything to work on.
+# Four steps without anything to work on, three rects, and an undo that is refused.
 IDLE_STEPS = (
-    "".join(f"site {site} held 2 kept 0 line 2 clock 2\n" for site in range(1, 5))
-    + "edits 2 refused 1 sent 25 delivered 24 idle 4\narrivals applied 6 dropped 0 reworked 0 undone 0\nsame yes\n"
+    "".join(f"site {site} held 3 kept 0 line 1 clock 1\n" for site in range(1, 5))
+    + "edits 3 refused 1 sent 24 delivered 24 idle 4\narrivals applied 9 dropped 0 reworked 0 undone 0\nsame yes\n"
 )
 
 
@@ -131,10 +131,10 @@ class Churns(Case):
     def test_few_steps(self):
         self.expect_all([
             (churn(1, 0), b"quit\n", DONE, NOTHING_CHURNED),
-            (churn(181960431, 7), b"", DONE, SEVEN_STEPS),
-            (churn(181960431, 8), b"", DONE, EIGHT_STEPS),
-            (churn(2642265044, 8), b"", DONE, GROUP_STEPS),
-            (churn(86587, 8), b"", DONE, IDLE_STEPS),
+            (churn(224141972, 7), b"", DONE, SEVEN_STEPS),
+            (churn(224141972, 8), b"", DONE, EIGHT_STEPS),
+            (churn(168112386, 8), b"", DONE, GROUP_STEPS),
+            (churn(2, 8), b"", DONE, IDLE_STEPS),
         ])
 
     def test_three_thousand_steps(self):

@@ -84,7 +84,7 @@ def front(at, value):
 
 def tag(value):
     """The tag. What stands behind it is no id, and no group of two."""
-    return bad("Field", 46 if value == 7 else 52 if 2 <= value <= 14 else 45)
+    return bad("Field", 46 if value == 7 else 52 if 2 <= value <= 17 else 45)
 
 
 def event(at, value):
@@ -110,7 +110,7 @@ def event(at, value):
             return field(at - 1, value <= 0x0F)
         case 63:
             # The length of the label, behind which nothing stands.
-            return bad("Short", CHECK) if value <= 200 else bad("Field", 63)
+            return bad("Short", CHECK) if value <= 202 else bad("Field", 63)
     return TAKEN
 
 

@@ -1,14 +1,14 @@
 """Logs that are replayed: rows that were worked by hand, cuts, labels, groups, what an undo makes, and the three versions."""
 
 from tests.program import BAD_LOG, DONE, Case
-from tests.spelled import changed, crc32c, header, little, log, number, record, signed, square, stamp
+from tests.spelled import PLAIN, changed, crc32c, header, little, log, number, record, signed, square, stamp
 from tests.worked import (
     CHECKED_TIE, EFFECT_FIRST, EMPTY, LOOK, LOOK_TEXT, RANKS, RANKS_TEXT, RECT, TIE, TIE_TEXT, tie_of,
 )
 
 SQUARE = "rect {} in {} at {} size 10 10 stroke 000000 fill none width 1{}\n"
 # What each group has at 5 7: neither a size nor a look, nor a label.
-GROUP = ("group", 5, 7, 0, 0, 0, None, 1, "")
+GROUP = ("group", 5, 7, 0, 0, 0, None, 1, *PLAIN, "")
 
 
 def bad_log(at, why="Field"):
@@ -123,8 +123,9 @@ class Cuts(Case):
 
 
 def labelled(version, text, length):
-    """A log of one rect whose label has these bytes, and says that it has so many."""
-    event = stamp((1, 1)) + number(1, 2) + b"\x01\x01" + signed(0, 0, 10, 10) + number(length, 1) + text
+    """A log of one rect whose label has these bytes, and says that it has so many. In version three a length above 200 has two."""
+    above = number(201 + (length - 201) // 256, 1) + number((length - 201) % 256, 1) if version == 3 and length > 200 else None
+    event = stamp((1, 1)) + number(1, 2) + b"\x01\x01" + signed(0, 0, 10, 10) + (above or number(length, 1)) + text
     return header(version=version, sites=1) + b"\xC3" + event + (little(crc32c(event)) if version == 3 else b"")
 
 
@@ -140,8 +141,8 @@ LABELS = [
 class Labels(Case):
     def test_a_label_has_at_most_as_many_bytes_as_its_version_allows(self):
         rows = [(1, 0, True), (1, 1, True), (1, 64, True), (1, 65, False), (1, 255, False)]
-        for version in (2, 3):
-            rows += [(version, 65, True), (version, 200, True), (version, 201, False), (version, 255, False)]
+        rows += [(2, 65, True), (2, 200, True), (2, 201, False), (2, 255, False)]
+        rows += [(3, length, length <= 500) for length in (65, 200, 201, 202, 456, 457, 500, 501, 712)]
         self.expect_all(rows_of("replay", *[
             (labelled(version, b"a" * length, length), self.rect("a" * length) if is_good else bad_log(39))
             for version, length, is_good in rows
@@ -149,6 +150,20 @@ class Labels(Case):
 
     def rect(self, text):
         return SQUARE.format("1.1", "-", "0 0", f" text {text}" if text else "") + "end 1\n"
+
+    # The first byte of a length is at most 202, and of the two the second is read first.
+    def test_the_length_of_a_long_label_has_its_edges(self):
+        given = labelled(3, b"a" * 500, 500)
+        self.assertEqual(given[39:41], b"\xCA\x2B")
+        self.expect_all([(["replay"], changed(given, [(39, byte)]), BAD_LOG, bad_log(39)) for byte in (203, 255)])
+        self.expect(["replay"], given[:40], BAD_LOG, bad_log(40, "Short"))
+
+    # It is printed in one line, where a backslash is two.
+    def test_a_label_of_version_three_may_have_line_feeds(self):
+        texts = [b"\n", b"a\nb", b"\\n", b"\n\\"]
+        lines = ["\\n", "a\\nb", "\\\\n", "\\n\\\\"]
+        self.expect_all(rows_of("replay", *[(labelled(3, text, len(text)), self.rect(line)) for text, line in zip(texts, lines)]))
+        self.expect_all([(["replay"], labelled(version, b"a\nb", 3), BAD_LOG, bad_log(40)) for version in (1, 2)])
 
     def test_a_label_is_a_text_without_control_characters(self):
         self.expect_all(rows_of("replay", *[
@@ -228,7 +243,7 @@ TURNED = [
     ((3, 1), 3, ("group", ((1, 1), 0, 0), ((2, 1), 0, 0))),
     ((4, 1), 4, ("move", (3, 1), 5, 7)),
     ((5, 1), 5, ("disband", (3, 1), ((1, 1), None), ((2, 1), None))),
-    ((6, 1), 6, ("restore", (3, 1), (*GROUP, None, False, ("high", (3, 1))), ((1, 1), ((3, 1), 0, 0)), ((2, 1), ((3, 1), 0, 0)))),
+    ((6, 1), 6, ("restore", (3, 1), (*GROUP, None, None, False, ("high", (3, 1))), ((1, 1), ((3, 1), 0, 0)), ((2, 1), ((3, 1), 0, 0)))),
     ((7, 1), 7, ("ungroup", (3, 1))),
     ((8, 1), 8, ("reopen", (3, 1))),
     ((9, 1), 9, ("raise", (1, 1))),
@@ -251,19 +266,21 @@ class TakenBack(Case):
         logs = [log(TURNED[:count]) for count in range(3, len(TURNED) + 1)]
         self.expect_all(rows_of("replay", *zip(logs, LEFT)))
 
-    # Of a restore the id is at 22, its object from 29 on: the link's flag at 56, the stamp of its group at 57; its number of ties is
-    # behind the rank, and each tie an id and a link.
+    # Of a restore the id is at 22, its object from 29 on: the label's length at 65, the flag of the ends at 66, of the link at 67, the
+    # stamp of its group at 68; its number of ties is behind the rank, and each tie an id and a link.
     def test_each_field_of_a_restore_has_its_fault(self):
-        whole = ("rect", 1, 2, 3, 4, 0xAB0C, None, 64, "", ((2, 1), 5, -6), False, ("high", (2, 1)))
+        whole = ("group", 1, 2, 3, 4, 0xAB0C, None, 64, *PLAIN, "", None, ((2, 1), 5, -6), False, ("high", (2, 1)))
         given = log([((9, 1), 1, ("restore", (1, 1), whole, ((3, 1), None), ((4, 1), ((5, 1), 7, -8))))])
-        self.assertEqual((given[21], given[22:29], given[56:64], len(given)), (11, stamp((1, 1)), b"\1" + stamp((2, 1)), 118))
+        self.assertEqual((given[21], given[22:29], given[67:75], len(given)), (11, stamp((1, 1)), b"\1" + stamp((2, 1)), 129))
         self.expect_all([(["replay"], changed(given, [row[:2]]), BAD_LOG, bad_log(*row[2:])) for row in [
-            (28, 17, 28, "Field"), (27, 9, 22, "FutureId"), (29, 0, 29, "Field"), (29, 6, 29, "Field"), (30, 0x7F, 30, "Field"),
-            (46, 1, 46, "Field"), (50, 1, 50, "Field"), (54, 0, 54, "Field"), (54, 65, 54, "Field"), (55, 201, 55, "Field"),
-            (56, 2, 56, "Field"), (63, 0, 63, "Field"), (62, 9, 57, "FutureId"), (62, 1, 57, "FutureId"), (64, 0x7F, 64, "Field"),
-            (72, 2, 72, "Field"), (73, 2, 73, "Field"), (80, 17, 80, "Field"), (79, 9, 74, "FutureId"), (81, 33, 81, "Field"),
-            (87, 9, 82, "FutureId"), (89, 2, 89, "Field"), (95, 3, 90, "MemberOrder"), (95, 9, 90, "FutureId"),
-            (103, 4, 98, "FutureId"), (103, 9, 98, "FutureId"), (105, 0x7F, 105, "Field"),
+            (28, 17, 28, "Field"), (27, 9, 22, "FutureId"), (29, 0, 29, "Field"), (29, 7, 29, "Field"), (29, 6, 66, "Field"), (29, 1, 92, "Field"), (30, 0x7F, 30, "Field"),
+            (46, 1, 46, "Field"), (50, 1, 50, "Field"), (54, 0, 54, "Field"), (54, 65, 54, "Field"), (55, 3, 55, "Field"),
+            (56, 4, 56, "Field"), (57, 0, 57, "Field"), (61, 0, 61, "Field"), (61, 101, 61, "Field"), (62, 4, 62, "Field"),
+            (64, 4, 64, "Field"), (65, 201, 65, "Field"), (66, 2, 66, "Field"),
+            (67, 2, 67, "Field"), (74, 0, 74, "Field"), (73, 9, 68, "FutureId"), (73, 1, 68, "FutureId"), (75, 0x7F, 75, "Field"),
+            (83, 2, 83, "Field"), (84, 2, 84, "Field"), (91, 17, 91, "Field"), (90, 9, 85, "FutureId"), (92, 33, 92, "Field"),
+            (98, 9, 93, "FutureId"), (100, 2, 100, "Field"), (106, 3, 101, "MemberOrder"), (106, 9, 101, "FutureId"),
+            (114, 4, 109, "FutureId"), (114, 9, 109, "FutureId"), (116, 0x7F, 116, "Field"),
         ]])
         self.expect(["replay"], given, DONE, "end 0\n")
         self.expect_cut(given)

@@ -56,7 +56,7 @@ def many_cards():
 def many_objects():
     """A snapshot of all the rects that two sites can make, which have the sure clocks of their last ones."""
     ids = [(clock, site) for clock in range(1, 65_536) for site in (1, 2)]
-    look = b"\x01" + signed(0, 0, 10, 10) + bytes.fromhex("00000000 FFFFFFFF 01") + label(LABEL) + bytes.fromhex("00 00 01")
+    look = b"\x01" + signed(0, 0, 10, 10) + bytes.fromhex("00000000 FFFFFFFF 01 00 00 FFFFFFFF 64 0000 00") + label(LABEL) + bytes.fromhex("00 00 00 01")
     known = (number(65_535, 2) + number(65_535, 6)) * 2
     objects = b"".join(stamp(id) + look + stamp(id) for id in ids)
     return TIE_SNAPSHOT[:11] + known + number(len(ids), 4) + objects + number(0, 4)

@@ -124,7 +124,7 @@ class Pieces(Case):
 
 def many_objects(count):
     """A snapshot of one site with so many ellipses."""
-    body = bytes.fromhex("02 00000000 00000000 00000014 00000014 00000000 FFFFFFFF 01 00 00 00 01 00000000000101")
+    body = bytes.fromhex("02 00000000 00000000 00000014 00000014 00000000 FFFFFFFF 01 00 00 FFFFFFFF 64 0000 00 00 00 00 00 01 00000000000101")
     objects = b"".join(number(clock, 6) + b"\x01" + body for clock in range(1, count + 1))
     return bytes.fromhex("47444F53 03 00000007 01 01 FFFF 00000000FFFF") + number(count, 4) + objects + bytes(4)
 
@@ -157,8 +157,8 @@ class Calls(Case):
     # What stands in front of the objects is one piece, and so are each object and the number of kept events.
     def test_a_write_that_fails_leaves_the_pieces_before(self):
         whole, calls = traced(["snapshot"], [TIE], "write")
-        self.assertEqual((whole.printed, [size for _, size in calls]), (TIE_SNAPSHOT, [31, 44, 44, 4]))
-        for (number_of, _), length in zip(calls, (0, 31, 75, 119)):
+        self.assertEqual((whole.printed, [size for _, size in calls]), (TIE_SNAPSHOT, [31, 55, 55, 4]))
+        for (number_of, _), length in zip(calls, (0, 31, 86, 141)):
             ended, _ = traced(["snapshot"], [TIE], "write", number_of)
             self.assertEqual((ended.printed, ended.status), (TIE_SNAPSHOT[:length], WRITE_FAULT), length)
 

@@ -1,7 +1,7 @@
 """Logs of single records, of drawings and of cards: written again, cut by a byte, as JSON, and event after event."""
 
 from tests.program import BAD_LOG, DONE, Case
-from tests.spelled import log, number, square, stamp
+from tests.spelled import PLAIN, log, number, square, stamp
 from tests.test_formats import cards
 
 LABEL = "a label"
@@ -16,8 +16,8 @@ OPS = [
     ("ungroup", (1, 2)),
     ("raise", (1, 2)),
     ("lower", (1, 2)),
-    ("restore", (1, 2), ("ellipse", 1, -2, 3, -4, 0xAB0C, None, 64, LABEL, ((2, 2), 5, -6), False, ("low", (3, 1)))),
-    ("restore", (1, 2), ("group", 1, -2, 0, 0, 0, None, 1, "", None, True, ("high", (1, 2))), ((1, 1), None), ((2, 1), ((2, 2), 5, -6))),
+    ("restore", (1, 2), ("ellipse", 1, -2, 3, -4, 0xAB0C, None, 64, *PLAIN, LABEL, None, ((2, 2), 5, -6), False, ("low", (3, 1)))),
+    ("restore", (1, 2), ("group", 1, -2, 0, 0, 0, None, 1, *PLAIN, "", None, None, True, ("high", (1, 2))), ((1, 1), None), ((2, 1), ((2, 2), 5, -6))),
     ("disband", (1, 2), ((1, 1), None), ((2, 1), ((2, 2), 5, -6))),
     ("rerank", (1, 2), ("high", (8, 16))),
     ("reopen", (1, 2)),

@@ -4,65 +4,79 @@ after event."""
 from collections import Counter
 
 from tests.program import DONE, Case, run_program
-from tests.spelled import log
+from tests.spelled import PLAIN, log
 
 # The order of the rows and columns of both tables. `hold` makes a group of which the object is a member, and `free` disbands one
-# that has it; `regroup` restores the object and ties another one.
+# that has it; `regroup` restores the object and ties another one. `span` makes a connector that ends at the object, and `lead` leads
+# another one to it; `style` sets a stroke and a dash.
 DEEDS = "create delete move resize stroke fill width text group hold ungroup raise lower".split()
-DEEDS += "restore regroup disband free rerank reopen".split()
+DEEDS += "restore regroup disband free rerank reopen connect span reconnect lead style dash".split()
 # `i` where the two are independent on one object. What makes or takes it touches the whole of it, and of the others each touches
-# a part of its own, but that the link is given by a hold and a free, the mark by an ungroup and a reopen, and the rank by a raise,
-# a lower and a rerank.
+# a part of its own, but that the link is given by a hold and a free, the mark by an ungroup and a reopen, the rank by a raise,
+# a lower and a rerank, the stroke by a style too, and the dash by a style and a dash. A span and a lead touch nothing of it.
 INDEPENDENT = """
-...................
-...................
-...iiiii.iiii...iii
-..i.iiii.iiii...iii
-..ii.iii.iiii...iii
-..iii.ii.iiii...iii
-..iiii.i.iiii...iii
-..iiiii..iiii...iii
-...................
-..iiiiii..iii....ii
-..iiiiii.i.ii...ii.
-..iiiiii.ii.....i.i
-..iiiiii.ii.....i.i
-...................
-...................
-...................
-..iiiiii..iii....ii
-..iiiiii.ii.....i.i
-..iiiiii.i.ii...ii.
+....................i.i..
+....................i.i..
+...iiiii.iiii...iii.iiiii
+..i.iiii.iiii...iii.iiiii
+..ii.iii.iiii...iii.iii.i
+..iii.ii.iiii...iii.iiiii
+..iiii.i.iiii...iii.iiiii
+..iiiii..iiii...iii.iiiii
+....................i.i..
+..iiiiii..iii....ii.iiiii
+..iiiiii.i.ii...ii..iiiii
+..iiiiii.ii.....i.i.iiiii
+..iiiiii.ii.....i.i.iiiii
+....................i.i..
+....................i.i..
+....................i.i..
+..iiiiii..iii....ii.iiiii
+..iiiiii.ii.....i.i.iiiii
+..iiiiii.i.ii...ii..iiiii
+....................i.i..
+iiiiiiiiiiiiiiiiiiiiiiiii
+..iiiiii.iiii...iii.i.iii
+iiiiiiiiiiiiiiiiiiiiiiiii
+..ii.iii.iiii...iii.iii..
+..iiiiii.iiii...iii.iii..
 """.split()
 # `c` where the row's, the later one, covers the column's on one object. What ties others is never covered.
 COVERS = """
-...................
-cccccccc..cccc...cc
-..c................
-...c...............
-....c..............
-.....c.............
-......c............
-.......c...........
-...................
-...................
-..........c.......c
-...........cc....c.
-...........cc....c.
-...................
-...................
-...................
-...................
-...........cc....c.
-..........c.......c
+.........................
+cccccccc..cccc...ccc.c.cc
+..c......................
+...c.....................
+....c....................
+.....c...................
+......c..................
+.......c.................
+.........................
+.........................
+..........c.......c......
+...........cc....c.......
+...........cc....c.......
+.........................
+.........................
+.........................
+.........................
+...........cc....c.......
+..........c.......c......
+.........................
+.........................
+.....................c...
+.........................
+....c..................cc
+........................c
 """.split()
 # The object of the earlier event, its stamp where it doesn't make the object, and another object that it groups or ties.
 OBJECT, EARLIER, BESIDE = (3, 1), (7, 1), (2, 3)
 # The same of the later one.
 LATER, BESIDE_LATER = (8, 2), (5, 4)
-MAKERS = ("create", "group")
-# All of an object but its id: a rect as it was made by this stamp.
-WHOLE = "rect", 0, 0, 10, 10, 0, None, 1, "", None, False, ("high", (1, 1))
+MAKERS = ("create", "group", "connect")
+# All of an object but its id: a rect as it was made by this stamp, and a group, which alone may tie others.
+WHOLE = "rect", 0, 0, 10, 10, 0, None, 1, *PLAIN, "", None, None, False, ("high", (1, 1))
+TYING = "group", 0, 0, 0, 0, 0, None, 1, *PLAIN, "", None, None, False, ("high", (1, 1))
 
 
 def event(deed, object, own, beside):
@@ -83,13 +97,25 @@ def event(deed, object, own, beside):
         case "restore":
             return own, (deed, object, WHOLE)
         case "regroup":
-            return own, ("restore", object, WHOLE, (beside, None))
+            return own, ("restore", object, TYING, (beside, None))
         case "disband":
             return own, (deed, object, (beside, None))
         case "free":
             return own, ("disband", (6, beside[1]), *((each, None) for each in sorted([object, beside])))
         case "rerank":
             return own, (deed, object, ("low", (2, 1)))
+        case "connect":
+            return object, (deed, (1, beside[1]), (2, beside[1]), "Start")
+        case "span":
+            return own, ("connect", object, beside, "")
+        case "reconnect":
+            return own, (deed, object, beside, (1, beside[1]))
+        case "lead":
+            return own, ("reconnect", (6, beside[1]), beside, object)
+        case "style":
+            return own, (deed, object, {"stroke": 5, "dash": "dashed"})
+        case "dash":
+            return own, ("style", object, {deed: "dotted"})
         case _:
             return own, (deed, object)
 
@@ -183,7 +209,7 @@ DELETED_AGAIN = [
 ], []
 # A group is taken back and made again, and both give its members their links, also one that another group took late.
 GROUP = (3, 1)
-GROUPED = "group", 0, 0, 0, 0, 0, None, 1, "", None, False, ("high", GROUP)
+GROUPED = "group", 0, 0, 0, 0, 0, None, 1, *PLAIN, "", None, None, False, ("high", GROUP)
 DISBANDED = [
     (*square(A), "applied", 0),
     (*square(B, 20), "applied", 0),
@@ -215,7 +241,51 @@ SET_BACK = [
     "group 3.1 in - at 0 0", "rect 2.1 in 3.1 at 20 0 size 10 10 stroke 000000 fill none width 1",
     "rect 1.1 in 3.1 at 0 0 size 10 10 stroke 000000 fill none width 1",
 ]
-HISTORIES = DROPPED, THROUGH, RANKS, LOWERED, EFFECT_FIRST, RESTORED, DELETED_AGAIN, DISBANDED, SET_BACK
+# Nothing of a connector hangs on its ends, and of two reconnects the later one leaves nothing of the other.
+JOINED = (3, 1)
+CONNECTED = [
+    (*square(A), "applied", 0),
+    (*square(B, 20), "applied", 0),
+    (*square(C, 40), "applied", 0),
+    ((4, 2), ("delete", A), "applied", 0),
+    (JOINED, ("connect", A, B, ""), "applied", 0),
+    ((3, 3), ("reconnect", JOINED, B, A), "applied", 0),
+    ((6, 1), ("reconnect", JOINED, B, C), "applied", 0),
+    ((5, 2), ("reconnect", JOINED, C, A), "dropped", 0),
+    ((5, 3), ("style", JOINED, {"dash": "dashed"}), "applied", 0),
+    ((5, 4), ("move", B, 30, 0), "applied", 0),
+], [
+    "rect 1.2 in - at 40 0 size 10 10 stroke 000000 fill none width 1",
+    "rect 2.1 in - at 30 0 size 10 10 stroke 000000 fill none width 1",
+    "connector 3.1 in - from 2.1 to 1.2 stroke 000000 fill none width 1 dash dashed heads end",
+]
+# Looks are covered where the later event sets all of them, are put before it where it sets some, and else don't meet it.
+STYLED = [
+    (*square(A), "applied", 0),
+    ((4, 1), ("style", A, {"stroke": 0xFF0000, "dash": "dashed"}), "applied", 0),
+    ((3, 2), ("stroke", A, 7), "dropped", 0),
+    ((3, 3), ("style", A, {"stroke": 7, "opacity": 50}), "reworked", 1),
+    ((3, 4), ("style", A, {"dash": "dotted"}), "dropped", 0),
+    ((5, 2), ("style", A, {"round": 4}), "applied", 0),
+    ((4, 3), ("width", A, 5), "applied", 0),
+    ((4, 4), ("style", A, {"opacity": 20}), "applied", 0),
+], ["rect 1.1 in - at 0 0 size 10 10 stroke FF0000 fill none width 5 dash dashed round 4 opacity 20"]
+# A connector that is deleted is put back with the ends that it had.
+PUT_BACK = "connector", 0, 0, 0, 0, 0, None, 1, "solid", "end", None, 100, None, None, "", (A, B), None, False, ("high", JOINED)
+CUT_OFF = [
+    (*square(A), "applied", 0),
+    (*square(B, 20), "applied", 0),
+    (JOINED, ("connect", A, B, ""), "applied", 0),
+    ((6, 1), ("delete", JOINED), "applied", 0),
+    ((5, 2), ("reconnect", JOINED, B, A), "dropped", 0),
+    ((8, 1), ("restore", JOINED, PUT_BACK), "applied", 0),
+    ((7, 2), ("reconnect", JOINED, B, A), "reworked", 1),
+], [
+    "rect 1.1 in - at 0 0 size 10 10 stroke 000000 fill none width 1",
+    "rect 2.1 in - at 20 0 size 10 10 stroke 000000 fill none width 1",
+    "connector 3.1 in - from 1.1 to 2.1 stroke 000000 fill none width 1 heads end",
+]
+HISTORIES = DROPPED, THROUGH, RANKS, LOWERED, EFFECT_FIRST, RESTORED, DELETED_AGAIN, DISBANDED, SET_BACK, CONNECTED, STYLED, CUT_OFF
 
 
 class Relations(Case):

@@ -27,7 +27,7 @@ class Snapshots(Case):
 
     def test_a_snapshot_shows_its_drawing(self):
         self.expect(["view"], TIE_SNAPSHOT, DONE, TIE_TEXT)
-        self.expect(["view"], TIE_SNAPSHOT[:122], BAD_VIEW, "bad view at 122: Short\n")
+        self.expect(["view"], TIE_SNAPSHOT[:144], BAD_VIEW, "bad view at 144: Short\n")
         self.expect(["view"], b"", BAD_VIEW, "bad view at 0: Short\n")
 
     def test_a_frame_is_taken_once_for_whomever_it_is(self):
@@ -64,12 +64,12 @@ class Snapshots(Case):
         self.expect_all([
             (["view"], stream(*items) + rest, BAD_VIEW, text)
             for items, rest, text in [
-                ([], b"\x04", "bad view at 124: Short\n"),
-                ([], b"\x04\xB1\0", "bad view at 123: Long\n"),
-                ([], b"\x04\xB0", "bad view at 125: Short\n"),
-                ([MOVE], b"\0", MOVED + "bad view at 191: Short\n"),
-                ([MOVE], b"\0\x02\x01", MOVED + "bad view at 193: Short\n"),
-                ([MOVE], b"\xFF\xFF", MOVED + "bad view at 190: Long\n"),
+                ([], b"\x04", "bad view at 146: Short\n"),
+                ([], b"\x04\xB1\0", "bad view at 145: Long\n"),
+                ([], b"\x04\xB0", "bad view at 147: Short\n"),
+                ([MOVE], b"\0", MOVED + "bad view at 213: Short\n"),
+                ([MOVE], b"\0\x02\x01", MOVED + "bad view at 215: Short\n"),
+                ([MOVE], b"\xFF\xFF", MOVED + "bad view at 212: Long\n"),
             ]
         ])
 
@@ -97,8 +97,8 @@ def own_site(value):
 
 def sites(value):
     """The number of sites. What is known of each takes 8 bytes, so that with more of them the number of objects is read further
-    on: of three it is too great, of six it is `FFFFFFFF`; and of ten it is 10, with an id behind it whose site is 0."""
-    return bad({3: 35, 6: 59, 10: 101}.get(value, 10), "Field")
+    on: of three it is too great, of six it is `FFFFFFFF`; and of ten it is an id's end and a kind."""
+    return bad({3: 35, 6: 59, 10: 91}.get(value, 10), "Field")
 
 
 def place(at, byte, value):
@@ -113,8 +113,9 @@ def size(at, byte, value):
 
 def label(at, value):
     """The length of the label, in front of that many bytes, which have control characters among them."""
-    if value > 200:
+    if value > 202:
         return bad(at, "Field")
+    # Above 200 it has a second byte, which is 0 here.
     return bad(len(TIE_SNAPSHOT), "Short") if value > len(TIE_SNAPSHOT) - at - 1 else bad(at + 1, "Field")
 
 
@@ -122,7 +123,8 @@ def seen_object(at, offset, value):
     """A byte of an object, so many behind the first one that isn't of its id."""
     match offset:
         case 0:
-            return field(at, 1 <= value <= 5)
+            # A connector without ends, of which the flag is 00; and no kind.
+            return field(at + 37, False) if value == 6 else field(at, 1 <= value <= 5)
         case 1 | 5:
             return place(at, 0, value)
         case 9 | 13:
@@ -139,15 +141,27 @@ def seen_object(at, offset, value):
         case 25:
             return field(at, 1 <= value <= 64)
         case 26:
-            return label(at, value)
-        case 27:
-            # The flag of a link, whose group would be of the site 0.
-            return field(at + 7 if value == 1 else at, False)
-        case 28 | 29:
-            return field(at, value <= 1)
-        case 35:
-            return field(at - 5, value != 0)
+            return field(at, value <= 2)
+        case 27 | 35:
+            # The heads, and where the lines of the label begin.
+            return field(at, value <= 3)
+        case 28 | 29 | 30 | 31:
+            # The round, which is as the kind has it.
+            return field(at - (offset - 28), False)
+        case 32:
+            return field(at, 1 <= value <= 100)
+        case 33:
+            return field(at, value <= 3)
         case 36:
+            return label(at, value)
+        case 37 | 38:
+            # The flags of ends and of a link, whose first end and whose group would be of the site 0.
+            return field(at + 7 if value == 1 else at, False)
+        case 39 | 40:
+            return field(at, value <= 1)
+        case 46:
+            return field(at - 5, value != 0)
+        case 47:
             return field(at, 1 <= value <= 16)
     return None
 
@@ -156,17 +170,17 @@ def first_id(at, value):
     """A byte of the first object's id, which is below the second one's."""
     if at == 36 and value == 0:
         return bad(31, "Field")
-    return bad(37, "Field") if at == 37 and not 1 <= value <= 16 else bad(75, "Order")
+    return bad(37, "Field") if at == 37 and not 1 <= value <= 16 else bad(86, "Order")
 
 
 def second_id(at, value):
-    return field(75, value != 0) if at == 80 else field(81, 1 <= value <= 16) if at == 81 else None
+    return field(86, value != 0) if at == 91 else field(92, 1 <= value <= 16) if at == 92 else None
 
 
 def objects(at, value):
     """A byte of the number of objects, which is the number of all events. With none, what stands behind it is a frame of a byte,
     and an item that is cut."""
-    return "frame refused: Short at 1\nbad view at 123: Short\n" if at == 30 and value == 0 else bad(27, "Field")
+    return "frame refused: Short at 1\nbad view at 145: Short\n" if at == 30 and value == 0 else bad(27, "Field")
 
 
 def count(at, value):
@@ -182,11 +196,11 @@ def told(at, value):
         return own_site(value) if at == 9 else sites(value)
     if at < 31:
         return objects(at, value) if at > 26 else count(at, value) if at in (11, 12, 19, 20) else None
-    if at < 75:
+    if at < 86:
         return first_id(at, value) if at < 38 else seen_object(at, at - 38, value)
-    if at < 119:
-        return second_id(at, value) if at < 82 else seen_object(at, at - 82, value)
-    return bad(119, "Field")
+    if at < 141:
+        return second_id(at, value) if at < 93 else seen_object(at, at - 93, value)
+    return bad(141, "Field")
 
 
 class ChangedSnapshots(Case):

@@ -2,7 +2,7 @@
 
 from tests.nodes import answered
 from tests.program import DONE, LINE_LIMIT, Case
-from tests.spelled import chain, frame, label, log, rechecked, square
+from tests.spelled import PLAIN, chain, frame, label, log, rechecked, square
 from tests.tables import dialogues
 from tests.worked import FRAME
 
@@ -24,7 +24,7 @@ NOTED = [
 
 RECT = square((1, 2), 1)
 DELETE = ((2, 2), 2, ("delete", (1, 2)))
-RESTORE = ((3, 2), 3, ("restore", (1, 2), ("rect", 0, 0, 10, 10, 0, None, 1, "", None, False, ("high", (1, 2)))))
+RESTORE = ((3, 2), 3, ("restore", (1, 2), ("rect", 0, 0, 10, 10, 0, None, 1, *PLAIN, "", None, None, False, ("high", (1, 2)))))
 
 # The line faults of docs/LINES.md, section 4, each with its example.
 FAULTS = [
@@ -96,10 +96,12 @@ class Typed(Case):
         ]:
             self.expect_text(typed, printed)
 
-    # A letter of two bytes is the last: the labels have 201 and 200 bytes.
-    def test_a_typed_label_has_at_most_200_bytes(self):
-        for letters, answer in [(199, "refused: BadLabel\n"), (198, "ok 1.1\n")]:
+    # A letter of two bytes is the last: the labels have 501 and 500 bytes. A line feed is typed as two, and counts as one.
+    def test_a_typed_label_has_at_most_500_bytes(self):
+        for letters, answer in [(499, "refused: BadLabel\n"), (498, "ok 1.1\n")]:
             self.expect_text(f"create text 0 0 10 10 {'a' * letters}é\n", answer)
+        for typed, answer in [("\\n" * 500, "ok 1.1\n"), ("\\n" * 500 + "a", "refused: BadLabel\n"), ("\\\\" * 500, "ok 1.1\n")]:
+            self.expect_text(f"create text 0 0 10 10 {typed}\n", answer)
 
     # A label of no UTF-8 is refused, and the next line is read.
     def test_a_typed_label_is_a_text(self):

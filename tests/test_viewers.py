@@ -9,17 +9,17 @@ from tests.test_snapshots import MOVE
 LATER = changed(TIE, [(46, 2)])
 LATER_SNAPSHOT = bytes.fromhex(
     "47444F53 03 00000007 01 02 0001 000000000002 0001 000000000001"
-    "00000001 00000000000102 01 00000005 00000005 0000000A 0000000A 00000000 FFFFFFFF 01 00 00 00 01 00000000000102"
+    "00000001 00000000000102 01 00000005 00000005 0000000A 0000000A 00000000 FFFFFFFF 01 00 00 FFFFFFFF 64 0000 00 00 00 00 00 01 00000000000102"
     "00000001 00000000000201 0001 01 02 00000000 00000000 00000014 00000014 00"
 )
 # The ellipse of the tie alone, and two kept events of site 2 above the line, which is 1: it was deleted twice.
 KEPT = bytes.fromhex(
     "47444F53 03 00000007 01 02 0001 000000000001 0002 000000000003"
-    "00000001 00000000000101 02 00000000 00000000 00000014 00000014 00000000 FFFFFFFF 01 00 00 00 01 00000000000101"
+    "00000001 00000000000101 02 00000000 00000000 00000014 00000014 00000000 FFFFFFFF 01 00 00 FFFFFFFF 64 0000 00 00 00 00 00 01 00000000000101"
     "00000002 00000000000202 0001 02 00000000000101 00000000000302 0002 02 00000000000101"
 )
 # In KEPT the first kept event is a group of one member, twice.
-GROUPED = KEPT[:79] + record((2, 2), 1, ("group", ((1, 1), 0, 0), ((1, 1), 0, 0)))
+GROUPED = KEPT[:90] + record((2, 2), 1, ("group", ((1, 1), 0, 0), ((1, 1), 0, 0)))
 
 
 def bad(at, why):
@@ -29,7 +29,7 @@ def bad(at, why):
 def rect(id, rank, *shape):
     """A rect of a snapshot without a label, on top since that event. Behind its id stand its place and its size."""
     places = b"".join(number(value, 4) for value in shape)
-    return stamp(id) + b"\x01" + places + bytes.fromhex("00000000 FFFFFFFF 01 00 00 00 01") + stamp(rank)
+    return stamp(id) + b"\x01" + places + bytes.fromhex("00000000 FFFFFFFF 01 00 00 FFFFFFFF 64 0000 00 00 00 00 00 01") + stamp(rank)
 
 
 def snapshot(known, objects, kept):
@@ -45,7 +45,7 @@ class Written(Case):
         drawn = ("create", "rect", 10, 20, 30, 40, "")
         raised = ((2, 1), 2, ("raise", (1, 1)))
         objects = [rect(id, id, 10, 20, 30, 40) for id in ((1, 1), (1, 2))]
-        self.assertEqual((len(LATER_SNAPSHOT), len(KEPT)), (107, 113))
+        self.assertEqual((len(LATER_SNAPSHOT), len(KEPT)), (118, 124))
         self.expect_all([
             (["snapshot"], LATER, DONE, LATER_SNAPSHOT),
             (["snapshot"], log([((1, 1), 1, drawn), ((1, 2), 1, drawn), raised]), DONE,
@@ -69,34 +69,36 @@ class Faults(Case):
             (4, 2, 4, "Version"),
             (10, 0, 10, "Field"),
             (10, 17, 10, "Field"),
-            (38, 6, 38, "Field"),
+            (38, 7, 38, "Field"),
             (63, 0, 63, "Field"),
-            (64, 201, 64, "Field"),
-            (65, 2, 65, "Field"),
-            (81, 1, 75, "Order"),
-            (122, 1, 119, "Field"),
+            (64, 3, 64, "Field"),
+            (74, 203, 74, "Field"),
+            (75, 2, 75, "Field"),
+            (76, 2, 76, "Field"),
+            (92, 1, 86, "Order"),
+            (144, 1, 141, "Field"),
         ]])
 
     def test_the_first_fault_of_kept_events_is_found(self):
         self.expect_bad([(KEPT, *row) for row in [
-            (84, 1, 79, "Bound"),
-            (84, 4, 79, "Bound"),
-            (85, 3, 79, "Bound"),
-            (87, 3, 79, "Bound"),
-            (87, 0, 86, "Field"),
-            (88, 15, 88, "Field"),
-            (94, 3, 89, "FutureId"),
-            (101, 2, 96, "Order"),
+            (95, 1, 90, "Bound"),
+            (95, 4, 90, "Bound"),
+            (96, 3, 90, "Bound"),
+            (98, 3, 90, "Bound"),
+            (98, 0, 97, "Field"),
+            (99, 18, 99, "Field"),
+            (105, 3, 100, "FutureId"),
+            (112, 2, 107, "Order"),
         ]])
-        self.expect(["view"], GROUPED, BAD_VIEW, bad(105, "MemberOrder"))
+        self.expect(["view"], GROUPED, BAD_VIEW, bad(116, "MemberOrder"))
 
     def test_a_snapshot_that_is_cut_is_short_at_its_end(self):
         self.expect_all([(["view"], KEPT[:length], BAD_VIEW, bad(length, "Short")) for length in range(len(KEPT))])
 
     def test_items_that_are_none(self):
         self.expect_all([
-            (["view"], TIE_SNAPSHOT + b"\x04\xB1", BAD_VIEW, bad(123, "Long")),
-            (["view"], TIE_SNAPSHOT + item(MOVE)[:12], BAD_VIEW, bad(135, "Short")),
+            (["view"], TIE_SNAPSHOT + b"\x04\xB1", BAD_VIEW, bad(145, "Long")),
+            (["view"], TIE_SNAPSHOT + item(MOVE)[:12], BAD_VIEW, bad(157, "Short")),
         ])
 
 
@@ -129,5 +131,5 @@ class Viewers(Case):
         self.expect_all([(["view"], DRAWN, DONE, SHOWN), (["view"], DRAWN + items, DONE, lines + SHOWN)])
 
     def test_kept_events_are_applied(self):
-        alone = KEPT[:75] + bytes(4)
+        alone = KEPT[:86] + bytes(4)
         self.expect_all([(["view"], KEPT, DONE, "end 0\n"), (["view"], alone, DONE, ELLIPSE_LINE + "end 1\n")])

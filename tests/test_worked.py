@@ -7,7 +7,7 @@ from tests.echoes import words
 from tests.nodes import answered
 from tests.pages import blocks_of, lines_of, quoted, rows_of
 from tests.program import BAD_LOG, DONE, Case, run_program
-from tests.spelled import body_of, changed, checked, frame, header, item
+from tests.spelled import PLAIN, body_of, changed, checked, frame, header, item
 from tests.worked import CHECKED_TIE, FRAME, RECT_LINE, TIE, TIE_SNAPSHOT, TIE_TEXT
 
 FORMATS, LINES = "docs/FORMATS.md", "docs/LINES.md"
@@ -81,6 +81,16 @@ class Formats(Case):
         self.assertEqual(len(log), 183)
         self.expect(["replay"], log, DONE, block_with(FORMATS, "ellipse 1.1 in - at 0 0 size -5 30"))
 
+    def test_the_connector(self):
+        rows = self.table("Place", "Record", "Check", "Meaning")
+        records = [hex_of(quoted(row[1])[0]) + hex_of(quoted(row[2])[0]) for row in rows]
+        log = header() + b"".join(b"\xC3" + record for record in records) + b"\0"
+        for (place, *_), record in zip(rows, records):
+            self.assertEqual(log[int(place) :][: len(record)], record)
+        self.assertEqual(len(log), 239)
+        first = "rect 1.1 in - at 0 0 size 10 10 stroke 000000 fill none width 1 dash dashed"
+        self.expect(["replay"], log, DONE, block_with(FORMATS, first))
+
     # The group's members aren't there, and its end dissolves it.
     def test_the_group(self):
         for table in rows_of(FORMATS, "Place", "Bytes", "Meaning"):
@@ -125,10 +135,10 @@ class Formats(Case):
 
     def test_what_churns_print(self):
         text = " ".join(lines_of(FORMATS))
-        steps = "churn --seed 181960431 --steps 8"
+        steps = "churn --seed 224141972 --steps 8"
         for words, sentence in [
             ("churn --seed 1 --steps 0", text[text.index("`churn --seed 1 --steps 0` prints") :][:300]),
-            (steps, text[text.index("and it prints `held 5") :][:300]),
+            (steps, text[text.index("and it prints `held 6") :][:300]),
         ]:
             said = quoted(sentence.removeprefix(f"`{words}` prints"))[:4]
             lines = [f"site {site} {said[0]}" for site in range(1, 5)] + said[1:]
@@ -178,7 +188,7 @@ class Lines(Case):
         ops = {
             "4.1": ("move", (1, 1), 5, 5), "7.1": ("text", (1, 1), "Hi"), "8.1": ("group", ((1, 1), 0, 0), ((2, 1), 5, 5)),
             "9.1": ("disband", (3, 1), ((1, 1), None), ((2, 1), ((4, 1), 5, 5))),
-            "16.2": ("restore", (1, 2), ("rect", 1, 2, -3, 4, 0, 0xFF00, 7, "Hi", None, False, ("low", (14, 2)))),
+            "16.2": ("restore", (1, 2), ("rect", 1, 2, -3, 4, 0, 0xFF00, 7, *PLAIN, "Hi", None, None, False, ("low", (14, 2)))),
         }
         self.assertEqual(len(rows), len(ops))
         for cell, _ in rows:

@@ -90,7 +90,7 @@ class Making(WithBoard):
         self.one.do("Object.assign(ed.style, {stroke: 'D92D20', fill: 'FFF2AE', width: 4})")
         lines = self.typed_by(self.one, lambda: self.one.draw("r", (300, 200), (400, 300)))
         (name,) = self.one.selected()
-        self.assertEqual(lines[1:], [f"stroke {name} D92D20", f"fill {name} FFF2AE", f"width {name} 4"])
+        self.assertEqual(lines[1:], [f"style {name} stroke D92D20 fill FFF2AE width 4"])
         self.one.do("Object.assign(ed.style, {stroke: '000000', fill: null, width: 2})")
 
 

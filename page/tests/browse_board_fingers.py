@@ -2,6 +2,7 @@
 
 from page.tests.browse_board import WithBoard
 from page.tests.browse_board_touch import way
+from page.tests.browse_connectors import DOTS
 from page.tests.places import wait_for
 
 MENU = "document.querySelector('[role=menu]:not([hidden])') !== null"
@@ -84,6 +85,16 @@ class Fingers(WithBoard):
             self.clear()
             (rect,) = self.make(self.page, "create rect 300 200 200 120", select=True)
             self.assert_typed(self.page, lambda: self.swipe(begin, end), *(line.format(rect) for line in lines))
+
+    def test_a_connector_is_drawn_from_a_dot_and_its_end_dragged(self):
+        first, second, third = self.make(self.page, *(f"create rect {x} 300 80 80" for x in (200, 450, 700)))
+        self.page.do("ed.selection.set([arguments[0]], null); ed.focusBoard()", first)
+        self.settled(self.page)
+        dot = self.page.do(DOTS)[1]
+        (connect, _) = self.typed_by(self.page, lambda: self.swipe(dot, (490, 340)))
+        self.assertEqual(connect, f"connect {first} {second}")
+        (name,) = self.page.selected()
+        self.assert_typed(self.page, lambda: self.swipe((452, 346), (740, 340)), f"reconnect {name} {first} {third}")
 
     def test_the_ends_of_a_line_are_dragged(self):
         (line,) = self.make(self.page, "create line 300 200 100 50", select=True)

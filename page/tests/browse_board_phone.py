@@ -5,6 +5,7 @@ from pathlib import Path
 
 from page.tests.browse_board import WithBoard
 from page.tests.browse_board_touch import way
+from page.tests.browse_connectors import DOTS
 from page.tests.browser import PHONE
 from page.tests.places import wait_for
 
@@ -83,6 +84,20 @@ class Arranging(OnPhone):
         for label, lines in rows:
             self.assert_typed(self.page, lambda: self.tap_in_sheet(label), *lines)
         self.assert_seen(a, x=300, y=200)
+
+    def test_a_connector_is_drawn_from_a_dot_and_a_handle_still_resizes(self):
+        rect, other = self.make(self.page, "create rect 100 200 80 60", "create rect 100 420 80 60")
+        self.tap((140, 200))
+        self.assertEqual(self.page.selected(), [rect])
+        self.rest()
+        # From beside a handle a finger resizes, though a dot is behind it.
+        self.assert_typed(self.page, lambda: self.page.swipe(*way((140, 278), (140, 308))), f"resize {rect} 80 90")
+        self.settled(self.page)
+        dot = self.page.do(DOTS)[2]
+        self.page.picture("phone-dots")
+        (connect, _) = self.typed_by(self.page, lambda: self.page.swipe(*way(dot, (140, 450))))
+        self.assertEqual(connect, f"connect {rect} {other}")
+        self.page.picture("phone-connector")
 
     def test_group_ungroup_duplicate_and_delete_in_the_sheet(self):
         a, b, c = self.three()

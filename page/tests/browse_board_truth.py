@@ -16,7 +16,7 @@ class Refusals(WithBoard):
     def test_each_refusal_is_said_at_the_object_and_leaves_the_preview(self):
         rect, inner, other, group = self.make(self.one, "create rect 300 200 100 60", "create rect 500 200 50 50", "create rect 600 200 50 50", "group @2 @3")
         rows = [
-            (f"move 99.1 5 5", "someone deleted it"), (f"move {rect} 1000000001 5", "out of range"), (f"text {rect} {'x' * 201}", "200 bytes"),
+            (f"move 99.1 5 5", "someone deleted it"), (f"move {rect} 1000000001 5", "out of range"), (f"text {rect} {'x' * 501}", "500 bytes"),
             (f"width {rect} 65", "out of range"), (f"stroke {group} FF0000", "a group has no style"), (f"ungroup {rect}", "that is no group"),
             (f"group {rect} {rect}", "there twice"), (f"group {rect} {inner}", "in a group"), (f"group {rect}", "2 to 32"),
             (f"group {' '.join([rect] * 33)}", "2 to 32"),

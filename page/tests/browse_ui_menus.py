@@ -86,7 +86,7 @@ class Menus(WithOnePage):
     def test_what_the_program_lacks_is_no_button(self):
         page = self.page
         titles = page.ask("[...document.querySelectorAll('button:not([hidden])')].map((each) => each.ariaLabel ?? each.textContent)")
-        for word in ("Arrow", "Dash", "Opacity", "forward", "backward", "Restore", "Watch"):
+        for word in ("Arrow", "forward", "backward", "Restore", "Watch"):
             self.assertEqual([each for each in titles if word.lower() in each.lower()], [], word)
 
     def test_the_list_of_objects(self):

@@ -41,7 +41,7 @@ UNHURRIED = "window.holdAfter ??= ed.gestures.holdAfter; ed.gestures.holdAfter =
 # What the board shows of each object, from bottom to top, as `show` prints it.
 SHOWN = """
 return ed.model.items.map((i) => i.kind === 'group' ? `group ${i.id} in ${i.parent ?? '-'} at ${i.x} ${i.y}` :
-  `${i.kind} ${i.id} in ${i.parent ?? '-'} at ${i.x} ${i.y} size ${i.w} ${i.h} stroke ${i.stroke} fill ${i.fill ?? 'none'} width ${i.width}` +
+  `${i.kind} ${i.id} in ${i.parent ?? '-'} ${i.from ? `from ${i.from} to ${i.to}` : `at ${i.x} ${i.y} size ${i.w} ${i.h}`} stroke ${i.stroke} fill ${i.fill ?? 'none'} width ${i.width}` +
   (i.label && ` text ${i.label}`));
 """
 
@@ -384,6 +384,11 @@ def own_events(journal, site):
     return [event for event in json.loads(done.stdout) if event["site"] == site]
 
 
+# The parts of a look, and those that a line calls otherwise.
+LOOKS = ("stroke", "fill", "width", "dash", "heads", "round", "opacity", "letters", "align")
+LINE_WORDS = {"letters": "size"}
+
+
 def line_of(event):
     """An event in the words of its line."""
     op = event["op"]
@@ -392,8 +397,11 @@ def line_of(event):
     elif op == "group":
         words = [member["id"] for member in event["members"]]
     elif op == "restyle":
-        op = next(part for part in ("stroke", "fill", "width") if part in event)
-        words = [event["id"], "none" if event[op] is None else event[op]]
+        looks = [(LINE_WORDS.get(part, part), event[part]) for part in LOOKS if part in event]
+        pairs = [word for name, value in looks for word in (name, "none" if value is None else value)]
+        op, words = ("style", [event["id"], *pairs]) if len(looks) > 1 else (pairs[0], [event["id"], pairs[1]])
+    elif op in ("connect", "reconnect"):
+        words = [event[key] for key in ("id", "from", "to", "label") if event.get(key)]
     elif op == "retext":
         op, words = "text", [event["id"], event["label"]]
     else:

@@ -30,11 +30,12 @@ GROUP = (
 MEMBERS = [{"dx": 5, "dy": -7, "id": "1.2"}, {"dx": 1_000_000_000, "dy": -1_000_000_000, "id": "2.1"}]
 # An ellipse in a group, which has none to tie, and a dissolved group, which lies low and ties two others; what takes a group
 # away, and gives its two members their links; and a rank.
-ELLIPSE = "02 FFFFFFFB 00000006 00000014 0000001E 0000AB0C 00FF8000 40 02 C3A9"
-PLAIN = "05 00000001 00000002 00000000 00000000 00000000 FFFFFFFF 01 00"
+ELLIPSE = "02 FFFFFFFB 00000006 00000014 0000001E 0000AB0C 00FF8000 40 01 02 00000008 32 0018 03 02 C3A9 00"
+PLAIN = "05 00000001 00000002 00000000 00000000 00000000 FFFFFFFF 01 00 00 FFFFFFFF 64 0000 00 00 00"
 TIES = "02 000000000001 01 00 000000000002 01 01 000000000004 01 00000005 FFFFFFF9"
 TIED = [{"id": "1.1", "link": None}, {"id": "2.1", "link": {"dx": 5, "dy": -7, "id": "4.1"}}]
-SEEN = {"at": [-5, 6], "size": [20, 30], "stroke": "00AB0C", "fill": "FF8000", "width": 64, "label": "\u00e9", "dissolved": False}
+SEEN = {"at": [-5, 6], "size": [20, 30], "stroke": "00AB0C", "fill": "FF8000", "width": 64, "label": "\u00e9", "dissolved": False,
+        "dash": "dashed", "heads": "start", "round": 8, "opacity": 50, "letters": 24, "align": "end"}
 BARE = {"at": [1, 2], "size": [0, 0], "stroke": "000000", "fill": None, "width": 1, "label": "", "link": None, "dissolved": True}
 TURNED = [
     (11, f"000000000001 02 {ELLIPSE} 01 000000000003 01 00000001 FFFFFFFF 00 01 000000000002 02 00",
@@ -43,6 +44,9 @@ TURNED = [
      {"op": "restore", "target": "3.1", "kind": "group", **BARE, "rank": {"low": "5.2"}, "ties": TIED}),
     (12, f"000000000003 01 {TIES}", {"op": "disband", "target": "3.1", "ties": TIED}),
     (13, "000000000003 01 00 000000000005 02", {"op": "rerank", "target": "3.1", "rank": {"low": "5.2"}}),
+    (15, "000000000003 01 00 00 00 01 01 00 00 01 32 00 01 00", {"op": "restyle", "target": "3.1", "dash": "dashed", "opacity": 50, "align": None}),
+    (16, "000000000001 02 000000000003 01 03 61 0A 62", {"op": "connect", "from": "1.2", "to": "3.1", "label": "a\nb"}),
+    (17, "000000000005 01 000000000003 01 000000000001 02", {"op": "reconnect", "target": "5.1", "from": "3.1", "to": "1.2"}),
 ]
 
 
@@ -115,7 +119,7 @@ class ReadingOn(WithFolder):
         for cut in range(len(whole) + 1):
             self.journal.write_bytes(whole[:cut])
             found += journal.read_on()
-        self.assertEqual([event["seq"] for event in found], [2, 3, 4, 5, 6, 7, 1, 8, 9, 10, 11])
+        self.assertEqual([event["seq"] for event in found], [2, 3, 4, 5, 6, 7, 1, *range(8, 15)])
         self.assertEqual(bare(found[6]), {"op": "group", "members": MEMBERS})
         self.assertEqual([bare(event) for event in found[7:]], [wanted for _, _, wanted in TURNED])
 
@@ -155,7 +159,7 @@ class Faults(WithFolder):
             "another magic": b"GDOB" + header()[4:] + b"\x00",
             "version four": header(version=4) + b"\x00",
             "a flipped bit of version three": header(version=3) + b"\x00",
-            "no such tag": log(header(), record("1.1", 1, 15, stamp("1.1"))),
+            "no such tag": log(header(), record("1.1", 1, 18, stamp("1.1"))),
             "no such height": log(header(), record("2.1", 1, 13, stamp("1.1") + b"\x02" + stamp("1.1"))),
             "no such kind": log(header(), made[:10] + b"\x05" + made[11:]),
             "no such style": log(header(), record("2.1", 1, 5, stamp("1.1") + b"\x04\x00\x00\x00\x00")),

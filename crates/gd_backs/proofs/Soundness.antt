@@ -1,6 +1,6 @@
 -- What takes a sound operation back, over sound events, is a sound operation at any later stamp.
 use Rattle.std.proofs.Common.{◌≡◌, suc, ◌≤◌, true, List, [], ◌∷◌, length, map, Option, None, Some, refl, arith, le-leb}
-use Rattle.std.specs.Prelude.{is_some, option_map, unwrap_or}
+use Rattle.std.specs.Prelude.{is_some, nat_le, option_map, unwrap_or}
 use Rattle.std.proofs.lemmas.Bool.{and_from, and_parts, cond_both}
 use Rattle.std.proofs.lemmas.List.Elements.{All-from_recursion}
 use Rattle.std.specs.FinMap as map_of
@@ -9,10 +9,14 @@ use Rattle.gd_base.proofs.Lists.{Every-append, Every-weaker, list_all-from_Every
 use Rattle.gd_base.proofs.StampLemmas.{is_before-trans}
 use Rattle.gd_base.specs.Stamps.{Stamp, IsStamp, is_before}
 use Rattle.gd_base.specs.Typed.{AreTied, IsLinked}
-use Rattle.gd_base.specs.declared.content.Content.TheVariants.{ToText, ToRank}
-use Rattle.gd_base.specs.declared.object.Object.{Object}
+use Rattle.gd_base.specs.declared.content.Content.TheVariants.{ToText, ToEnds, ToRank}
+use Rattle.gd_base.specs.Kinds.{most_ties}
+use Rattle.gd_base.specs.declared.object.Kind.{Kind}
+use Rattle.gd_base.specs.declared.object.Kind.TheVariants.{Shape, Group, Connector}
+use Rattle.gd_base.specs.declared.ranges.TheConstants.{MOST_MEMBERS}
+use Rattle.gd_base.specs.Whole.{Object}
 use Rattle.gd_base.specs.declared.ties.Tie.{Tie}
-use Rattle.gd_drawing.proofs.SoundObjects.{AreFieldsBefore, AreTiesBefore, IsContentBefore, IsEntryBefore, IsFormBefore, IsIdBefore, IsLookupBefore, IsTieBefore, board_before, each_before, form_before, object_before}
+use Rattle.gd_drawing.proofs.SoundObjects.{AreTiesBefore, IsContentBefore, IsEntryBefore, IsFormBefore, IsIdBefore, IsLookupBefore, IsTieBefore, board_before, each_before, form_before, no_ties, object_before}
 use Rattle.gd_events.specs.Events.{Event}
 use Rattle.gd_events.specs.Ops.{Op}
 use Rattle.gd_events.specs.Sound.{are_ties_before, are_ties_in_range, has_members, has_rising_ids, is_above, is_in_range, is_tie_before, names_before, rise_above, IsOp, IsSoundBefore, IsWellTyped}
@@ -20,7 +24,7 @@ use Rattle.gd_model.specs.Backs.{back, op_of}
 use Rattle.gd_model.specs.Board.{board}
 use Rattle.gd_model.specs.Contents.{Content}
 use Rattle.gd_model.specs.Forms.{form}
-use Rattle.gd_model.specs.Objects.{fits, old}
+use Rattle.gd_model.specs.Objects.{fits, old, own_ties}
 use Rattle.gd_model.specs.Undoing.{Lookup, before_by, old_in, old_ties, with_old}
 use Rattle.gd_model.specs.declared.form.Form.{Form}
 use Rattle.gd_reference.specs.Judging.{with_event}
@@ -37,6 +41,7 @@ sound_op t op typed range members before rising =
 
 sound_set : (t id : Stamp) (c : Content) → IsIdBefore t id → IsContentBefore t c → IsOp t (op_of (Sets id c))
 sound_set t id (ToText label) i h = sound_op t _ (i.0, h) refl refl (and_from _ _ i.1 refl) refl
+sound_set t id (ToEnds ends) i h = sound_op t _ (i.0, h.1.typed) h.0 refl (and_from _ _ i.1 h.1.before) refl
 sound_set t id (ToRank rank) i h = sound_op t _ (i.0, h.0) refl refl (and_from _ _ i.1 h.1) refl
 sound_set t id c i h = sound_op t _ (i.0, tt) h refl (and_from _ _ i.1 refl) refl
 
@@ -62,7 +67,7 @@ sound_form t (Sets id c) h = sound_set t id c h.0 h.1
 sound_form t (Puts id o ties) h =
     let object = object_before t id o h.0 h.1 in
     sound_op t _ (h.0.0, object.typed, (h.2.few, ties-tied t ties h.2))
-    (and_from _ _ object.range (ties-range t ties h.2)) refl
+    (and_from _ _ object.range (ties-range t ties h.2)) h.3
     (and_from _ _ object.before (ties-before t ties h.2)) h.2.rising
 sound_form t (Takes id []) h = sound_op t _ h.0.0 refl refl h.0.1 refl
 sound_form t (Takes id (x ∷ xs)) h =
@@ -122,6 +127,18 @@ module _ (t : Stamp) (g : Lookup) (sound : IsLookupBefore t g) where
         rising = old-rising None ties h.rising;
       }
 
+  -- only a group ties others
+  own-are : (k : Kind) (ties : List Tie) → AreTiesBefore t ties → AreTiesBefore t (old_ties (own_ties k ties) g)
+  own-are (Shape kind) ties h = no_ties t
+  own-are Group ties h = old-are ties h
+  own-are Connector ties h = no_ties t
+
+  own-few : (k : Kind) (ties : List Tie) → AreTiesBefore t ties
+      → nat_le (length (old_ties (own_ties k ties) g)) (most_ties k) ≡ true
+  own-few (Shape kind) ties h = refl
+  own-few Group ties h = le-leb (length (old_ties ties g)) MOST_MEMBERS (omega (arith, old-few ties, h.few))
+  own-few Connector ties h = refl
+
   back_before : (f : Form) → IsFormBefore t f → IsFormBefore t (unwrap_or (before_by f g) f)
   back_before (Sets id c) h = by (g id) (sound id)
     where
@@ -131,16 +148,17 @@ module _ (t : Stamp) (g : Lookup) (sound : IsLookupBefore t g) where
       by (Some o) k =
           cond_both (fits c o.kind) (Some (old c o)) None
           (λ y. IsFormBefore t (unwrap_or (option_map (Sets id) y) (Sets id c)))
-          (λ has. (h.0, each_before t id o k.1 c)) (λ none. h)
+          (λ has. (h.0, each_before t id o k.1 c has h.1)) (λ none. h)
   back_before (Puts id o ties) h =
-      cond_both (is_some (g id)) None (Some (Takes id (old_ties ties g)))
-      (λ v. IsFormBefore t (unwrap_or v (Puts id o ties))) (λ there. h) (λ absent. (h.0, old-are ties h.2))
+      cond_both (is_some (g id)) None (Some (Takes id (old_ties (own_ties o.kind ties) g)))
+      (λ v. IsFormBefore t (unwrap_or v (Puts id o ties))) (λ there. h) (λ absent. (h.0, own-are o.kind ties h.2))
   back_before (Takes id ties) h = by (g id) (sound id)
     where
       by : (x : Option Object) → IsEntryBefore t id x
-          → IsFormBefore t (unwrap_or (option_map (λ o. Puts id o (old_ties ties g)) x) (Takes id ties))
+          → IsFormBefore t
+          (unwrap_or (option_map (λ o. Puts id o (old_ties (own_ties o.kind ties) g)) x) (Takes id ties))
       by None k = h
-      by (Some o) k = (h.0, k.1, old-are ties h.1)
+      by (Some o) k = (h.0, k.1, own-are o.kind ties h.1, own-few o.kind ties h.1)
 
 pub sound_back : (held : List Event) (s t : Stamp) (op : Op) → Every (IsSoundBefore t) held → IsStamp s
     → is_before s t ≡ true → IsOp s op → IsOp t (back s op (board held))

@@ -6,13 +6,14 @@ use Rattle.std.specs.FinMap as map_of
 use Rattle.gd_base.proofs.StampLemmas.{is_same-refl}
 use Rattle.gd_base.specs.Stamps.{Stamp}
 use Rattle.gd_base.specs.declared.content.Content.TheVariants.{ToPlace}
-use Rattle.gd_base.specs.declared.object.Object.{Object}
+use Rattle.gd_base.specs.Whole.{Object}
 use Rattle.gd_drawing.proofs.Inverse.{inverse_by}
 use Rattle.gd_events.specs.Ops.{Op}
 use Rattle.gd_model.specs.Backs.{back, op_of}
 use Rattle.gd_model.specs.Board.{Board, board_with, apply}
 use Rattle.gd_model.specs.Contents.{Content}
 use Rattle.gd_model.specs.Forms.{form}
+use Rattle.gd_model.specs.Objects.{own_ties}
 use Rattle.gd_model.specs.Undoing.{Lookup, Before, old_in, old_ties, before_by, undoes, undone_by}
 use Rattle.gd_model.specs.declared.form.Form.{Form}
 use Rattle.gd_model.specs.declared.form.Form.TheVariants.{Sets, Puts, Takes}
@@ -34,12 +35,12 @@ before_undoes (Sets id c) g = by (old_in c (g id))
     by None = tt
     by (Some d) = is_same-refl id
 before_undoes (Puts id o ts) g =
-    cond_both (is_some (g id)) None (Some (Takes id (old_ties ts g)))
+    cond_both (is_some (g id)) None (Some (Takes id (old_ties (own_ties o.kind ts) g)))
     (λ v. IfSome v (λ r. undoes r (Puts id o ts) ≡ true)) (λ there. tt) (λ absent. is_same-refl id)
 before_undoes (Takes id ts) g = by (g id)
   where
     by : (x : Option Object)
-        → IfSome (option_map (λ o. Puts id o (old_ties ts g)) x) (λ r. undoes r (Takes id ts) ≡ true)
+        → IfSome (option_map (λ o. Puts id o (old_ties (own_ties o.kind ts) g)) x) (λ r. undoes r (Takes id ts) ≡ true)
     by None = tt
     by (Some o) = is_same-refl id
 

@@ -1,53 +1,56 @@
--- Contents and operations over what labels, ranks and members are.
-use Rattle.std.specs.Prelude.{◌≡◌, ℕ, Bool, true, ◌&&◌, List}
+-- Contents and operations over what labels, looks, ranks and members are.
+use Rattle.std.specs.Prelude.{◌≡◌, ℕ, Bool, true, ◌&&◌, List, is_some}
 use Rattle.gd_base.specs.Labels.{IsLabel}
-use Rattle.gd_base.specs.Ranges.{place_limit, size_limit, is_within, is_colour, is_fill, is_width}
+use Rattle.gd_base.specs.Looks.{are_looks}
+use Rattle.gd_base.specs.Ranges.{place_limit, size_limit, is_within}
+use Rattle.gd_base.specs.Typed.{AreEnds}
 use Rattle.gd_base.specs.declared.content.Content.{Content}
-use Rattle.gd_base.specs.declared.content.Content.TheVariants.{ToPlace, ToSize, ToStroke, ToFill, ToWidth, ToText, ToFlag, ToRank}
+use Rattle.gd_base.specs.declared.content.Content.TheVariants.{ToPlace, ToSize, ToLooks, ToText, ToFlag, ToEnds, ToRank}
 use Rattle.gd_base.specs.declared.content.Side.{Side}
 use Rattle.gd_base.specs.declared.op.Op.{Op}
-use Rattle.gd_base.specs.declared.op.Op.TheVariants.{Create, Delete, Set, Group, Restore, Disband}
+use Rattle.gd_base.specs.declared.op.Op.TheVariants.{Create, Delete, Set, Group, Connect, Restore, Disband}
+use Rattle.gd_base.specs.declared.look.Looks.{Looks}
 
--- the content with another label and rank
-abbrev pub content_map : {L R K T : Type 0} → (L → K) → (R → T) → Content L R → Content K T
-content_map f g (ToPlace x y) = ToPlace x y
-content_map f g (ToSize w h) = ToSize w h
-content_map f g (ToStroke colour) = ToStroke colour
-content_map f g (ToFill fill) = ToFill fill
-content_map f g (ToWidth width) = ToWidth width
-content_map f g (ToText label) = ToText (f label)
-content_map f g (ToFlag flag) = ToFlag flag
-content_map f g (ToRank rank) = ToRank (g rank)
+-- the content with another label, other looks and another rank
+abbrev pub content_map : {L K R M J T : Type 0} → (L → M) → (K → J) → (R → T) → Content L K R → Content M J T
+content_map f k g (ToPlace x y) = ToPlace x y
+content_map f k g (ToSize w h) = ToSize w h
+content_map f k g (ToLooks looks) = ToLooks (k looks)
+content_map f k g (ToText label) = ToText (f label)
+content_map f k g (ToFlag flag) = ToFlag flag
+content_map f k g (ToEnds ends) = ToEnds ends
+content_map f k g (ToRank rank) = ToRank (g rank)
 
 -- the operation with other labels, members, objects and ties
-abbrev pub op_map : {L M R O T K N P U : Type 0} → (L → K) → (M → N) → (O → P) → (T → U) → Op L M R O T → Op K N R P U
+abbrev pub op_map : {L K M R O T J N P U : Type 0} → (L → J) → (M → N) → (O → P) → (T → U) → Op L K M R O T → Op J K N R P U
 op_map f g h j (Create kind x y w h' label) = Create kind x y w h' (f label)
 op_map f g h j (Delete id) = Delete id
-op_map f g h j (Set id content) = Set id (content_map f (λ rank. rank) content)
+op_map f g h j (Set id content) = Set id (content_map f (λ looks. looks) (λ rank. rank) content)
 op_map f g h j (Group members) = Group (g members)
+op_map f g h j (Connect ends label) = Connect ends (f label)
 op_map f g h j (Restore id object ties) = Restore id (h object) (j ties)
 op_map f g h j (Disband id ties) = Disband id (j ties)
 
--- the numbers are in their ranges
-abbrev pub is_content : {L R : Type 0} → Content L R → Bool
+-- the numbers are in their ranges, and of looks one is set
+abbrev pub is_content : {L R : Type 0} → Content L Looks R → Bool
 is_content (ToPlace x y) = is_within place_limit x && is_within place_limit y
 is_content (ToSize w h) = is_within size_limit w && is_within size_limit h
-is_content (ToStroke colour) = is_colour colour
-is_content (ToFill fill) = is_fill fill
-is_content (ToWidth width) = is_width width
+is_content (ToLooks looks) = are_looks looks
 is_content (ToText label) = true
 is_content (ToFlag flag) = true
+is_content (ToEnds ends) = is_some ends
 is_content (ToRank rank) = true
 
--- a label and a rank are what their types say
-abbrev pub IsTypedBy : {R : Type 0} → (R → Type 0) → Content (List ℕ) R → Type 0
+-- a label, ends and a rank are what their types say
+abbrev pub IsTypedBy : {K R : Type 0} → (R → Type 0) → Content (List ℕ) K R → Type 0
 IsTypedBy IsRanked (ToText label) = IsLabel label
+IsTypedBy IsRanked (ToEnds ends) = AreEnds ends
 IsTypedBy IsRanked (ToRank rank) = IsRanked rank
 IsTypedBy IsRanked content = Unit {0}
 
 -- what a user sets
 abbrev pub Said : Type 0
-Said = Content (List ℕ) Side
+Said = Content (List ℕ) Looks Side
 
 abbrev pub IsTyped : Said → Type 0
 IsTyped content = IsTypedBy (λ side. Unit {0}) content

@@ -3,22 +3,24 @@ ghost use Rattle.gd_base.specs.Contents.{is_content};
 ghost use Rattle.gd_base.specs.Ranges.{is_within};
 
 use crate::label::Label;
-use crate::ranges::{COLOUR_LIMIT, PLACE_LIMIT, SIZE_LIMIT, WIDTH_LIMIT};
+use crate::look::Looks;
+use crate::object::Ends;
+use crate::ranges::{PLACE_LIMIT, SIZE_LIMIT};
 use crate::rank::Rank;
 
-/// A new value for one part of an object, with a label of type `L` and a rank of type `R`. In a sound event places are from
-/// `-PLACE_LIMIT` to `PLACE_LIMIT`, sizes from `-SIZE_LIMIT` to `SIZE_LIMIT`, colours from 0 to `COLOUR_LIMIT` (a fill may
-/// also be none), widths from 1 to `WIDTH_LIMIT`.
+/// A new value for one part of an object, or for several parts of its look, with a label of type `L`, looks of type `K` and a rank
+/// of type `R`. In a sound event places are from `-PLACE_LIMIT` to `PLACE_LIMIT`, sizes from `-SIZE_LIMIT` to `SIZE_LIMIT`, and
+/// of looks at least one part is set.
 #[derive(Drop)]
-pub enum Content<L, R> {
+pub enum Content<L, K, R> {
     ToPlace { x: i32, y: i32 },
     ToSize { w: i32, h: i32 },
-    ToStroke(u32),
-    ToFill(Option<u32>),
-    ToWidth(u8),
+    ToLooks(K),
     ToText(L),
     /// Whether a group is dissolved.
     ToFlag(bool),
+    /// The ends of a connector. In a sound event there are some.
+    ToEnds(Option<Ends>),
     ToRank(R),
 }
 
@@ -38,43 +40,46 @@ pub enum Height {
     At(Rank),
 }
 
-/// The content behind a reference with another label and rank, each made of the one that is there.
+/// The content behind a reference with another label, other looks and another rank, each made of the one that is there.
 #[macro_export]
 macro_rules! map_content {
-    ($content:expr, $label:ident => $text:expr, $rank:ident => $level:expr) => {
+    (
+        $content:expr,
+        $label:ident => $text:expr,
+        $looks:ident => $all:expr,
+        $rank:ident => $level:expr
+    ) => {
         match $content {
             $crate::Content::ToPlace { x, y } => $crate::Content::ToPlace { x: *x, y: *y },
             $crate::Content::ToSize { w, h } => $crate::Content::ToSize { w: *w, h: *h },
-            $crate::Content::ToStroke(colour) => $crate::Content::ToStroke(*colour),
-            $crate::Content::ToFill(fill) => $crate::Content::ToFill(*fill),
-            $crate::Content::ToWidth(width) => $crate::Content::ToWidth(*width),
+            $crate::Content::ToLooks($looks) => $crate::Content::ToLooks($all),
             $crate::Content::ToText($label) => $crate::Content::ToText($text),
             $crate::Content::ToFlag(flag) => $crate::Content::ToFlag(*flag),
+            $crate::Content::ToEnds(ends) => $crate::Content::ToEnds(*ends),
             $crate::Content::ToRank($rank) => $crate::Content::ToRank($level),
         }
     };
 }
 
-impl<R: Copy> Content<Label, R> {
+impl<R: Copy> Content<Label, Looks, R> {
     pub fn copy(&self) -> Self
         ensures { result ≡ self.now }
     {
-        map_content!(self, label => label.copy(), rank => *rank)
+        map_content!(self, label => label.copy(), looks => *looks, rank => *rank)
     }
 }
 
-impl<L, R> Content<L, R> {
-    /// Whether its numbers are in their ranges.
+impl<L, R> Content<L, Looks, R> {
+    /// Whether its numbers are in their ranges, and of looks one is set.
     pub fn is_in_range(&self) -> bool
         ensures { result ≡ is_content self.now }
     {
         match self {
             Content::ToPlace { x, y } => is_within(PLACE_LIMIT, *x) && is_within(PLACE_LIMIT, *y),
             Content::ToSize { w, h } => is_within(SIZE_LIMIT, *w) && is_within(SIZE_LIMIT, *h),
-            Content::ToStroke(colour) | Content::ToFill(Some(colour)) => *colour <= COLOUR_LIMIT,
-            Content::ToWidth(width) => 1 <= *width && *width <= WIDTH_LIMIT,
-            Content::ToFill(None) | Content::ToText(_) | Content::ToFlag(_) | Content::ToRank(_) =>
-                true,
+            Content::ToLooks(looks) => looks.is_in_range(),
+            Content::ToEnds(ends) => ends.is_some(),
+            Content::ToText(_) | Content::ToFlag(_) | Content::ToRank(_) => true,
         }
     }
 }

@@ -3,16 +3,17 @@ ghost use Rattle.std.specs.Prelude.{◌≡◌};
 use crate::content::{Content, Height, Side};
 use crate::ids::Ids;
 use crate::label::Label;
+use crate::look::Looks;
 use crate::member::Members;
-use crate::object::Object;
+use crate::object::{Ends, Object};
 use crate::shape::Shape;
 use crate::stamp::Stamp;
 use crate::ties::Ties;
 
-/// A change of a drawing, over how labels, the members of a group, heights, objects and ties are kept. `Edit` is what a user asks
+/// A change of a drawing, over how labels, looks, the members of a group, heights, objects and ties are kept. `Edit` is what a user asks
 /// for; `gd_events` has the one of an event, and the one in the memory that it needs.
 #[derive(Drop)]
-pub enum Op<L, M, R, O, T> {
+pub enum Op<L, K, M, R, O, T> {
     /// A new shape on top, with the event's stamp as its id.
     Create {
         kind: Shape,
@@ -28,11 +29,16 @@ pub enum Op<L, M, R, O, T> {
     /// The content goes into the object of that id, where it has the part.
     Set {
         id: Stamp,
-        content: Content<L, R>,
+        content: Content<L, K, R>,
     },
     /// A new group on top, with the event's stamp as its id. Each member that is there is linked to it, with its shift.
     Group {
         members: M,
+    },
+    /// A new connector on top, with the event's stamp as its id, between these ends.
+    Connect {
+        ends: Ends,
+        label: L,
     },
     /// The object stands under that id as it was, where the id is absent, and each other object that is tied has its new link.
     Restore {
@@ -53,14 +59,15 @@ pub enum Nothing {}
 
 /// A change that a user asks for. A place is where the object should appear; the groups that hold it are accounted for
 /// when the edit becomes an event.
-pub type Edit = Op<Label, Ids, Side, Nothing, Nothing>;
+pub type Edit = Op<Label, Looks, Ids, Side, Nothing, Nothing>;
 
-/// The operation behind a reference with other labels, members, objects and ties, each made of those that are there.
+/// The operation behind a reference with other labels, looks, members, objects and ties, each made of those that are there.
 #[macro_export]
 macro_rules! map_op {
     (
         $op:expr,
         $label:ident => $text:expr,
+        $looks:ident => $look:expr,
         $members:ident => $all:expr,
         $object:ident => $whole:expr,
         $ties:ident => $links:expr
@@ -72,12 +79,17 @@ macro_rules! map_op {
             }
             $crate::Op::Delete { id } => $crate::Op::Delete { id: *id },
             $crate::Op::Set { id, content } => {
-                let content = $crate::map_content!(content, $label => $text, rank => *rank);
+                let content =
+                    $crate::map_content!(content, $label => $text, $looks => $look, rank => *rank);
                 $crate::Op::Set { id: *id, content }
             }
             $crate::Op::Group { members: $members } => {
                 let members = $all;
                 $crate::Op::Group { members }
+            }
+            $crate::Op::Connect { ends, label: $label } => {
+                let text = $text;
+                $crate::Op::Connect { ends: *ends, label: text }
             }
             $crate::Op::Restore { id, object: $object, ties: $ties } => {
                 let object = $whole;
@@ -98,18 +110,20 @@ impl Edit {
     {
         crate::map_op!(self,
             label => label.copy(),
+            looks => *looks,
             members => members.copy(),
             object => *object,
             ties => *ties)
     }
 }
 
-impl Op<Label, Members, Height, Object, Ties> {
+impl Op<Label, Looks, Members, Height, Object, Ties> {
     pub fn copy(&self) -> Self
         ensures { result ≡ self.now }
     {
         crate::map_op!(self,
             label => label.copy(),
+            looks => *looks,
             members => members.copy(),
             object => object.copy(),
             ties => ties.copy())

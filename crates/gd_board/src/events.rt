@@ -13,7 +13,7 @@ ghost use Rattle.gd_board.specs.Kept.{before_of, of_gone, of_made, of_mark, of_t
 use crate::card_board::CardBoard;
 use crate::changes::{Marking, Titling};
 use crate::kept::Kept;
-use gd_base::{Label, Stamp};
+use gd_base::{Stamp, Title};
 use gd_cards::{Card, Mark};
 
 impl CardBoard {
@@ -69,7 +69,7 @@ impl CardBoard {
 
     /// Gives the card a title, and returns the old one, where there is a card.
     #[tactic(auto, using(crate::proofs::KeptLemmas::finds))]
-    fn retitle(&mut self, id: Stamp, title: Label) -> Option<Label>
+    fn retitle(&mut self, id: Stamp, title: Title) -> Option<Title>
         ensures board { board_of self.new
             ≡ change (board_of self.old) id (changed_by (Changes (ToTitle title))) }
         ensures before { of_title result
@@ -112,7 +112,7 @@ impl CardBoard {
     }
 
     /// Sets the old title back, where there was one.
-    fn title_back(&mut self, id: Stamp, old: Option<Label>)
+    fn title_back(&mut self, id: Stamp, old: Option<Title>)
         ensures board { (new : List ℕ) → board_of self.new
             ≡ change (board_of self.old) id (restored_by (Changes (ToTitle new)) (of_title old)) }
         ensures slots { ids self.new ≡ ids self.old }

@@ -5,50 +5,34 @@ use Rattle.gd_base.specs.Stamps.{Stamp, is_same}
 use Rattle.gd_base.proofs.StampLemmas.{is_same-true}
 use Rattle.gd_model.specs.declared.form.Form.{Form}
 use Rattle.gd_model.specs.declared.form.Form.TheVariants.{Sets, Puts, Takes}
-use Rattle.gd_base.specs.declared.object.Object.{Object}
+use Rattle.gd_base.specs.Whole.{Object}
 use Rattle.gd_base.specs.declared.ties.Tie.{Tie}
 use Rattle.gd_model.specs.Contents.{Content}
 use Rattle.gd_model.specs.Forms.{form}
-use Rattle.gd_model.specs.Objects.{fits, is_same_part, old, part_of, put, set}
+use Rattle.gd_model.specs.Objects.{fits, have_parts, laid_over, old, part_within, parts_of, put, set}
 use Rattle.gd_model.specs.Relations.{covers_by}
 use Rattle.gd_model.specs.Splices.{splice, splice_by, splice_set}
 use Rattle.gd_model.specs.Undoing.{Before, old_in}
 use Rattle.gd_canvas.specs.declared.kept.Kept.{Kept}
 use Rattle.gd_canvas.specs.declared.kept.Kept.TheVariants.{Set}
-use Rattle.gd_canvas.specs.Kept.{Roomy, Found, before_of, found_in, of_found, of_made, of_taken, op_of, sets, stored}
+use Rattle.gd_canvas.specs.declared.swap.Swap.{Swap}
+use Rattle.gd_canvas.specs.Kept.{before_of, label_in, of_found, of_made, of_taken, op_of}
 use Rattle.gd_canvas.specs.Settings.{replaced_by}
-use Rattle.gd_canvas.specs.Touches.{is_set_by, sets_part}
+use Rattle.gd_canvas.specs.Swaps.{found_in, of_swap, old_of, sets, stored}
+use Rattle.gd_canvas.specs.Touches.{is_set_by, sets_parts}
 use Rattle.gd_canvas.proofs.FormLemmas.{old_found}
-use Rattle.gd_canvas.proofs.KeptLemmas.{stored_found}
+use Rattle.gd_canvas.proofs.SwapLemmas.{part_sets, stored_found}
 
 abbrev Pair : Type 0
 Pair = Before × Before
 
--- of two tests that both hold each holds
-first_holds : (s t : Bool) → (s && t) ≡ true → s ≡ true
-first_holds true t e = refl
-first_holds false t e = cc
+-- ---- both set parts of one object
 
--- ---- both set one part
-
--- what the later one found the earlier one finds, and what the earlier one sets the later one finds
-passed_on : (j : Stamp) (c : Content) (x : Option Content)
-    → ◌≡◌ {A = Pair} (of_found j x, of_found j (option_map (λ k. c) x)) (splice_set (Sets j c) (of_found j x))
-passed_on j c None = refl
-passed_on j c (Some k) = refl
-
-pub passed : (i j : Stamp) (c : Content) (x : Option Content) → is_same i j ≡ true
-    → ◌≡◌ {A = Pair} (of_found j x, of_found i (option_map (λ k. c) x)) (splice_set (Sets j c) (of_found i x))
-passed i j c x same =
-    let P : Stamp → Type 0 = λ q. ◌≡◌ {A = Pair} (of_found j x, of_found q (option_map (λ k. c) x)) (splice_set (Sets j c) (of_found q x)) in
-    subst P (sym (is_same-true i j same)) (passed_on j c x)
-
--- the same of what is kept of both
-pub passed_found : (later : Bool) (c : Content) (earlier first content second : Roomy) (old0 old1 found0 found1 : Found)
-    → found_in true first old1 ≡ found_in true content found0 → found_in true second found1 ≡ Some c
-    → ◌≡◌ {A = Option Content × Option Content} (found_in later first old1, found_in later second found1) (found_in later content found0, option_map (λ k. c) (found_in later content found0))
-passed_found true c earlier first content second old0 old1 found0 found1 e g = λ i. (e i, g i)
-passed_found false c earlier first content second old0 old1 found0 found1 e g = refl
+-- the earlier one finds of its parts what the later one found, and what it sets the later one finds
+passed_on : (j id : Stamp) (new : Content) (is_found : Bool) (first second later : Swap) → old_of first ≡ part_within new (old_of later) → old_of second ≡ laid_over new (old_of later)
+    → ◌≡◌ {A = Pair} (of_found j (found_in is_found first), of_found id (found_in is_found second)) (splice_set j new (of_found id (found_in is_found later)))
+passed_on j id new true first second later e g = λ i. (Some (Sets j (e i)), Some (Sets id (g i)))
+passed_on j id new false first second later e g = refl
 
 -- ---- the later one deletes an object
 
@@ -115,25 +99,24 @@ second_holds : (s t : Bool) → (s && t) ≡ true → t ≡ true
 second_holds true t e = e
 second_holds false t e = cc
 
-pub part_covers : (id : Stamp) (p : ℕ) (g : Form) → is_set_by id p g ≡ true → sets_part p g ≡ true
-part_covers id p (Sets j c) e = second_holds (is_same id j) (is_same_part p (part_of c)) e
-part_covers id p (Puts j o ts) e = e
-part_covers id p (Takes j ts) e = e
+pub parts_cover : (id : Stamp) (ps : List ℕ) (g : Form) → is_set_by id ps g ≡ true → sets_parts ps g ≡ true
+parts_cover id ps (Sets j c) e = second_holds (is_same id j) (have_parts ps (parts_of c)) e
+parts_cover id ps (Puts j o ts) e = e
+parts_cover id ps (Takes j ts) e = e
 
--- both set one part
-pub set_spliced : (s id : Stamp) (c : Content) (e : Kept) (is_found later : Bool) (j : Stamp) (earlier first content second : Roomy)
-    (old0 old1 found0 found1 : Found) → e ≡ Set is_found j old0 earlier → is_set_by id (part_of content) (form s (op_of e)) ≡ true
-    → found_in true first old1 ≡ found_in true content found0 → found_in true second found1 ≡ Some (sets s earlier)
-    → ◌≡◌ {A = Pair} (of_found j (found_in later first old1), of_found id (found_in later second found1))
-    (splice_by (form s (op_of e)) (Sets id c) (of_found id (found_in later content found0)))
-set_spliced s id c e is_found later j earlier first content second old0 old1 found0 found1 is cov passed_first passed_second =
-    let new = sets s earlier in
-    let set : is_set_by id (part_of content) (Sets j new) ≡ true = ap (λ k. is_set_by id (part_of content) (form s (op_of k))) (sym is) ∙ cov in
-    let same : is_same id j ≡ true = first_holds (is_same id j) (is_same_part (part_of content) (part_of new)) set in
-    let both = passed_found later new earlier first content second old0 old1 found0 found1 passed_first passed_second in
-    ap (λ (p : Option Content × Option Content). (of_found j p.0, of_found id p.1)) both
-    ∙ passed id j new (found_in later content found0) same
-    ∙ ap (λ k. splice_by (form s (op_of k)) (Sets id c) (of_found id (found_in later content found0))) (sym is)
+-- what the earlier one sets, as its operation says it
+pub set_parts : (s : Stamp) (ps : List ℕ) (e : Kept) (was_found : Bool) (j : Stamp) (earlier : Swap) → e ≡ Set was_found j earlier → sets_parts ps (form s (op_of e)) ≡ true
+    → have_parts ps (parts_of (of_swap earlier)) ≡ true
+set_parts s ps e was_found j earlier is h =
+    ap (have_parts ps) (sym (part_sets s earlier)) ∙ ap (λ k. sets_parts ps (form s (op_of k))) (sym is) ∙ h
+
+-- both set parts of one object
+pub set_spliced : (s id : Stamp) (c : Content) (e : Kept) (was_found is_found : Bool) (j : Stamp) (earlier first later second : Swap) → e ≡ Set was_found j earlier
+    → old_of first ≡ part_within (sets s earlier) (old_of later) → old_of second ≡ laid_over (sets s earlier) (old_of later)
+    → ◌≡◌ {A = Pair} (of_found j (found_in is_found first), of_found id (found_in is_found second)) (splice_by (form s (op_of e)) (Sets id c) (of_found id (found_in is_found later)))
+set_spliced s id c e was_found is_found j earlier first later second is passed_first passed_second =
+    passed_on j id (sets s earlier) is_found first second later passed_first passed_second
+    ∙ ap (λ k. splice_by (form s (op_of k)) (Sets id c) (of_found id (found_in is_found later))) (sym is)
 
 -- the later one takes an object: that the earlier one puts
 pub put_spliced : (id j : Stamp) (g : Form) (o : Object) (ties : List Tie) (made : Bool) (x later : Option Object) → g ≡ Puts j o ties
@@ -155,17 +138,17 @@ taken_spliced id j g ties x y later is cov m l =
     ∙ deleted_twice id j ties x same
     ∙ ap (λ f. splice_by f (Takes id []) (of_taken id [] x)) (sym is)
 
--- that it sets a part of. What was found is kept, and the object has what is held
-pub set_taken : (s id : Stamp) (e : Kept) (is_found now : Bool) (j : Stamp) (before before' : Found) (content content' : Roomy) (held : Content) (x : Option Content) (o later : Option Object)
-    → e ≡ Set is_found j before content → covers_by (Takes id []) (form s (op_of e)) ≡ true
-    → held ≡ sets s content → x ≡ option_and_then (replaced_by held) o → found_in now content' before' ≡ stored content x
+-- that it sets parts of. What was found is kept, and the object has what is held
+pub set_taken : (s id : Stamp) (e : Kept) (is_found now : Bool) (j : Stamp) (swap after : Swap) (held : Content) (x : Option Content) (o later : Option Object)
+    → e ≡ Set is_found j swap → covers_by (Takes id []) (form s (op_of e)) ≡ true
+    → held ≡ sets s swap → x ≡ option_and_then (replaced_by held) o → found_in now after ≡ stored swap x
     → later ≡ option_map (set held) o
-    → ◌≡◌ {A = Pair} (of_found j (found_in now content' before'), of_taken id [] later) (splice_by (form s (op_of e)) (Takes id []) (of_taken id [] o))
-set_taken s id e is_found now j before before' content content' held x o later is cov h found keeps l =
+    → ◌≡◌ {A = Pair} (of_found j (found_in now after), of_taken id [] later) (splice_by (form s (op_of e)) (Takes id []) (of_taken id [] o))
+set_taken s id e is_found now j swap after held x o later is cov h found keeps l =
     let same : is_same id j ≡ true = ap (λ k. covers_by (Takes id []) (form s (op_of k))) (sym is) ∙ cov in
-    let first : found_in now content' before' ≡ old_in (sets s content) o =
-    keeps ∙ ap (stored content) (found ∙ old_found held o ∙ ap (λ k. old_in k o) h) ∙ stored_found s content o in
-    let second : later ≡ option_map (set (sets s content)) o = l ∙ ap (λ k. option_map (set k) o) h in
+    let first : found_in now after ≡ old_in (sets s swap) o =
+    keeps ∙ ap (stored swap) (found ∙ old_found held o ∙ ap (λ k. old_in k o) h) ∙ stored_found s swap o in
+    let second : later ≡ option_map (set (sets s swap)) o = l ∙ ap (λ k. option_map (set k) o) h in
     (λ i. (of_found j (first i), of_taken id [] (second i)))
-    ∙ set_then_deleted id j (sets s content) o same
+    ∙ set_then_deleted id j (sets s swap) o same
     ∙ ap (λ k. splice_by (form s (op_of k)) (Takes id []) (of_taken id [] o)) (sym is)

@@ -1,5 +1,5 @@
 -- Touches of an operation one by one, tests of all of them, and what a form covers.
-use Rattle.std.proofs.Common.{◌≡◌, ℕ, ◌+◌, ◌-◌, ◌<◌, ◌≤◌, ◌==◌, Bool, true, false, ◌&&◌, List, [], ◌∷◌, map, drop, length, suc, zero, Some, refl, sym, ap, ◌∙◌, arith}
+use Rattle.std.proofs.Common.{◌≡◌, ℕ, ◌+◌, ◌-◌, ◌<◌, ◌≤◌, ◌==◌, Bool, true, false, ◌&&◌, List, [], ◌∷◌, ◌++◌, map, drop, length, get_or, suc, zero, Some, refl, sym, ap, subst, ◌∙◌, append-nil, length-append, arith}
 use Rattle.std.specs.Prelude.{option_map, slice_get, unwrap_or}
 use Rattle.std.specs.List.{list_all}
 use Rattle.std.proofs.lemmas.Bool.{eqb-true}
@@ -12,44 +12,76 @@ use Rattle.gd_model.specs.declared.form.Form.{Form}
 use Rattle.gd_model.specs.declared.form.Form.TheVariants.{Sets, Puts, Takes}
 use Rattle.gd_model.specs.Contents.{Content}
 use Rattle.gd_model.specs.Forms.{form}
-use Rattle.gd_model.specs.Objects.{part_of}
-use Rattle.gd_model.specs.Relations.{link_touch, touches, touches_by, covers, covers_by}
+use Rattle.gd_model.specs.Objects.{have_parts, parts_of}
+use Rattle.gd_model.specs.Relations.{Touch, link_touch, touches, touches_by, covers, covers_by}
 use Rattle.gd_canvas.specs.declared.kept.Kept.{Kept}
 use Rattle.gd_canvas.specs.declared.kept.Kept.TheVariants.{Set}
-use Rattle.gd_canvas.specs.Kept.{Roomy, Found, op_of, sets}
-use Rattle.gd_canvas.specs.Touches.{first_touch, touch_of, ties_of, id_at, tied_at, is_set_by}
-use Rattle.gd_canvas.proofs.KeptLemmas.{part_sets}
+use Rattle.gd_canvas.specs.declared.swap.Swap.{Swap}
+use Rattle.gd_canvas.specs.Kept.{op_of}
+use Rattle.gd_canvas.specs.Swaps.{of_swap, sets}
+use Rattle.gd_canvas.specs.Touches.{object_of, own_parts, ties_of, id_at, tied_at, is_set_by}
+use Rattle.gd_canvas.proofs.SwapLemmas.{part_sets}
 
 -- ---- one by one
 
-by_form : (f : Form) → touches_by f ≡ first_touch f ∷ map link_touch (ties_of f)
-by_form (Sets id c) = refl
+abbrev own_touches : Stamp → List ℕ → List Touch
+own_touches i ps = map (λ p. (i, p)) ps
+
+by_form : (f : Form) → touches_by f ≡ own_touches (object_of f) (own_parts f) ++ map link_touch (ties_of f)
+by_form (Sets id c) = sym (append-nil (own_touches id (parts_of c)))
 by_form (Puts id o ties) = refl
 by_form (Takes id ties) = refl
 
--- an operation touches its first touch and the links that it ties
-pub touches-parts : (stamp : Stamp) (op : Op) → touches stamp op ≡ touch_of stamp op ∷ map link_touch (ties_of (form stamp op))
+-- an operation touches its own parts and the links that it ties
+pub touches-parts : (stamp : Stamp) (op : Op) → touches stamp op ≡ own_touches (object_of (form stamp op)) (own_parts (form stamp op)) ++ map link_touch (ties_of (form stamp op))
 touches-parts stamp op = by_form (form stamp op)
 
-pub touch_count : (op : Op) (stamp : Stamp) → length (touches stamp op) ≡ length (ties_of (form stamp op)) + 1
-touch_count op stamp = omega (arith, ap length (touches-parts stamp op), length-map (ties_of (form stamp op)) link_touch)
+pub touch_count : (stamp : Stamp) (op : Op) → length (touches stamp op) ≡ length (own_parts (form stamp op)) + length (ties_of (form stamp op))
+touch_count stamp op =
+    let f = form stamp op in
+    omega (
+      arith,
+      ap length (touches-parts stamp op),
+      length-append (own_touches (object_of f) (own_parts f)) (map link_touch (ties_of f)),
+      length-map {B = Touch} (own_parts f) (λ (p : ℕ). (object_of f, p)),
+      length-map (ties_of f) link_touch,
+    )
 
-pub first_at : (stamp : Stamp) (op : Op) → Some (touch_of stamp op) ≡ slice_get (touches stamp op) 0
-first_at stamp op = ap (λ us. slice_get us 0) (sym (touches-parts stamp op))
+own_at : (i : Stamp) (ps : List ℕ) (us : List Touch) (place : ℕ) → place < length ps → slice_get (own_touches i ps ++ us) place ≡ Some (i, get_or ps place 0)
+own_at i [] us place inside = absurd (omega (arith, inside))
+own_at i (p ∷ ps) us zero inside = refl
+own_at i (p ∷ ps) us (suc k) inside = own_at i ps us k (omega (arith, inside))
 
 link_at : (ts : List Tie) (j : ℕ) → slice_get (map link_touch ts) j ≡ option_map (λ (id : Stamp). (id, LINK)) (id_at ts j)
 link_at [] j = refl
 link_at (t ∷ ts) zero = refl
 link_at (t ∷ ts) (suc j) = link_at ts j
 
-pub later_at : (stamp : Stamp) (op : Op) (place : ℕ) → 0 < place
-    → slice_get (touches stamp op) place ≡ option_map (λ (id : Stamp). (id, LINK)) (tied_at stamp op (place - 1))
-later_at stamp op zero later = absurd (omega arith)
-later_at stamp op (suc j) later =
-    let here : suc j - 1 ≡ j = omega arith in
-    ap (λ us. slice_get us (suc j)) (touches-parts stamp op)
-    ∙ link_at (ties_of (form stamp op)) j
-    ∙ ap (λ n. option_map (λ (id : Stamp). (id, LINK)) (tied_at stamp op n)) (sym here)
+behind_own : (i : Stamp) (ps : List ℕ) (us : List Touch) (place n : ℕ) → length ps + n ≡ place → slice_get (own_touches i ps ++ us) place ≡ slice_get us n
+behind_own i [] us place n at = let same : place ≡ n = omega (arith, at) in ap (slice_get us) same
+behind_own i (p ∷ ps) us zero n at = absurd (omega (arith, at))
+behind_own i (p ∷ ps) us (suc k) n at = behind_own i ps us k n (omega (arith, at))
+
+-- one of its own parts
+pub first_at : (stamp : Stamp) (op : Op) (parts : List ℕ) (place : ℕ) → parts ≡ own_parts (form stamp op) → place < length parts
+    → Some (object_of (form stamp op), get_or parts place 0) ≡ slice_get (touches stamp op) place
+first_at stamp op parts place are inside =
+    let f = form stamp op in
+    let own : place < length (own_parts f) = subst (λ ps. place < length ps) are inside in
+    ap (λ ps. Some (object_of f, get_or ps place 0)) are
+    ∙ sym (own_at (object_of f) (own_parts f) (map link_touch (ties_of f)) place own)
+    ∙ ap (λ us. slice_get us place) (sym (touches-parts stamp op))
+
+-- or a link behind those
+pub later_at : (stamp : Stamp) (op : Op) (parts : List ℕ) (place : ℕ) → parts ≡ own_parts (form stamp op) → length parts ≤ place
+    → slice_get (touches stamp op) place ≡ option_map (λ (id : Stamp). (id, LINK)) (tied_at stamp op (place - length parts))
+later_at stamp op parts place are past =
+    let f = form stamp op in
+    let n = place - length parts in
+    let at : length (own_parts f) + n ≡ place = omega (arith, past, ap length are) in
+    ap (λ us. slice_get us place) (touches-parts stamp op)
+    ∙ behind_own (object_of f) (own_parts f) (map link_touch (ties_of f)) place n at
+    ∙ link_at (ties_of f) n
 
 -- ---- tests of all
 
@@ -90,18 +122,29 @@ pub form_covers : (s t : Stamp) (e f : Op) (g : Form) → form t f ≡ g → cov
 unfolding covers
 form_covers s t e f g is = ap (λ h. covers_by h (form s e)) (sym is)
 
-covered_set : (i : Stamp) (d : Content) (g : Form) → is_set_by i (part_of d) g ≡ covers_by (Sets i d) g
+covered_set : (i : Stamp) (d : Content) (g : Form) → is_set_by i (parts_of d) g ≡ covers_by (Sets i d) g
 covered_set i d (Sets j c) = refl
 covered_set i d (Puts j o ts) = refl
 covered_set i d (Takes j ts) = refl
 
--- a content covers what sets the same part of the same object
-pub set_covers : (s t : Stamp) (e f : Kept) (is_found : Bool) (id : Stamp) (before : Found) (content : Roomy) → f ≡ Set is_found id before content
-    → is_set_by id (part_of content) (form s (op_of e)) ≡ covers t (op_of f) s (op_of e)
-set_covers s t e f is_found id before content is =
-    ap (λ p. is_set_by id p (form s (op_of e))) (sym (part_sets t content))
-    ∙ covered_set id (sets t content) (form s (op_of e))
-    ∙ form_covers s t (op_of e) (op_of f) (Sets id (sets t content)) (ap (λ k. form t (op_of k)) is)
+-- a content covers what sets none but its parts of the same object
+pub set_covers : (s t : Stamp) (e f : Kept) (is_found : Bool) (id : Stamp) (swap : Swap) → f ≡ Set is_found id swap
+    → is_set_by id (parts_of (sets t swap)) (form s (op_of e)) ≡ covers t (op_of f) s (op_of e)
+set_covers s t e f is_found id swap is =
+    covered_set id (sets t swap) (form s (op_of e))
+    ∙ form_covers s t (op_of e) (op_of f) (Sets id (sets t swap)) (ap (λ k. form t (op_of k)) is)
+
+-- the same by the parts that its operation says
+pub said_covers : (s t : Stamp) (e f : Kept) (is_found : Bool) (id : Stamp) (swap : Swap) → f ≡ Set is_found id swap
+    → is_set_by id (parts_of (of_swap swap)) (form s (op_of e)) ≡ covers t (op_of f) s (op_of e)
+said_covers s t e f is_found id swap is =
+    ap (λ ps. is_set_by id ps (form s (op_of e))) (sym (part_sets t swap)) ∙ set_covers s t e f is_found id swap is
+
+-- what sets none but those parts of that object
+pub set_same : (s i j : Stamp) (ps : List ℕ) (e : Kept) (is_found : Bool) (swap : Swap) (r : Bool) → e ≡ Set is_found j swap
+    → is_same i j ≡ true → r ≡ have_parts ps (parts_of (sets s swap)) → r ≡ is_set_by i ps (form s (op_of e))
+set_same s i j ps e is_found swap r is same h =
+    h ∙ ap (λ b. b && have_parts ps (parts_of (sets s swap))) (sym same) ∙ ap (λ k. is_set_by i ps (form s (op_of k))) (sym is)
 
 some_by : (n : ℕ) (b : Bool) → (suc n == 0) ≡ b → false ≡ (suc n == 0)
 some_by n true e = absurd (omega (arith, eqb-true (suc n) 0 e))
@@ -112,13 +155,13 @@ some n = some_by n (suc n == 0) refl
 
 -- what takes an object and ties nothing covers what is of that object and ties nothing
 pub taken : (id : Stamp) (ts : List Tie) (f : Form)
-    → covers_by (Takes id ts) f ≡ ((length ts == 0) && ((length (ties_of f) == 0) && is_same id (first_touch f).0))
+    → covers_by (Takes id ts) f ≡ ((length ts == 0) && ((length (ties_of f) == 0) && is_same id (object_of f)))
 taken id [] (Sets j c) = refl
 taken id [] (Puts j o []) = refl
 taken id [] (Puts j o (t ∷ ts)) = ap (λ b. b && is_same id j) (some (length ts))
 taken id [] (Takes j []) = refl
 taken id [] (Takes j (t ∷ ts)) = ap (λ b. b && is_same id j) (some (length ts))
-taken id (u ∷ us) f = ap (λ b. b && ((length (ties_of f) == 0) && is_same id (first_touch f).0)) (some (length us))
+taken id (u ∷ us) f = ap (λ b. b && ((length (ties_of f) == 0) && is_same id (object_of f))) (some (length us))
 
 -- what covers ties nothing
 pub no_ties : (id : Stamp) (ts : List Tie) (f : Form) → covers_by (Takes id ts) f ≡ true → ts ≡ []

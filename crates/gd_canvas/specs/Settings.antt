@@ -1,6 +1,6 @@
 -- What a content replaces in an object that has its part.
 use Rattle.std.specs.Prelude.{Option, None, Some, if◌then◌else◌}
-use Rattle.gd_base.specs.declared.object.Object.{Object}
+use Rattle.gd_base.specs.Whole.{Object}
 use Rattle.gd_model.specs.Contents.{Content}
 use Rattle.gd_model.specs.Objects.{fits, old}
 

@@ -1,24 +1,27 @@
 //! What takes operations back over a drawing.
-ghost use Rattle.std.specs.Prelude.{◌≡◌, ◌≤◌, ◌<◌, ◌+◌, ◌++◌, List, length, option_copied, unwrap_or, if◌then◌else◌};
+ghost use Rattle.std.specs.Prelude.{◌≡◌, ◌≤◌, ◌<◌, ◌+◌, ◌++◌, List, length, option_copied, pos, unwrap_or, if◌then◌else◌};
 ghost use Rattle.std.specs.FinMap as map_of;
 ghost use Rattle.gd_base.specs.Contents.{content_map};
 ghost use Rattle.gd_base.specs.declared.content.Height.TheVariants.{At};
+ghost use Rattle.gd_base.specs.declared.object.Kind.{Kind as KindValue};
 ghost use Rattle.gd_base.specs.declared.ranges.TheConstants.{MOST_MEMBERS};
 ghost use Rattle.gd_base.specs.declared.ties.Tie.{Tie as TieValue};
 ghost use Rattle.gd_model.specs.Backs.{back, op_of, taking};
 ghost use Rattle.gd_model.specs.Forms.{rank_at};
-ghost use Rattle.gd_model.specs.Objects.{fits, old};
+ghost use Rattle.gd_model.specs.Objects.{fits, new_object, old};
 ghost use Rattle.gd_model.specs.Undoing.{before_by, old_in, old_ties, with_old};
 ghost use Rattle.gd_model.specs.declared.form.Form.TheVariants.{Sets, Puts, Takes};
 ghost use Rattle.gd_slots.specs.Slots.{board_of};
 
 use crate::canvas::Canvas;
-use crate::contents::{exchange, fits};
+use crate::contents::{Stored, fits};
 use crate::grouping::member_ties;
-use crate::kept::NewShape;
-use crate::new_objects;
-use crate::texts::rank_at;
-use gd_base::{Content, Height, Label, Object, Stamp, Tie, Ties, map_content};
+use crate::swap::rank_at;
+use crate::tied::own_ties;
+use gd_base::{
+    Content, Ends, Heads, Height, KeptObject, Kind, Label, Look, Looks, Object, Rank, Stamp, Text,
+    Tie, Ties, map_content,
+};
 use gd_events::Op;
 use gd_model::Held;
 
@@ -38,20 +41,31 @@ impl Canvas {
                 h,
                 label,
             } => {
-                let new = NewShape {
-                    kind: *kind,
+                let new = Object {
                     x: *x,
                     y: *y,
                     w: *w,
                     h: *h,
+                    ..plain(stamp, Kind::Shape(*kind), Heads::Bare, label.copy(), None)
                 };
-                self.back_of_put(stamp, new_objects::shape(stamp, &new, label), Ties::new())
+                self.back_of_put(stamp, new, Ties::new())
+            }
+            Op::Connect { ends, label } => {
+                let new = plain(
+                    stamp,
+                    Kind::Connector,
+                    Heads::AtEnd,
+                    label.copy(),
+                    Some(*ends),
+                );
+                self.back_of_put(stamp, new, Ties::new())
             }
             Op::Delete { id } => self.back_of_take(*id, Ties::new()),
             Op::Set { id, content } => self.back_of_set(*id, held(stamp, content)),
             Op::Group { members } => {
                 let ties = member_ties(stamp, members.as_slice());
-                self.back_of_put(stamp, new_objects::group(stamp), ties)
+                let new = plain(stamp, Kind::Group, Heads::Bare, Label::default(), None);
+                self.back_of_put(stamp, new, ties)
             }
             Op::Restore { id, object, ties } => self.back_of_put(*id, object.copy(), ties.copy()),
             Op::Disband { id, ties } => self.back_of_take(*id, ties.copy()),
@@ -75,7 +89,7 @@ impl Canvas {
         if self.get(id).is_some() {
             Op::Restore { id, object, ties }
         } else {
-            taking(id, self.old_ties(ties.as_slice()))
+            taking(id, self.old_ties(own_ties(object.kind, ties.as_slice())))
         }
     }
 
@@ -86,8 +100,8 @@ impl Canvas {
     {
         match self.get(id) {
             Some(object) => {
-                let object = object.copy();
-                let ties = self.old_ties(ties.as_slice());
+                let object = object.whole();
+                let ties = self.old_ties(own_ties(object.kind, ties.as_slice()));
                 Op::Restore { id, object, ties }
             }
             None => taking(id, ties),
@@ -119,7 +133,7 @@ impl Canvas {
 }
 
 /// Puts the link of an object last, where it is there. There has to be room.
-fn push_old(olds: &mut Ties, id: Stamp, object: Option<&Object>)
+fn push_old(olds: &mut Ties, id: Stamp, object: Option<&KeptObject>)
     requires room { length olds.old < MOST_MEMBERS }
     ensures olds { (rest : List TieValue) → olds.new ++ rest
         ≡ olds.old ++ with_old id (option_copied object.entry) rest }
@@ -134,15 +148,54 @@ fn push_old(olds: &mut Ties, id: Stamp, object: Option<&Object>)
 }
 
 /// What stands in the object where the content would go, or the content itself where the object hasn't the part.
-fn old_in(object: &Object, content: Held) -> Held
+fn old_in(object: &KeptObject, content: Held) -> Held
     ensures { result
         ≡ (if fits content object.now.kind then old content object.now else content) }
 {
-    if fits(&content, object.kind) {
-        let mut copy = object.copy();
-        exchange(&mut copy, content)
-    } else {
-        content
+    let part = part_of(&content);
+    if !fits(&part, object.kind) {
+        return content;
+    }
+    match content {
+        Content::ToPlace { .. } => Content::ToPlace {
+            x: object.x,
+            y: object.y,
+        },
+        Content::ToSize { .. } => Content::ToSize {
+            w: object.w,
+            h: object.h,
+        },
+        Content::ToLooks(looks) => Content::ToLooks(object.look.taken(&looks)),
+        Content::ToText(_) => Content::ToText(object.label.label()),
+        Content::ToFlag(_) => Content::ToFlag(object.dissolved),
+        Content::ToEnds(_) => Content::ToEnds(object.ends),
+        Content::ToRank(_) => Content::ToRank(object.rank),
+    }
+}
+
+/// The same content, but for a label.
+fn part_of(content: &Held) -> Stored
+    ensures { (kind : KindValue) → fits result kind ≡ fits content.now kind }
+{
+    map_content!(content, _label => Text::default(), looks => *looks, rank => *rank)
+}
+
+/// An object as it is made, at 0 0 and of size 0 0.
+fn plain(stamp: Stamp, kind: Kind, heads: Heads, label: Label, ends: Option<Ends>) -> Object
+    ensures { result ≡ new_object stamp kind (pos 0) (pos 0) (pos 0) (pos 0) heads label ends }
+{
+    Object {
+        kind,
+        x: 0,
+        y: 0,
+        w: 0,
+        h: 0,
+        look: Look::new(heads),
+        label,
+        ends,
+        link: None,
+        dissolved: false,
+        rank: Rank::High(stamp),
     }
 }
 
@@ -158,15 +211,15 @@ fn taking(id: Stamp, ties: Ties) -> Op
 }
 
 /// What the operation sets at that stamp.
-fn held(stamp: Stamp, content: &Content<Label, Height>) -> Held
-    ensures { result ≡ content_map (λ label. label) (rank_at stamp) content.now }
+fn held(stamp: Stamp, content: &Content<Label, Looks, Height>) -> Held
+    ensures { result ≡ content_map (λ label. label) (λ looks. looks) (rank_at stamp) content.now }
 {
-    map_content!(content, label => label.copy(), height => rank_at(stamp, *height))
+    map_content!(content, label => label.copy(), looks => *looks, height => rank_at(stamp, *height))
 }
 
 /// The content as an operation says it, which sets the same at any stamp.
-fn said(content: Held) -> Content<Label, Height>
-    ensures { result ≡ content_map (λ label. label) At content }
+fn said(content: Held) -> Content<Label, Looks, Height>
+    ensures { result ≡ content_map (λ label. label) (λ looks. looks) At content }
 {
-    map_content!(&content, label => label.copy(), rank => Height::At(*rank))
+    map_content!(&content, label => label.copy(), looks => *looks, rank => Height::At(*rank))
 }

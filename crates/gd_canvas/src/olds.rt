@@ -7,7 +7,7 @@ ghost use Rattle.gd_base.specs.declared.ties.Tie.{Tie as TieValue};
 ghost use Rattle.gd_model.specs.Undoing.{old_ties, with_old};
 
 use crate::canvas::Canvas;
-use gd_base::{Object, Stamp, Tie, Ties};
+use gd_base::{KeptObject, Stamp, Tie, Ties};
 use std::alloc::{AllocError, Global};
 use std::marker::Model;
 
@@ -99,7 +99,7 @@ fn push_olds(olds: &mut Vec<Tie>, ties: &[Tie], canvas: &Canvas)
 }
 
 /// Puts the link of an object last, where it is there. There has to be room.
-fn push_old(olds: &mut Vec<Tie>, id: Stamp, object: Option<&Object>)
+fn push_old(olds: &mut Vec<Tie>, id: Stamp, object: Option<&KeptObject>)
     requires room { length olds.old.items < vec_capacity olds.old }
     ensures olds { (rest : List TieValue) → olds.new.items ++ rest
         ≡ olds.old.items ++ with_old id (option_copied object.entry) rest }

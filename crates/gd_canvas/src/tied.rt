@@ -3,12 +3,13 @@ ghost use Rattle.std.specs.Prelude.{◌≡◌, ◌≤◌, [], length, IfOk};
 ghost use Rattle.std.specs.FinMap as map_of;
 ghost use Rattle.gd_base.specs.declared.ranges.TheConstants.{MOST_MEMBERS};
 ghost use Rattle.gd_slots.specs.Slots.{board_of};
+ghost use Rattle.gd_model.specs.Objects.{own_ties};
 ghost use Rattle.gd_model.specs.Undoing.{old_ties};
 ghost use Rattle.gd_canvas.specs.Touches.{id_at};
 
 use crate::canvas::Canvas;
 use crate::olds::OldTies;
-use gd_base::{Stamp, Tie, Ties};
+use gd_base::{Kind, Stamp, Tie, Ties};
 use gd_events::TieList;
 use std::alloc::{AllocError, Global};
 use std::marker::Model;
@@ -86,6 +87,18 @@ impl Tied {
         self.olds.fill(self.ties.as_slice(), canvas);
     }
 
+    /// The same where an object of that kind gives the ties, and else that nothing had a link. It takes no memory.
+    pub(crate) fn fill_of(&mut self, kind: Kind, canvas: &Canvas)
+        ensures ties { self.new.ties ≡ self.old.ties }
+        ensures olds { self.new.olds
+            ≡ old_ties (own_ties kind self.old.ties) (map_of.get (board_of canvas.now)) }
+    {
+        match kind {
+            Kind::Group => self.fill(canvas),
+            Kind::Shape(_) | Kind::Connector => self.clear(),
+        }
+    }
+
     /// Keeps that nothing had a link. There are no more of the links than ties.
     pub(crate) fn clear(&mut self)
         ensures ties { self.new.ties ≡ self.old.ties }
@@ -93,6 +106,17 @@ impl Tied {
         ensures few { length self.old.olds ≤ length self.old.ties }
     {
         self.olds.clear();
+    }
+}
+
+/// The ties that an object of that kind gives: only a group ties others.
+pub fn own_ties(kind: Kind, ties: &[Tie]) -> &[Tie]
+    ensures ties { result.now ≡ own_ties kind ties.now }
+    ensures few { length result.now ≤ length ties.now }
+{
+    match kind {
+        Kind::Group => ties,
+        Kind::Shape(_) | Kind::Connector => &[],
     }
 }
 

@@ -1,14 +1,15 @@
-//! What the form of an operation touches: a part of its object, and the links of those that it ties.
-ghost use Rattle.std.specs.Prelude.{◌≡◌, ◌≤◌, ◌+◌, length, slice_get};
+//! What the form of an operation touches: parts of its object, and the links of those that it ties.
+ghost use Rattle.std.specs.Prelude.{◌≡◌, ◌≤◌, ◌<◌, ◌+◌, length, slice_get};
 ghost use Rattle.gd_base.specs.declared.ranges.TheConstants.{MOST_MEMBERS};
 ghost use Rattle.gd_base.specs.Stamps.{Stamp as StampValue};
+ghost use Rattle.gd_base.specs.declared.look.TheConstants.{LOOKS};
 ghost use Rattle.gd_model.specs.Forms.{form};
 ghost use Rattle.gd_model.specs.Relations.{touches};
 ghost use Rattle.gd_canvas.specs.Kept.{op_of};
 ghost use Rattle.gd_canvas.specs.Slots.{slot_needed};
-ghost use Rattle.gd_canvas.specs.Touches.{tied_at, ties_of, touch_of};
+ghost use Rattle.gd_canvas.specs.Touches.{object_of, own_parts, tied_at, ties_of};
 
-use crate::contents;
+use crate::contents::{LookParts, one_part};
 use crate::kept::Kept;
 use crate::tied::id_at;
 use gd_base::Stamp;
@@ -19,7 +20,7 @@ pub fn slot_needed(stamp: Stamp, kept: &Kept) -> Option<Stamp>
     ensures { result ≡ slot_needed (form stamp (op_of kept.now)) }
 {
     match kept {
-        Kept::Create { .. } | Kept::Group(_) => Some(stamp),
+        Kept::Create { .. } | Kept::Connect { .. } | Kept::Group(_) => Some(stamp),
         Kept::Delete { id, .. } | Kept::Restore { id, .. } | Kept::Disband { id, .. } => Some(*id),
         Kept::Set { .. } => None,
     }
@@ -27,10 +28,10 @@ pub fn slot_needed(stamp: Stamp, kept: &Kept) -> Option<Stamp>
 
 /// The object that an operation at that stamp is of.
 pub fn object_of(stamp: Stamp, kept: &Kept) -> Stamp
-    ensures { result ≡ (touch_of stamp (op_of kept.now)).0 }
+    ensures { result ≡ object_of (form stamp (op_of kept.now)) }
 {
     match kept {
-        Kept::Create { .. } | Kept::Group(_) => stamp,
+        Kept::Create { .. } | Kept::Connect { .. } | Kept::Group(_) => stamp,
         Kept::Set { id, .. }
         | Kept::Delete { id, .. }
         | Kept::Restore { id, .. }
@@ -38,18 +39,19 @@ pub fn object_of(stamp: Stamp, kept: &Kept) -> Stamp
     }
 }
 
-/// The part of that object that it touches, at any stamp.
-#[tactic(auto, using(crate::proofs::KeptLemmas::one_part))]
-pub fn part_of(kept: &Kept) -> u8
-    ensures { (stamp : StampValue) → result ≡ (touch_of stamp (op_of kept.now)).1 }
+/// The parts of that object that it touches, at any stamp.
+pub fn own_parts(kept: &Kept) -> LookParts
+    ensures parts { (stamp : StampValue) → result.items ≡ own_parts (form stamp (op_of kept.now)) }
+    ensures some { 0 < length result.items }
 {
     match kept {
-        Kept::Set { content, .. } => contents::part_of(content),
+        Kept::Set { swap, .. } => swap.parts(),
         Kept::Create { .. }
+        | Kept::Connect { .. }
         | Kept::Delete { .. }
         | Kept::Group(_)
         | Kept::Restore { .. }
-        | Kept::Disband { .. } => WHOLE,
+        | Kept::Disband { .. } => one_part(WHOLE),
     }
 }
 
@@ -61,7 +63,7 @@ pub fn tied_count(stamp: Stamp, kept: &Kept) -> usize
     match kept {
         Kept::Group(grouping) => grouping.linked_count(stamp),
         Kept::Restore { tied, .. } | Kept::Disband { tied, .. } => tied.ties().len(),
-        Kept::Create { .. } | Kept::Delete { .. } | Kept::Set { .. } => 0,
+        Kept::Create { .. } | Kept::Connect { .. } | Kept::Delete { .. } | Kept::Set { .. } => 0,
     }
 }
 
@@ -72,27 +74,32 @@ pub fn tied_at(stamp: Stamp, kept: &Kept, place: usize) -> Option<Stamp>
     match kept {
         Kept::Group(grouping) => grouping.linked_at(stamp, place),
         Kept::Restore { tied, .. } | Kept::Disband { tied, .. } => id_at(tied.ties(), place),
-        Kept::Create { .. } | Kept::Delete { .. } | Kept::Set { .. } => None,
+        Kept::Create { .. } | Kept::Connect { .. } | Kept::Delete { .. } | Kept::Set { .. } => None,
     }
 }
 
 /// How many touches an operation at that stamp has.
-#[tactic(auto, using(crate::proofs::TouchLemmas::touch_count))]
 pub fn touch_count(stamp: Stamp, kept: &Kept) -> usize
     ensures count { result ≡ length (touches stamp (op_of kept.now)) }
-    ensures few { result ≤ MOST_MEMBERS + 1 }
+    ensures some { 0 < result }
+    ensures few { result ≤ MOST_MEMBERS + LOOKS }
 {
-    tied_count(stamp, kept) + 1
+    let own = own_parts(kept);
+    let tied = tied_count(stamp, kept);
+    own.len() + tied
 }
 
 /// Its touch at that place. None past the last one.
 pub fn touch_at(stamp: Stamp, kept: &Kept, place: usize) -> Option<(Stamp, u8)>
     ensures { result ≡ slice_get (touches stamp (op_of kept.now)) place }
 {
-    if place == 0 {
-        return Some((object_of(stamp, kept), part_of(kept)));
+    let own = own_parts(kept);
+    let parts = own.as_slice();
+    let count = parts.len();
+    if place < count {
+        return Some((object_of(stamp, kept), parts[place]));
     }
-    match tied_at(stamp, kept, place - 1) {
+    match tied_at(stamp, kept, place - count) {
         Some(id) => Some((id, LINK)),
         None => None,
     }

@@ -9,7 +9,7 @@ use Rattle.gd_base.specs.Stamps.{Stamp, is_same, stamp_cmp}
 use Rattle.gd_capture.specs.Placing.{placed_in}
 use Rattle.gd_drawing.proofs.Stacking.{not_found, t_first, t_second}
 use Rattle.gd_model.specs.Board.{Board}
-use Rattle.gd_base.specs.declared.object.Object.{Object}
+use Rattle.gd_base.specs.Whole.{Object}
 use Rattle.gd_snapshots.specs.Snapshots.{Placed}
 
 -- what a sorted list finds behind its first entry, it finds

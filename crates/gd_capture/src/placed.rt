@@ -5,7 +5,7 @@ ghost use Rattle.gd_slots.specs.Slots.{board_of};
 ghost use Rattle.gd_capture.specs.Placing.{placed_in};
 
 use gd_base::Stamp;
-use gd_canvas::{Canvas, Object};
+use gd_canvas::{Canvas, KeptObject};
 use gd_handover::PlacedList;
 use gd_view::ids::ids;
 use std::alloc::{AllocError, Global};
@@ -17,20 +17,25 @@ pub(crate) fn placed_of(alloc: Global, canvas: &Canvas) -> Result<PlacedList, Al
     let mut ids = ids(alloc, canvas)?;
     let mut placed = PlacedList::new(alloc);
     'ids: while let Some(id) = ids.pop_first() {
-        put_last(&mut placed, copy_of(canvas, id))?;
+        put_last(&mut placed, copy_of(canvas, id)?)?;
     }
     Ok(placed)
 }
 
 /// A copy of the object of that id behind it, where it is there.
-fn copy_of(canvas: &Canvas, id: Stamp) -> Option<(Stamp, Object)>
-    ensures { result ≡ placed_in (board_of canvas.now) id }
+fn copy_of(canvas: &Canvas, id: Stamp) -> Result<Option<(Stamp, KeptObject)>, AllocError>
+    ensures { IfOk result (λ placed. placed ≡ placed_in (board_of canvas.now) id) }
 {
-    let object = canvas.get(id)?;
-    Some((id, object.copy()))
+    match canvas.get(id) {
+        Some(object) => {
+            let object = object.share()?;
+            Ok(Some((id, object)))
+        }
+        None => Ok(None),
+    }
 }
 
-fn put_last(placed: &mut PlacedList, object: Option<(Stamp, Object)>) -> Result<(), AllocError>
+fn put_last(placed: &mut PlacedList, object: Option<(Stamp, KeptObject)>) -> Result<(), AllocError>
     ensures { OnOk result (placed.new ≡ placed.old ++ option_to_list object) }
 {
     if let Some((id, object)) = object {

@@ -8,7 +8,7 @@ ghost use Rattle.gd_cards.specs.CardBytes.{add_at, card_op_at, change_at, column
 ghost use Rattle.gd_cards.specs.Cards.{is_mark};
 ghost use Rattle.gd_grammar.specs.Readers.{into};
 
-use gd_base::{FieldFault, FieldWhy, Label, Stamp, Version};
+use gd_base::{FieldFault, FieldWhy, Stamp, Title, Version};
 use gd_cards::{COLUMNS, CardChange, CardOp, Mark};
 use gd_wire::Bytes;
 
@@ -91,8 +91,8 @@ fn column<'a>(bytes: &mut Bytes<'a>) -> Result<u8, FieldFault>
 }
 
 #[tactic(auto, unfolding(gd_cards::specs::CardBytes::title_at))]
-fn title<'a>(bytes: &mut Bytes<'a>) -> Result<Label, FieldFault>
+fn title<'a>(bytes: &mut Bytes<'a>) -> Result<Title, FieldFault>
     ensures { Gives (λ title. (title, bytes.new)) result (title_at bytes.old) }
 {
-    bytes.label_within(MOST_TITLE)
+    bytes.title_within(MOST_TITLE)
 }

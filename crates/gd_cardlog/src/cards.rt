@@ -6,7 +6,7 @@ ghost use Rattle.gd_grammar.specs.FieldBytes.{label_bytes};
 ghost use Rattle.gd_grammar.specs.declared.sizes.TheConstants.{EVENT_BYTES};
 
 use crate::card_op::card_op;
-use gd_base::{FieldFault, Label, Stamp, Version};
+use gd_base::{FieldFault, Stamp, Title, Version};
 use gd_cards::{CardChange, CardOp, PackedCardOp, pack};
 use gd_wire::{Bytes, EventBytes, LogKind, PackError};
 use std::alloc::Global;
@@ -74,7 +74,7 @@ impl LogKind for Cards {
 }
 
 /// A title, or the byte of a mark, where it has one.
-fn put_change(change: &CardChange<Label>, out: &mut EventBytes)
+fn put_change(change: &CardChange<Title>, out: &mut EventBytes)
     requires { length out.old + 201 ≤ EVENT_BYTES }
     ensures { out.new ≡ out.old ++ change_bytes change.now }
 {
@@ -89,7 +89,7 @@ fn put_change(change: &CardChange<Label>, out: &mut EventBytes)
 }
 
 /// The title, behind its length.
-fn put_title(title: &Label, out: &mut EventBytes)
+fn put_title(title: &Title, out: &mut EventBytes)
     requires { length out.old + 201 ≤ EVENT_BYTES }
     ensures { out.new ≡ out.old ++ label_bytes title.now }
 {

@@ -4,7 +4,7 @@ ghost use Rattle.gd_cards.specs.Ops.{unpacked};
 ghost use Rattle.gd_cards.specs.declared.mark.TheConstants.{PARTS};
 
 use crate::mark::Mark;
-use gd_base::{Label, Stamp};
+use gd_base::{Stamp, Title};
 use gd_events::Operation;
 use std::alloc::{AllocError, Global};
 
@@ -28,10 +28,10 @@ pub enum Op<L> {
 }
 
 /// An operation on a card board, as an event has it.
-pub type CardOp = Op<Label>;
+pub type CardOp = Op<Title>;
 
 /// An operation in the memory that it needs: a title lies in a box. Which operation it is, `unpacked` says.
-pub type PackedCardOp = Op<Box<Label>>;
+pub type PackedCardOp = Op<Box<Title>>;
 
 impl<L> CardChange<L> {
     /// The number of the part that it changes.

@@ -1,13 +1,18 @@
--- What holds of each content, and of two of one part or of two parts, in each object. Only `same_object` names them all.
-use Rattle.std.proofs.Common.{◌≡◌, ◌<◌, pos, true, false, [], Option, None, refl, arith}
-use Rattle.gd_base.specs.declared.content.Content.TheVariants.{ToPlace, ToSize, ToStroke, ToFill, ToWidth, ToText, ToFlag, ToRank}
+-- What holds of each content, and of two of which one has the parts of the other, in each object.
+use Rattle.std.proofs.Common.{◌≡◌, pos, true, false, [], Option, Some, None, refl}
+use Rattle.std.specs.Prelude.{is_some, unwrap_or}
+use Rattle.gd_base.specs.Looks.{given, instead, kept, laid, put_over, taken, within}
+use Rattle.gd_base.specs.declared.content.Content.TheVariants.{ToPlace, ToSize, ToLooks, ToText, ToFlag, ToEnds, ToRank}
+use Rattle.gd_base.specs.declared.look.Dash.TheVariants.{Solid}
+use Rattle.gd_base.specs.declared.look.Heads.TheVariants.{Bare}
+use Rattle.gd_base.specs.declared.look.Look.{Look}
+use Rattle.gd_base.specs.declared.look.Looks.{Looks}
 use Rattle.gd_base.specs.declared.object.Kind.{Kind}
 use Rattle.gd_base.specs.declared.object.Link.{Link}
-use Rattle.gd_base.specs.declared.object.Object.{Object}
+use Rattle.gd_base.specs.Whole.{Object}
 use Rattle.gd_base.specs.declared.rank.Rank.TheVariants.{High}
 use Rattle.gd_model.specs.Contents.{Content}
-use Rattle.gd_model.specs.declared.content.TheConstants.{PARTS, WHOLE}
-use Rattle.gd_model.specs.Objects.{is_same_part, part_of, fits, put, old, with_link}
+use Rattle.gd_model.specs.Objects.{fits, laid_over, old, part_within, put, with_link}
 
 pub put_kind : (c : Content) (o : Object) → (put c o).kind ≡ o.kind
 put_kind (ToPlace x y) o = refl
@@ -25,63 +30,181 @@ pub old_fits : (c : Content) (o : Object) (k : Kind) → fits (old c o) k ≡ fi
 old_fits (ToPlace x y) o k = refl
 old_fits c o k = refl
 
+-- ---- one part of a look
+
+-- what is put back stands there again
+back : {A : Type 0} (set : Option A) (x : A) → unwrap_or (instead set x) (unwrap_or set x) ≡ x
+back None x = refl
+back (Some y) x = refl
+
+-- what is set over what was set
+over : {A : Type 0} (d c : Option A) (x : A) → (is_some c ≡ true → is_some d ≡ true)
+    → unwrap_or d (unwrap_or c x) ≡ unwrap_or d x
+over None None x h = refl
+over None (Some y) x h = let e = h refl in cc
+over (Some z) c x h = refl
+
+found_within : {A : Type 0} (d c : Option A) (x : A) → (is_some c ≡ true → is_some d ≡ true)
+    → kept c (instead d x) ≡ instead c x
+found_within None None x h = refl
+found_within None (Some y) x h = let e = h refl in cc
+found_within (Some z) None x h = refl
+found_within (Some z) (Some y) x h = refl
+
+found_over : {A : Type 0} (d c : Option A) (x : A) → instead d (unwrap_or c x) ≡ put_over c (instead d x)
+found_over None c x = refl
+found_over (Some z) c x = refl
+
+-- ---- all parts of a look
+
+given_back : (l : Looks) (k : Look) → given (taken l k) (given l k) ≡ k
+given_back l k = λ i. record {
+  stroke = back l.stroke k.stroke i;
+  fill = back l.fill k.fill i;
+  width = back l.width k.width i;
+  dash = back l.dash k.dash i;
+  heads = back l.heads k.heads i;
+  round = back l.round k.round i;
+  opacity = back l.opacity k.opacity i;
+  letters = back l.letters k.letters i;
+  align = back l.align k.align i;
+}
+
+-- each part that c sets is set by d
+pub record AreSetBy (d c : Looks) : Type 0 where
+  pub stroke : is_some c.stroke ≡ true → is_some d.stroke ≡ true
+  pub fill : is_some c.fill ≡ true → is_some d.fill ≡ true
+  pub width : is_some c.width ≡ true → is_some d.width ≡ true
+  pub dash : is_some c.dash ≡ true → is_some d.dash ≡ true
+  pub heads : is_some c.heads ≡ true → is_some d.heads ≡ true
+  pub round : is_some c.round ≡ true → is_some d.round ≡ true
+  pub opacity : is_some c.opacity ≡ true → is_some d.opacity ≡ true
+  pub letters : is_some c.letters ≡ true → is_some d.letters ≡ true
+  pub align : is_some c.align ≡ true → is_some d.align ≡ true
+
+pub given_over : (d c : Looks) (k : Look) → AreSetBy d c → given d (given c k) ≡ given d k
+given_over d c k h = λ i. record {
+  stroke = over d.stroke c.stroke k.stroke h.stroke i;
+  fill = over d.fill c.fill k.fill h.fill i;
+  width = over d.width c.width k.width h.width i;
+  dash = over d.dash c.dash k.dash h.dash i;
+  heads = over d.heads c.heads k.heads h.heads i;
+  round = over d.round c.round k.round h.round i;
+  opacity = over d.opacity c.opacity k.opacity h.opacity i;
+  letters = over d.letters c.letters k.letters h.letters i;
+  align = over d.align c.align k.align h.align i;
+}
+
+pub taken_within : (d c : Looks) (k : Look) → AreSetBy d c → within c (taken d k) ≡ taken c k
+taken_within d c k h = λ i. record {
+  stroke = found_within d.stroke c.stroke k.stroke h.stroke i;
+  fill = found_within d.fill c.fill k.fill h.fill i;
+  width = found_within d.width c.width k.width h.width i;
+  dash = found_within d.dash c.dash k.dash h.dash i;
+  heads = found_within d.heads c.heads k.heads h.heads i;
+  round = found_within d.round c.round k.round h.round i;
+  opacity = found_within d.opacity c.opacity k.opacity h.opacity i;
+  letters = found_within d.letters c.letters k.letters h.letters i;
+  align = found_within d.align c.align k.align h.align i;
+}
+
+pub taken_over : (d c : Looks) (k : Look) → taken d (given c k) ≡ laid c (taken d k)
+taken_over d c k = λ i. record {
+  stroke = found_over d.stroke c.stroke k.stroke i;
+  fill = found_over d.fill c.fill k.fill i;
+  width = found_over d.width c.width k.width i;
+  dash = found_over d.dash c.dash k.dash i;
+  heads = found_over d.heads c.heads k.heads i;
+  round = found_over d.round c.round k.round i;
+  opacity = found_over d.opacity c.opacity k.opacity i;
+  letters = found_over d.letters c.letters k.letters i;
+  align = found_over d.align c.align k.align i;
+}
+
 pub put_old : (c : Content) (o : Object) → put (old c o) (put c o) ≡ o
 put_old (ToPlace x y) o = refl
+put_old (ToLooks looks) o = λ i. record o { look = given_back looks o.look i }
 put_old c o = refl
 
--- none is the whole
-pub is_part : (c : Content) → is_same_part (part_of c) WHOLE ≡ false
-is_part (ToPlace x y) = refl
-is_part c = refl
+-- ---- of the parts of another one
 
-pub is_itself : (c : Content) → is_same_part (part_of c) (part_of c) ≡ true
-is_itself (ToPlace x y) = refl
-is_itself c = refl
+-- contents of one kind, of which the first has all parts of the second
+abbrev pub IsOver : Content → Content → Type 0
+IsOver (ToPlace a b) (ToPlace x y) = Unit {0}
+IsOver (ToSize a b) (ToSize x y) = Unit {0}
+IsOver (ToLooks d) (ToLooks c) = AreSetBy d c
+IsOver (ToText a) (ToText b) = Unit {0}
+IsOver (ToFlag a) (ToFlag b) = Unit {0}
+IsOver (ToEnds a) (ToEnds b) = Unit {0}
+IsOver (ToRank a) (ToRank b) = Unit {0}
+IsOver d c = ⊥
 
-pub part_small : (c : Content) → part_of c < PARTS
-part_small (ToPlace x y) = omega arith
-part_small c = omega arith
+pub put_put : (d c : Content) (o : Object) → IsOver d c → put d (put c o) ≡ put d o
+put_put (ToLooks d) (ToLooks c) o h = λ i. record o { look = given_over d c o.look h i }
+put_put (ToPlace a b) (ToPlace x y) o h = refl
+put_put (ToSize a b) (ToSize x y) o h = refl
+put_put (ToText a) (ToText b) o h = refl
+put_put (ToFlag a) (ToFlag b) o h = refl
+put_put (ToEnds a) (ToEnds b) o h = refl
+put_put (ToRank a) (ToRank b) o h = refl
+put_put d c o h = elim h [ ]
 
--- ---- of one part
+-- the second one finds of its parts what the first one does
+pub old_within : (d c : Content) (o : Object) → IsOver d c → part_within c (old d o) ≡ old c o
+old_within (ToLooks d) (ToLooks c) o h = λ i. ToLooks (taken_within d c o.look h i)
+old_within (ToPlace a b) (ToPlace x y) o h = refl
+old_within (ToSize a b) (ToSize x y) o h = refl
+old_within (ToText a) (ToText b) o h = refl
+old_within (ToFlag a) (ToFlag b) o h = refl
+old_within (ToEnds a) (ToEnds b) o h = refl
+old_within (ToRank a) (ToRank b) o h = refl
+old_within d c o h = elim h [ ]
 
-pub put_put : (d c : Content) (o : Object) → is_same_part (part_of d) (part_of c) ≡ true → put d (put c o) ≡ put d o
-put_put (ToPlace a b) (ToPlace x y) o e = cc
-put_put d (ToPlace x y) o e = cc
-put_put d c o e = cc
+-- and behind it the first one finds what it leaves
+pub old_over : (d c : Content) (o : Object) → IsOver d c → old d (put c o) ≡ laid_over c (old d o)
+old_over (ToLooks d) (ToLooks c) o h = λ i. ToLooks (taken_over d c o.look i)
+old_over (ToPlace a b) (ToPlace x y) o h = refl
+old_over (ToSize a b) (ToSize x y) o h = refl
+old_over (ToText a) (ToText b) o h = refl
+old_over (ToFlag a) (ToFlag b) o h = refl
+old_over (ToEnds a) (ToEnds b) o h = refl
+old_over (ToRank a) (ToRank b) o h = refl
+old_over d c o h = elim h [ ]
 
-pub old_put : (d c : Content) (o : Object) → is_same_part (part_of d) (part_of c) ≡ true → old d (put c o) ≡ c
-old_put (ToPlace a b) (ToPlace x y) o e = cc
-old_put d (ToPlace x y) o e = cc
-old_put d c o e = cc
-
-pub old_alike : (d c : Content) (o : Object) → is_same_part (part_of d) (part_of c) ≡ true → old d o ≡ old c o
-old_alike (ToPlace a b) (ToPlace x y) o e = cc
-old_alike d (ToPlace x y) o e = cc
-old_alike d c o e = cc
-
-pub fits_alike : (d c : Content) (k : Kind) → is_same_part (part_of d) (part_of c) ≡ true → fits d k ≡ fits c k
-fits_alike (ToPlace a b) (ToPlace x y) k e = cc
-fits_alike d (ToPlace x y) k e = cc
-fits_alike d c k e = cc
-
--- ---- of two parts
-
-pub old_elsewhere : (d c : Content) (o : Object) → is_same_part (part_of d) (part_of c) ≡ false → old d (put c o) ≡ old d o
-old_elsewhere (ToPlace a b) (ToPlace x y) o e = cc
-old_elsewhere d (ToPlace x y) o e = cc
-old_elsewhere d c o e = cc
+pub fits_alike : (d c : Content) (k : Kind) → IsOver d c → fits d k ≡ fits c k
+fits_alike (ToLooks d) (ToLooks c) k h = refl
+fits_alike (ToPlace a b) (ToPlace x y) k h = refl
+fits_alike (ToSize a b) (ToSize x y) k h = refl
+fits_alike (ToText a) (ToText b) k h = refl
+fits_alike (ToFlag a) (ToFlag b) k h = refl
+fits_alike (ToEnds a) (ToEnds b) k h = refl
+fits_alike (ToRank a) (ToRank b) k h = refl
+fits_alike d c k h = elim h [ ]
 
 -- ---- of all
+
+-- every part of a look
+abbrev every : Looks
+every = record {
+  stroke = Some 0;
+  fill = Some None;
+  width = Some 0;
+  dash = Some Solid;
+  heads = Some Bare;
+  round = Some None;
+  opacity = Some 0;
+  letters = Some None;
+  align = Some None;
+}
 
 -- an object is its kind, its link and what stands in its parts
 pub same_object : (x y : Object) → x.kind ≡ y.kind → x.link ≡ y.link → ((c : Content) → old c x ≡ old c y) → x ≡ y
 same_object x y kind link olds =
     λ i. put (olds (ToPlace (pos 0) (pos 0)) i)
     (put (olds (ToSize (pos 0) (pos 0)) i)
-    (put (olds (ToStroke 0) i)
-    (put (olds (ToFill None) i)
-    (put (olds (ToWidth 0) i)
+    (put (olds (ToLooks every) i)
     (put (olds (ToText []) i)
     (put (olds (ToFlag false) i)
+    (put (olds (ToEnds None) i)
     (put (olds (ToRank (High record { clock = 0; site = 0 })) i)
-    (record x { kind = kind i; link = link i }))))))))
+    (record x { kind = kind i; link = link i })))))))

@@ -17,9 +17,9 @@ use Rattle.gd_events.specs.Events.{Event}
 use Rattle.gd_events.specs.Ordered.{inserted, ordered, is_new, are_distinct}
 use Rattle.gd_base.specs.Ranks.{level, is_same_rank, given_at, level_cmp}
 use Rattle.gd_base.specs.declared.object.Link.{Link}
-use Rattle.gd_base.specs.declared.object.Object.{Object}
+use Rattle.gd_base.specs.Whole.{Object}
 use Rattle.gd_events.specs.Ops.{Op}
-use Rattle.gd_base.specs.declared.op.Op.TheVariants.{Create, Delete, Set, Group, Restore, Disband}
+use Rattle.gd_base.specs.declared.op.Op.TheVariants.{Connect, Create, Delete, Set, Group, Restore, Disband}
 use Rattle.gd_base.specs.declared.rank.Rank.{Rank}
 use Rattle.gd_base.specs.declared.rank.Rank.TheVariants.{Low, High}
 use Rattle.gd_base.specs.declared.ties.Tie.{Tie}
@@ -28,11 +28,11 @@ use Rattle.gd_base.specs.declared.content.Content.TheVariants.{ToPlace, ToRank}
 use Rattle.gd_model.specs.declared.form.Form.{Form}
 use Rattle.gd_model.specs.declared.form.Form.TheVariants.{Sets, Puts, Takes}
 use Rattle.gd_model.specs.Forms.{form}
-use Rattle.gd_model.specs.Objects.{fits, put, set, tied_by}
-use Rattle.gd_model.specs.Drawing.{Drawing, has_id, find, is_there, at_id, without, placed, placed_if, first_tie, all_tied, draw, applied, picture}
+use Rattle.gd_model.specs.Objects.{fits, own_ties, put, set, tied_by}
+use Rattle.gd_model.specs.Drawing.{Drawing, has_id, find, is_there, at_id, without, placed, placed_if, first_tie, all_tied, draw, applied, picture, tied_from}
 use Rattle.gd_model.specs.Board.{Board, levels, without_levels, board_with}
 use Rattle.gd_drawing.specs.Moves.{is_fresh, AreFresh, moved, moved_event, moved_picture, unranked}
-use Rattle.gd_drawing.proofs.Lookups.{at_same, cond_same}
+use Rattle.gd_drawing.proofs.Lookups.{at_same, cond_same, own_none}
 use Rattle.gd_drawing.proofs.Stacking.{level_test, level_step, same_levels, at_rank, Stands, without-levels}
 use Rattle.gd_drawing.proofs.Listed.{find-stands}
 use Rattle.gd_drawing.proofs.Entries.{levels-where, find-where}
@@ -229,13 +229,15 @@ module _ (r : Rank) where
     put_by : (id : Stamp) (o : Object) (ties : List Tie) → o.rank ≡ High s → (x : Option Object) → find id d ≡ x
         → AreSame (draw (Puts id o ties) d) (moved (Puts id o ties) p)
     put_by id o ties own None e =
+        let us = own_ties o.kind ties in
         ap (unranked r) (put_on_top s id o ties d (tested s d before) e own)
-        ∙ alike_append (all_tied ties d) ((id, o) ∷ []) (all_tied ties p) ((id, o) ∷ []) (alike_tied ties) refl
-        ∙ ap (λ t. unranked r (cond t p (all_tied ties p ++ (id, o) ∷ []))) (sym (ap is_some e) ∙ there_alike id)
+        ∙ alike_append (all_tied us d) ((id, o) ∷ []) (all_tied us p) ((id, o) ∷ []) (alike_tied us) refl
+        ∙ ap (λ t. unranked r (cond t p (all_tied us p ++ (id, o) ∷ []))) (sym (ap is_some e) ∙ there_alike id)
     put_by id o ties own (Some x) e =
-        ap (λ y. unranked r (cond (is_some y) d (placed id o (all_tied ties d)))) e
+        let us = own_ties o.kind ties in
+        ap (λ y. unranked r (cond (is_some y) d (placed id o (all_tied us d)))) e
         ∙ same
-        ∙ ap (λ t. unranked r (cond t p (all_tied ties p ++ (id, o) ∷ []))) (sym (ap is_some e) ∙ there_alike id)
+        ∙ ap (λ t. unranked r (cond t p (all_tied us p ++ (id, o) ∷ []))) (sym (ap is_some e) ∙ there_alike id)
 
     tied_nothing : (q : Drawing) → all_tied [] q ≡ q
     tied_nothing [] = refl
@@ -244,10 +246,11 @@ module _ (r : Rank) where
     take_by : (id : Stamp) (x : Option Object) → find id d ≡ x → map_of.get b id ≡ x
         → AreSame (draw (Takes id []) d) (without id p)
     take_by id (Some o) e g =
-        ap (λ y. unranked r (cond (is_some y) (all_tied [] (without id d)) d)) e
+        ap (λ y. unranked r (cond (is_some y) (all_tied (tied_from y []) (without id d)) d)) e
+        ∙ ap (λ us. unranked r (all_tied us (without id d))) (own_none o.kind)
         ∙ ap (unranked r) (tied_nothing (without id d)) ∙ alike_without id d p same
     take_by id None e g =
-        ap (λ y. unranked r (cond (is_some y) (all_tied [] (without id d)) d)) e
+        ap (λ y. unranked r (cond (is_some y) (all_tied (tied_from y []) (without id d)) d)) e
         ∙ ap (unranked r) (sym (kept d (alone_by b d stands id None g))) ∙ alike_without id d p same
       where
         kept : (q : Drawing) → filter (has_id id) q ≡ [] → without id q ≡ q
@@ -278,6 +281,7 @@ module _ (r : Rank) where
   own_form : (s : Stamp) (op : Op) → is_fresh op ≡ true → IsOwn s (form s op)
   own_form s (Create kind x y w h label) fresh = refl
   own_form s (Group members) fresh = refl
+  own_form s (Connect ends label) fresh = refl
   own_form s (Delete id) fresh = refl
   own_form s (Set id (ToRank (To Bottom))) fresh = refl
   own_form s (Set id (ToRank (To Top))) fresh = refl

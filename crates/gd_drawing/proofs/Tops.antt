@@ -12,9 +12,9 @@ use Rattle.gd_events.specs.Ordered.{ordered}
 use Rattle.gd_events.specs.Sound.{is_object_before, names_before}
 use Rattle.gd_base.proofs.StampLemmas.{is_before-trans}
 use Rattle.gd_base.specs.Ranks.{level, given_at, is_below}
-use Rattle.gd_base.specs.declared.object.Object.{Object}
+use Rattle.gd_base.specs.Whole.{Object}
 use Rattle.gd_events.specs.Ops.{Op}
-use Rattle.gd_base.specs.declared.op.Op.TheVariants.{Create, Set, Group, Restore}
+use Rattle.gd_base.specs.declared.op.Op.TheVariants.{Connect, Create, Set, Group, Restore}
 use Rattle.gd_base.specs.declared.rank.Rank.{Rank}
 use Rattle.gd_base.specs.declared.rank.Rank.TheVariants.{Low, High}
 use Rattle.gd_base.specs.declared.ties.Tie.{Tie}
@@ -23,8 +23,8 @@ use Rattle.gd_base.specs.declared.content.Content.TheVariants.{ToRank}
 use Rattle.gd_model.specs.declared.form.Form.{Form}
 use Rattle.gd_model.specs.declared.form.Form.TheVariants.{Sets, Puts, Takes}
 use Rattle.gd_model.specs.Forms.{form}
-use Rattle.gd_model.specs.Objects.{fits, put, set, tied_by}
-use Rattle.gd_model.specs.Drawing.{Drawing, has_id, find, is_there, at_id, without, placed, placed_if, first_tie, all_tied, draw, applied, picture}
+use Rattle.gd_model.specs.Objects.{fits, own_ties, put, set, tied_by}
+use Rattle.gd_model.specs.Drawing.{Drawing, has_id, find, is_there, at_id, without, placed, placed_if, first_tie, all_tied, draw, applied, picture, tied_from}
 use Rattle.gd_drawing.specs.Tops.{ranks_before, AreBefore}
 use Rattle.gd_drawing.proofs.RankLemmas.{below_high, above_low}
 use Rattle.gd_drawing.proofs.Stacking.{level_below}
@@ -76,12 +76,13 @@ lowered s id o d h e =
 
 pub put_on_top : (s id : Stamp) (o : Object) (ties : List Tie) (d : Drawing) → ranks_before s d ≡ true
     → find id d ≡ None → o.rank ≡ High s
-    → draw (Puts id o ties) d ≡ all_tied ties d ++ (id, o) ∷ []
+    → draw (Puts id o ties) d ≡ all_tied (own_ties o.kind ties) d ++ (id, o) ∷ []
 put_on_top s id o ties d h e r =
-    ap (λ x. cond (is_some x) d (placed id o (all_tied ties d))) e
-    ∙ placed-end id o (all_tied ties d)
-    (subst (λ k. AllUnder (level k id) (all_tied ties d)) (sym r)
-    (all_under s id (all_tied ties d) (before-tied s ties d ∙ h)))
+    let tied = all_tied (own_ties o.kind ties) d in
+    ap (λ x. cond (is_some x) d (placed id o tied)) e
+    ∙ placed-end id o tied
+    (subst (λ k. AllUnder (level k id) tied) (sym r)
+    (all_under s id tied (before-tied s (own_ties o.kind ties) d ∙ h)))
 
 -- ---- the ranks of a drawing
 
@@ -125,16 +126,19 @@ module _ (P : Rank → Type 0) where
   ranks-sets id (ToRank rank) d g h = ranks-placed_if id rank (find id d) (without id d) g (ranks-filter _ d h)
   ranks-sets id c d g h = ranks-set id c d refl h
 
+  ranks-tied : (ties : List Tie) (d : Drawing) → Ranks d → Ranks (all_tied ties d)
+  ranks-tied ties d h =
+      ranks-map (λ e. tied_by (first_tie ties e.0) e.1) (λ e. rank-tied (first_tie ties e.0) e.1) d h
+
   pub ranks-draw : (f : Form) (d : Drawing) → Gives f → Ranks d → Ranks (draw f d)
   ranks-draw (Sets id c) d g h = ranks-sets id c d g h
   ranks-draw (Puts id o ties) d g h =
+      let us = own_ties o.kind ties in
       cond_both (is_there id d) _ _ Ranks (λ there. h)
-      (λ new. ranks-placed id o (all_tied ties d) g
-      (ranks-map (λ e. tied_by (first_tie ties e.0) e.1) (λ e. rank-tied (first_tie ties e.0) e.1) d h))
+      (λ new. ranks-placed id o (all_tied us d) g (ranks-tied us d h))
   ranks-draw (Takes id ties) d g h =
       cond_both (is_there id d) _ _ Ranks
-      (λ there. ranks-map (λ e. tied_by (first_tie ties e.0) e.1) (λ e. rank-tied (first_tie ties e.0) e.1)
-      (without id d) (ranks-filter _ d h)) (λ absent. h)
+      (λ there. ranks-tied (tied_from (find id d) ties) (without id d) (ranks-filter _ d h)) (λ absent. h)
 
   ranks-fold : (es : List Event) (d : Drawing) → Every (λ e. Gives (form e.stamp e.op)) es → Ranks d
       → Ranks (fold applied d es)
@@ -147,6 +151,7 @@ RankBefore s r = is_before (given_at r) s ≡ true
 gives : (s t : Stamp) (op : Op) → is_before t s ≡ true → names_before t op ≡ true → Gives (RankBefore s) (form t op)
 gives s t (Create kind x y w h label) before named = before
 gives s t (Group members) before named = before
+gives s t (Connect ends label) before named = before
 gives s t (Set id (ToRank (To Bottom))) before named = before
 gives s t (Set id (ToRank (To Top))) before named = before
 gives s t (Set id (ToRank (At rank))) before named =

@@ -13,7 +13,7 @@ use Rattle.gd_model.specs.declared.form.Form.TheVariants.{Sets, Puts, Takes}
 use Rattle.gd_base.specs.declared.rank.Rank.{Rank}
 use Rattle.gd_base.specs.declared.rank.Rank.TheVariants.{Low, High}
 use Rattle.gd_model.specs.Forms.{form}
-use Rattle.gd_model.specs.Objects.{put, set}
+use Rattle.gd_model.specs.Objects.{own_ties, put, set}
 use Rattle.gd_model.specs.Drawing.{Drawing, has_id, is_there, at_id, without, all_tied}
 
 -- the operation gives no rank, and no links, that objects had
@@ -30,7 +30,7 @@ abbrev pub moved : Form → Drawing → Drawing
 moved (Sets id (ToRank (High s))) d = without id d ++ filter (has_id id) d
 moved (Sets id (ToRank (Low s))) d = filter (has_id id) d ++ without id d
 moved (Sets id c) d = at_id id (set c) d
-moved (Puts id o ties) d = if is_there id d then d else all_tied ties d ++ (id, o) ∷ []
+moved (Puts id o ties) d = if is_there id d then d else all_tied (own_ties o.kind ties) d ++ (id, o) ∷ []
 moved (Takes id ties) d = without id d
 
 abbrev pub moved_event : Drawing → Event → Drawing

@@ -1,22 +1,26 @@
 -- Which events are sound: the number is at least 1, the fields are in their ranges, a group has at least 2 members and what is
--- disbanded at least 1 tie, every id that the operation names and every stamp of a rank is before the event's own stamp, a link
--- leads to a greater id than that of its object, and the ids of members and of ties rise.
+-- disbanded at least 1 tie, the label of a group is a title, a connector has ends, only a group is restored with ties, every id
+-- that the operation names and every stamp of a rank is before the event's own stamp, a link leads to a greater id than that of
+-- its object, and the ids of members and of ties rise.
 use Rattle.std.specs.Prelude.{◌≡◌, ℤ, Bool, true, ◌&&◌, not, ◌==◌, nat_le, if◌then◌else◌, Option, Some, None, ◌≤◌, List, [], ◌∷◌, length, map}
 use Rattle.std.specs.List.{list_all}
 use Rattle.gd_base.specs.Contents.{is_content, IsTypedBy}
+use Rattle.gd_base.specs.Kinds.{are_ends_of, is_label_of, most_ties}
 use Rattle.gd_base.specs.Labels.{IsLabel}
 use Rattle.gd_base.specs.Members.{AreStamped}
-use Rattle.gd_base.specs.Ranges.{place_limit, size_limit, is_within, is_colour, is_fill, is_width}
+use Rattle.gd_base.specs.Looks.{is_look}
+use Rattle.gd_base.specs.Ranges.{place_limit, size_limit, is_within}
 use Rattle.gd_base.specs.Ranks.{given_at}
 use Rattle.gd_base.specs.Stamps.{Stamp, IsStamp, is_before}
-use Rattle.gd_base.specs.Typed.{AreTied, IsObject}
-use Rattle.gd_base.specs.declared.content.Content.TheVariants.{ToRank}
+use Rattle.gd_base.specs.Typed.{AreEnds, AreTied, IsObject}
+use Rattle.gd_base.specs.declared.content.Content.TheVariants.{ToEnds, ToRank}
 use Rattle.gd_base.specs.declared.content.Height.{Height}
 use Rattle.gd_base.specs.declared.content.Height.TheVariants.{To, At}
 use Rattle.gd_base.specs.declared.member.Member.{Member}
+use Rattle.gd_base.specs.declared.object.Ends.{Ends}
 use Rattle.gd_base.specs.declared.object.Link.{Link}
-use Rattle.gd_base.specs.declared.object.Object.{Object}
-use Rattle.gd_base.specs.declared.op.Op.TheVariants.{Create, Delete, Set, Group, Restore, Disband}
+use Rattle.gd_base.specs.Whole.{Object}
+use Rattle.gd_base.specs.declared.op.Op.TheVariants.{Create, Delete, Set, Group, Connect, Restore, Disband}
 use Rattle.gd_base.specs.declared.ranges.TheConstants.{MOST_MEMBERS}
 use Rattle.gd_base.specs.declared.ties.Tie.{Tie}
 use Rattle.gd_events.specs.Ops.{Op, Done}
@@ -37,11 +41,12 @@ abbrev pub is_link_in_range : Option Link → Bool
 is_link_in_range None = true
 is_link_in_range (Some link) = is_within place_limit link.dx && is_within place_limit link.dy
 
-abbrev pub is_look_in_range : Object → Bool
-is_look_in_range o = is_colour o.stroke && (is_fill o.fill && is_width o.width)
+-- what the kind of the object asks for
+abbrev pub is_of_kind : Object → Bool
+is_of_kind o = is_label_of o.kind o.label && are_ends_of o.kind o.ends
 
 abbrev pub is_object_in_range : Object → Bool
-is_object_in_range o = is_box_in_range o.x o.y o.w o.h && (is_look_in_range o && is_link_in_range o.link)
+is_object_in_range o = is_box_in_range o.x o.y o.w o.h && (is_look o.look && (is_of_kind o && is_link_in_range o.link))
 
 abbrev pub are_ties_in_range : List Tie → Bool
 are_ties_in_range ties = list_all (λ t. is_link_in_range t.link) ties
@@ -52,13 +57,15 @@ is_in_range (Create kind x y w h label) = is_box_in_range x y w h
 is_in_range (Delete id) = true
 is_in_range (Set id content) = is_content content
 is_in_range (Group members) = list_all is_shift_in_range members
+is_in_range (Connect ends label) = true
 is_in_range (Restore id object ties) = is_object_in_range object && are_ties_in_range ties
 is_in_range (Disband id ties) = are_ties_in_range ties
 
--- a group has at least 2 members, and what is disbanded at least 1 tie: without any it is deleted
+-- a group has at least 2 members, and what is disbanded at least 1 tie: without any it is deleted; and only a group ties others
 abbrev pub has_members : Op → Bool
 has_members (Group members) = nat_le 2 (length members)
 has_members (Disband id ties) = nat_le 1 (length ties)
+has_members (Restore id object ties) = nat_le (length ties) (most_ties object.kind)
 has_members other = true
 
 -- ---- ids
@@ -68,8 +75,17 @@ abbrev pub is_height_before : Stamp → Height → Bool
 is_height_before stamp (To side) = true
 is_height_before stamp (At rank) = is_before (given_at rank) stamp
 
+-- the objects between which a connector is shown
+abbrev pub is_between : Stamp → Ends → Bool
+is_between stamp ends = is_before ends.from stamp && is_before ends.to stamp
+
+abbrev pub are_ends_before : Stamp → Option Ends → Bool
+are_ends_before stamp None = true
+are_ends_before stamp (Some ends) = is_between stamp ends
+
 abbrev pub is_content_before : Stamp → Done → Bool
 is_content_before stamp (ToRank height) = is_height_before stamp height
+is_content_before stamp (ToEnds ends) = are_ends_before stamp ends
 is_content_before stamp content = true
 
 -- the object of that id is linked to a greater one
@@ -87,7 +103,8 @@ abbrev pub are_ties_before : Stamp → List Tie → Bool
 are_ties_before stamp ties = list_all (is_tie_before stamp) ties
 
 abbrev pub is_object_before : Stamp → Stamp → Object → Bool
-is_object_before stamp id o = is_before id stamp && (is_before (given_at o.rank) stamp && is_link_before stamp id o.link)
+is_object_before stamp id o =
+    is_before id stamp && (is_before (given_at o.rank) stamp && (are_ends_before stamp o.ends && is_link_before stamp id o.link))
 
 -- the ids that the operation names, and the stamps of its ranks, are before the stamp
 abbrev pub names_before : Stamp → Op → Bool
@@ -95,6 +112,7 @@ names_before stamp (Create kind x y w h label) = true
 names_before stamp (Delete id) = is_before id stamp
 names_before stamp (Set id content) = is_before id stamp && is_content_before stamp content
 names_before stamp (Group members) = list_all (is_member_before stamp) members
+names_before stamp (Connect ends label) = is_between stamp ends
 names_before stamp (Restore id object ties) = is_object_before stamp id object && are_ties_before stamp ties
 names_before stamp (Disband id ties) = is_before id stamp && are_ties_before stamp ties
 
@@ -148,6 +166,7 @@ IsWellTyped (Create kind x y w h label) = IsLabel label
 IsWellTyped (Delete id) = IsStamp id
 IsWellTyped (Set id content) = IsStamp id × IsTypedBy IsHeight content
 IsWellTyped (Group members) = AreMembers members
+IsWellTyped (Connect ends label) = AreEnds (Some ends) × IsLabel label
 IsWellTyped (Restore id object ties) = IsStamp id × IsObject object × AreTies ties
 IsWellTyped (Disband id ties) = IsStamp id × AreTies ties
 

@@ -1,10 +1,10 @@
 use crate::operation::Operation;
 use crate::packed::{PackedOp, pack, unpack};
-use gd_base::{Height, Label, Members, Object, Ties};
+use gd_base::{Height, Label, Looks, Members, Object, Ties};
 use std::alloc::{AllocError, Global};
 
 /// An operation on a drawing, as an event has it.
-pub type Op = gd_base::Op<Label, Members, Height, Object, Ties>;
+pub type Op = gd_base::Op<Label, Looks, Members, Height, Object, Ties>;
 
 impl Operation for Op {
     ghost use Rattle.gd_events.specs.Sound.{IsOp as is_op};

@@ -1,18 +1,18 @@
 //! The rules that a sound event keeps.
 ghost use Rattle.std.specs.Prelude.{◌≡◌, ◌&&◌, None, map};
 ghost use Rattle.std.specs.List.{list_all};
-ghost use Rattle.gd_base.specs.Ranges.{is_fill};
+ghost use Rattle.gd_base.specs.Looks.{is_look};
 ghost use Rattle.gd_base.specs.Ranks.{given_at};
 ghost use Rattle.gd_base.specs.Stamps as stamps;
-ghost use Rattle.gd_events.specs.Sound.{is_shift_in_range, is_link_in_range, is_box_in_range, is_look_in_range};
-ghost use Rattle.gd_events.specs.Sound.{is_object_in_range, are_ties_in_range, is_in_range, has_members};
+ghost use Rattle.gd_events.specs.Sound.{is_shift_in_range, is_link_in_range, is_box_in_range};
+ghost use Rattle.gd_events.specs.Sound.{is_object_in_range, is_of_kind, are_ties_in_range, is_in_range, has_members};
 ghost use Rattle.gd_events.specs.Sound.{is_content_before, is_link_before, is_member_before, is_tie_before, are_ties_before};
-ghost use Rattle.gd_events.specs.Sound.{is_object_before, names_before, is_above, rise_above, has_rising_ids};
+ghost use Rattle.gd_events.specs.Sound.{are_ends_before, is_between, is_object_before, names_before, is_above, rise_above, has_rising_ids};
 
 use crate::op::Op;
 use gd_base::{
-    COLOUR_LIMIT, Content, Height, Label, Link, Member, Object, PLACE_LIMIT, Rank, SIZE_LIMIT,
-    Stamp, Tie, WIDTH_LIMIT, is_within,
+    Content, Ends, Height, Label, Link, Looks, Member, Object, PLACE_LIMIT, Rank, SIZE_LIMIT,
+    Stamp, Tie, is_within,
 };
 
 /// Whether the numbers of the operation are in their ranges.
@@ -21,7 +21,7 @@ pub(crate) fn is_in_range(op: &Op) -> bool
 {
     match op {
         Op::Create { x, y, w, h, .. } => is_box_in_range(*x, *y, *w, *h),
-        Op::Delete { .. } => true,
+        Op::Delete { .. } | Op::Connect { .. } => true,
         Op::Set { content, .. } => content.is_in_range(),
         Op::Group { members } => are_shifts_in_range(members.as_slice()),
         Op::Restore { object, ties, .. } => {
@@ -54,27 +54,17 @@ fn is_object_in_range(object: &Object) -> bool
 }
 
 fn are_others_in_range(object: &Object) -> bool
-    ensures { result ≡ (is_look_in_range object.now && is_link_in_range object.now.link) }
+    ensures { result ≡ (is_look object.now.look
+        && (is_of_kind object.now && is_link_in_range object.now.link)) }
 {
-    is_look_in_range(object) && is_link_in_range(object.link)
+    object.look.is_in_range() && is_of_kind(object) && is_link_in_range(object.link)
 }
 
-fn is_look_in_range(object: &Object) -> bool
-    ensures { result ≡ is_look_in_range object.now }
+/// Whether the label and the ends are what the kind of the object asks for.
+fn is_of_kind(object: &Object) -> bool
+    ensures { result ≡ is_of_kind object.now }
 {
-    object.stroke <= COLOUR_LIMIT
-        && is_fill_in_range(object.fill)
-        && 1 <= object.width
-        && object.width <= WIDTH_LIMIT
-}
-
-fn is_fill_in_range(fill: Option<u32>) -> bool
-    ensures { result ≡ is_fill fill }
-{
-    match fill {
-        Some(colour) => colour <= COLOUR_LIMIT,
-        None => true,
-    }
+    object.kind.has_label(&object.label) && object.kind.has_ends(object.ends)
 }
 
 fn is_link_in_range(link: Option<Link>) -> bool
@@ -92,13 +82,14 @@ fn are_ties_in_range(ties: &[Tie]) -> bool
     ties.iter().all(|tie| is_link_in_range(tie.link))
 }
 
-/// Whether a group has 2 members, and what is disbanded a tie.
+/// Whether a group has 2 members, what is disbanded a tie, and what is restored with ties is a group.
 pub(crate) fn has_members(op: &Op) -> bool
     ensures { result ≡ has_members op.now }
 {
     match op {
         Op::Group { members } => members.as_slice().len() >= 2,
         Op::Disband { ties, .. } => ties.as_slice().len() >= 1,
+        Op::Restore { object, ties, .. } => ties.as_slice().len() <= object.kind.most_ties(),
         _ => true,
     }
 }
@@ -112,6 +103,7 @@ pub(crate) fn names_before(stamp: Stamp, op: &Op) -> bool
         Op::Delete { id } => id.is_before(stamp),
         Op::Set { id, content } => id.is_before(stamp) && is_content_before(stamp, content),
         Op::Group { members } => are_members_before(stamp, members.as_slice()),
+        Op::Connect { ends, .. } => is_between(stamp, *ends),
         Op::Restore { id, object, ties } => {
             is_object_before(stamp, *id, object) && are_ties_before(stamp, ties.as_slice())
         }
@@ -121,13 +113,30 @@ pub(crate) fn names_before(stamp: Stamp, op: &Op) -> bool
     }
 }
 
-fn is_content_before(stamp: Stamp, content: &Content<Label, Height>) -> bool
+fn is_content_before(stamp: Stamp, content: &Content<Label, Looks, Height>) -> bool
     ensures { result ≡ is_content_before stamp content.now }
 {
     match content {
         Content::ToRank(Height::At(rank)) => given_at(*rank).is_before(stamp),
+        Content::ToEnds(ends) => are_ends_before(stamp, *ends),
         _ => true,
     }
+}
+
+/// Whether both ends are before the stamp, where there are some.
+fn are_ends_before(stamp: Stamp, ends: Option<Ends>) -> bool
+    ensures { result ≡ are_ends_before stamp ends }
+{
+    match ends {
+        Some(ends) => is_between(stamp, ends),
+        None => true,
+    }
+}
+
+fn is_between(stamp: Stamp, ends: Ends) -> bool
+    ensures { result ≡ is_between stamp ends }
+{
+    ends.from.is_before(stamp) && ends.to.is_before(stamp)
 }
 
 /// The stamp of the event that gave the rank.
@@ -150,6 +159,7 @@ fn is_object_before(stamp: Stamp, id: Stamp, object: &Object) -> bool
 {
     id.is_before(stamp)
         && given_at(object.rank).is_before(stamp)
+        && are_ends_before(stamp, object.ends)
         && is_link_before(stamp, id, object.link)
 }
 

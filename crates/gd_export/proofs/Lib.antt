@@ -1,3 +1,4 @@
 pub mod Marks
 pub mod Spelled
 pub mod Begin
+pub mod Puts

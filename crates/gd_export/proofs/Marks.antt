@@ -1,15 +1,15 @@
--- Of what a label holds, quotes and backslashes alone are escaped.
+-- Of what a label holds, quotes, backslashes and line feeds alone are escaped.
 use Rattle.std.proofs.Common.{◌≡◌, ◌≤◌, ◌<◌, ℕ, Bool, true, false, cond, ◌||◌, List, [], ◌∷◌, ◌++◌, refl, sym, ap, ap₂, ◌∙◌, subst, arith, eqb, ne_eqb, nat_lt, nat_le, le-ltb, lt-ltb, ◌+◌, ◌/◌, ◌%◌, zero, suc}
-use Rattle.std.specs.Prelude.{chars, codes, decimal, flat_map, not, ◌&&◌}
+use Rattle.std.specs.Prelude.{chars, codes, decimal, flat_map, not, ◌&&◌, ◌==◌}
 use Rattle.std.specs.Fmt.{digits, digits_onto, digit_glyph}
 use Rattle.std.specs.List.{list_any}
 use Rattle.std.specs.Str.{is_utf8}
 use Rattle.std.proofs.Math.Utf8.{encode, encodes}
-use Rattle.std.proofs.lemmas.Bool.{and_parts, leb-true, ltb-false}
+use Rattle.std.proofs.lemmas.Bool.{and_parts, eqb-true, leb-true, ltb-false}
 use Rattle.std.proofs.lemmas.Grind.{flat_map-append}
 use Rattle.std.proofs.lemmas.Str.{encodes-chars, IsUtf8-from_is_utf8}
 use Rattle.json.specs.Print.{escape_byte, escape_letter, escape}
-use Rattle.gd_base.specs.Labels.{IsLabel, is_control, has_control}
+use Rattle.gd_base.specs.Labels.{IsLabel, is_control, is_strange, has_strange}
 use Rattle.gd_base.specs.Stamps.{Stamp}
 use Rattle.gd_base.specs.declared.shape.Shape.{Shape}
 use Rattle.gd_base.specs.declared.shape.Shape.TheVariants.{Rect, Ellipse, Line, Text}
@@ -29,16 +29,24 @@ letter b h =
 abbrev as_letter : ℕ → ℕ → List ℕ
 as_letter b l = cond (nat_lt 0 l) (92 ∷ l ∷ []) (b ∷ [])
 
-by_mark : (t : Bool) (b : ℕ) → 32 ≤ b → as_letter b (cond t b 0) ≡ cond t (92 ∷ b ∷ []) (b ∷ [])
-by_mark true b h = let e : nat_lt 0 b ≡ true = lt-ltb 0 b (omega arith) in rw e refl
-by_mark false b h = refl
+-- what stands for a byte that is marked or not, and is a line feed or not
+abbrev marked_by : Bool → Bool → ℕ → List ℕ
+marked_by t feeds b = cond t (92 ∷ b ∷ []) (cond feeds (92 ∷ 110 ∷ []) (b ∷ []))
+
+by_mark : (t feeds : Bool) (b : ℕ) → 32 ≤ b → feeds ≡ false → as_letter b (cond t b 0) ≡ marked_by t feeds b
+by_mark true feeds b h e = let e : nat_lt 0 b ≡ true = lt-ltb 0 b (omega arith) in rw e refl
+by_mark false true b h e = absurd cc
+by_mark false false b h e = refl
+
+no_feed : (b : ℕ) → 32 ≤ b → eqb b 10 ≡ false
+no_feed b h = ne_eqb b 10 (λ e. omega arith)
 
 visible : (b : ℕ) → 32 ≤ b → escape_byte b ≡ as_letter b (escape_letter b)
 unfolding escape_byte
 visible b h = let e : nat_lt b 32 ≡ false = le-ltb b 32 h in rw e refl
 
 marks : (b : ℕ) → 32 ≤ b → escape_byte b ≡ marked b
-marks b h = visible b h ∙ ap (as_letter b) (letter b h) ∙ by_mark (is_marked b) b h
+marks b h = visible b h ∙ ap (as_letter b) (letter b h) ∙ by_mark (is_marked b) (eqb b 10) b h (no_feed b h)
 
 one : (b : ℕ) → 32 ≤ b → escape (b ∷ []) ≡ flat_map marked (b ∷ [])
 one b h = ap (λ (bs : List ℕ). bs ++ []) (marks b h)
@@ -78,19 +86,37 @@ pub not_of : (a : Bool) → not a ≡ true → a ≡ false
 not_of true h = absurd cc
 not_of false h = refl
 
-of_chars : (cs : List ℕ) → list_any is_control cs ≡ false → escape (encodes cs) ≡ flat_map marked (encodes cs)
+not_both : (a : Bool) → (a && true) ≡ false → a ≡ false
+not_both true h = absurd cc
+not_both false h = refl
+
+of_feed : escape (encode 10) ≡ flat_map marked (encode 10)
+unfolding encode escape_byte
+of_feed = refl
+
+-- a character of a label is a line feed or no control character
+of_text_by : (c : ℕ) (feeds : Bool) → (c == 10) ≡ feeds → (is_control c && not feeds) ≡ false
+    → escape (encode c) ≡ flat_map marked (encode c)
+of_text_by c true e h =
+    subst (λ (d : ℕ). escape (encode d) ≡ flat_map marked (encode d)) (sym (eqb-true c 10 e)) of_feed
+of_text_by c false e h = of_char c (above_control c (not_both (is_control c) h))
+
+of_text : (c : ℕ) → is_strange c ≡ false → escape (encode c) ≡ flat_map marked (encode c)
+of_text c h = of_text_by c (c == 10) refl h
+
+of_chars : (cs : List ℕ) → list_any is_strange cs ≡ false → escape (encodes cs) ≡ flat_map marked (encodes cs)
 of_chars [] h = refl
 of_chars (c ∷ cs) h =
-    let p = none_of (is_control c) (list_any is_control cs) h in
+    let p = none_of (is_strange c) (list_any is_strange cs) h in
     flat_map-append escape_byte (encode c) (encodes cs)
-    ∙ ap₂ (λ (x y : List ℕ). x ++ y) (of_char c (above_control c p.0)) (of_chars cs p.1)
+    ∙ ap₂ (λ (x y : List ℕ). x ++ y) (of_text c p.0) (of_chars cs p.1)
     ∙ sym (flat_map-append marked (encode c) (encodes cs))
 
 pub label_marks : (label : List ℕ) → IsLabel label → escape label ≡ flat_map marked label
 label_marks label h =
-    let p = and_parts (is_utf8 label) (not (has_control label)) h.plain in
+    let p = and_parts (is_utf8 label) (not (has_strange label)) h.plain in
     let same : encodes (chars label) ≡ label = encodes-chars label (IsUtf8-from_is_utf8 label p.0) in
-    subst (λ (l : List ℕ). escape l ≡ flat_map marked l) same (of_chars (chars label) (not_of (has_control label) p.1))
+    subst (λ (l : List ℕ). escape l ≡ flat_map marked l) same (of_chars (chars label) (not_of (has_strange label) p.1))
 
 -- ---- texts that need no marks
 
@@ -98,9 +124,10 @@ label_marks label h =
 abbrev pub IsQuiet : List ℕ → Type 0
 IsQuiet text = escape text ≡ text
 
-no_mark : (t : Bool) (b : ℕ) → t ≡ false → cond t (92 ∷ b ∷ []) (b ∷ []) ≡ b ∷ []
-no_mark true b e = absurd cc
-no_mark false b e = refl
+no_mark : (t feeds : Bool) (b : ℕ) → t ≡ false → feeds ≡ false → marked_by t feeds b ≡ b ∷ []
+no_mark true feeds b e f = absurd cc
+no_mark false true b e f = absurd cc
+no_mark false false b e f = refl
 
 -- a text that needs no marks has none
 pub quiet_text : (text : List ℕ) → is_quiet text ≡ true → IsQuiet text
@@ -108,15 +135,17 @@ quiet_text [] h = refl
 quiet_text (b ∷ bs) h =
     let p = and_parts (nat_le 32 b && not (is_marked b)) (is_quiet bs) h in
     let q = and_parts (nat_le 32 b) (not (is_marked b)) p.0 in
-    let same : marked b ≡ b ∷ [] = no_mark (is_marked b) b (not_of (is_marked b) q.1) in
-    ap₂ (λ (x y : List ℕ). x ++ y) (marks b (leb-true 32 b q.0) ∙ same) (quiet_text bs p.1)
+    let least = leb-true 32 b q.0 in
+    let same : marked b ≡ b ∷ [] = no_mark (is_marked b) (eqb b 10) b (not_of (is_marked b) q.1) (no_feed b least) in
+    ap₂ (λ (x y : List ℕ). x ++ y) (marks b least ∙ same) (quiet_text bs p.1)
 
 -- neither a quote nor a backslash, and no control character
 unmarked : (b : ℕ) → 35 ≤ b → b ≤ 91 → marked b ≡ b ∷ []
 unmarked b h k =
     let e34 : eqb b 34 ≡ false = ne_eqb b 34 (λ e. omega arith) in
     let e92 : eqb b 92 ≡ false = ne_eqb b 92 (λ e. omega arith) in
-    rw (e34, e92) refl
+    let e10 : eqb b 10 ≡ false = ne_eqb b 10 (λ e. omega arith) in
+    rw (e34, e92, e10) refl
 
 quiet_byte : (b : ℕ) (text : List ℕ) → 35 ≤ b → b ≤ 91 → IsQuiet text → IsQuiet (b ∷ text)
 quiet_byte b text h k q = ap₂ (λ (x y : List ℕ). x ++ y) (marks b (omega arith) ∙ unmarked b h k) q

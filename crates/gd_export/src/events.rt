@@ -5,9 +5,9 @@ ghost use Rattle.gd_json.specs.EventsJson.{box_fields, content_fields, event_jso
 ghost use Rattle.gd_json.specs.Values.{array, put_all};
 
 use crate::array::{ArrayText, JsonText};
-use crate::objects::{put_object, ties_of};
+use crate::objects::{put_ends, put_object, ties_of};
 use crate::values::{Fields, Items, Json};
-use gd_base::{Content, Height, Label, Member, Side};
+use gd_base::{Content, Height, Label, Looks, Member, Side};
 use gd_events::{Event, EventList, Op};
 use std::alloc::{AllocError, Global};
 
@@ -56,7 +56,7 @@ fn put_op(fields: &mut Fields, op: &Op) -> Result<(), AllocError>
         } => {
             fields.word("op", "create")?;
             fields.kind("kind", *kind)?;
-            fields.label("label", label)?;
+            fields.label("label", label.as_str())?;
             put_box(fields, *x, *y, *w, *h)
         }
         Op::Delete { id } => {
@@ -71,6 +71,11 @@ fn put_op(fields: &mut Fields, op: &Op) -> Result<(), AllocError>
             fields.word("op", "group")?;
             let members = members_of(fields.alloc(), members.as_slice())?;
             fields.put("members", members)
+        }
+        Op::Connect { ends, label } => {
+            fields.word("op", "connect")?;
+            fields.label("label", label.as_str())?;
+            fields.both(*ends)
         }
         Op::Restore { id, object, ties } => {
             fields.word("op", "restore")?;
@@ -99,7 +104,10 @@ fn put_box(fields: &mut Fields, x: i32, y: i32, w: i32, h: i32) -> Result<(), Al
 }
 
 /// Puts the name of what sets a content, and the content.
-fn put_content(fields: &mut Fields, content: &Content<Label, Height>) -> Result<(), AllocError>
+fn put_content(
+    fields: &mut Fields,
+    content: &Content<Label, Looks, Height>,
+) -> Result<(), AllocError>
     ensures { OnOk result (fields.new ≡ put_all fields.old (content_fields content.now)) }
 {
     match content {
@@ -113,24 +121,20 @@ fn put_content(fields: &mut Fields, content: &Content<Label, Height>) -> Result<
             fields.integer("w", *w)?;
             fields.integer("h", *h)
         }
-        Content::ToStroke(colour) => {
+        Content::ToLooks(looks) => {
             fields.word("op", "restyle")?;
-            fields.colour("stroke", *colour)
-        }
-        Content::ToFill(fill) => {
-            fields.word("op", "restyle")?;
-            fields.fill("fill", *fill)
-        }
-        Content::ToWidth(width) => {
-            fields.word("op", "restyle")?;
-            fields.count("width", u64::from(*width))
+            fields.looks(looks)
         }
         Content::ToText(label) => {
             fields.word("op", "retext")?;
-            fields.label("label", label)
+            fields.label("label", label.as_str())
         }
         Content::ToFlag(true) => fields.word("op", "ungroup"),
         Content::ToFlag(false) => fields.word("op", "reopen"),
+        Content::ToEnds(ends) => {
+            fields.word("op", "reconnect")?;
+            put_ends(fields, *ends)
+        }
         Content::ToRank(Height::To(Side::Top)) => fields.word("op", "raise"),
         Content::ToRank(Height::To(Side::Bottom)) => fields.word("op", "lower"),
         Content::ToRank(Height::At(rank)) => {

@@ -3,6 +3,7 @@
 
 mod array;
 mod events;
+mod looks;
 mod objects;
 mod parts;
 mod picture;

@@ -1,35 +1,59 @@
 //! Objects and ties as they were.
 
-ghost use Rattle.std.specs.Prelude.{◌≡◌, IfOk, OnOk, map, true};
+ghost use Rattle.std.specs.Prelude.{◌≡◌, [], ◌∷◌, IfOk, OnOk, codes, map, true};
 ghost use Rattle.gd_export.specs.Texts.{is_quiet};
-ghost use Rattle.gd_json.specs.EventsJson.{link_json, look_of, object_fields, rank_json, state_of, tie_json};
-ghost use Rattle.gd_json.specs.Values.{array, put_all, put_field};
+ghost use Rattle.gd_json.specs.EventsJson.{ends_fields, kind_or_group, link_json, object_fields, rank_json, state_of, tie_json};
+ghost use Rattle.gd_json.specs.Parts.{two};
+ghost use Rattle.gd_json.specs.Values.{array, put_all, put_field, quoted};
 
 use crate::values::{Fields, Items, Json};
-use gd_base::{Kind, Link, Object, Rank, Tie};
+use gd_base::{Ends, Kind, Link, Object, Rank, Tie};
 use std::alloc::{AllocError, Global};
 
 /// Puts the fields of an object, without its id.
 pub(crate) fn put_object(fields: &mut Fields, object: &Object) -> Result<(), AllocError>
     ensures { OnOk result (fields.new ≡ put_all fields.old (object_fields object.now)) }
 {
-    match object.kind {
-        Kind::Shape(shape) => fields.kind("kind", shape)?,
-        Kind::Group => fields.word("kind", "group")?,
-    }
-    fields.two("at", i64::from(object.x), i64::from(object.y))?;
-    fields.two("size", i64::from(object.w), i64::from(object.h))?;
-    fields.label("label", &object.label)?;
-    put_look(fields, object)?;
+    put_form(fields, object)?;
+    fields.look(&object.look)?;
+    put_ends(fields, object.ends)?;
     put_state(fields, object)
 }
 
-fn put_look(fields: &mut Fields, object: &Object) -> Result<(), AllocError>
-    ensures { OnOk result (fields.new ≡ put_all fields.old (look_of object.now)) }
+/// Puts its kind, its place, its size and its label.
+fn put_form(fields: &mut Fields, object: &Object) -> Result<(), AllocError>
+    ensures { OnOk result (fields.new ≡ put_all fields.old
+        ((codes "kind", kind_or_group object.now.kind)
+        ∷ (codes "at", two object.now.x object.now.y)
+        ∷ (codes "size", two object.now.w object.now.h)
+        ∷ (codes "label", quoted object.now.label)
+        ∷ [])) }
 {
-    fields.colour("stroke", object.stroke)?;
-    fields.fill("fill", object.fill)?;
-    fields.count("width", u64::from(object.width))
+    put_kind(fields, object.kind)?;
+    fields.pair("at", object.x, object.y)?;
+    fields.pair("size", object.w, object.h)?;
+    fields.label("label", object.label.as_str())
+}
+
+fn put_kind(fields: &mut Fields, kind: Kind) -> Result<(), AllocError>
+    ensures { OnOk result (fields.new
+        ≡ put_field fields.old (codes "kind", kind_or_group kind)) }
+{
+    match kind {
+        Kind::Shape(shape) => fields.kind("kind", shape),
+        Kind::Group => fields.word("kind", "group"),
+        Kind::Connector => fields.word("kind", "connector"),
+    }
+}
+
+/// Puts the ends of what has some.
+pub(crate) fn put_ends(fields: &mut Fields, ends: Option<Ends>) -> Result<(), AllocError>
+    ensures { OnOk result (fields.new ≡ put_all fields.old (ends_fields ends)) }
+{
+    match ends {
+        Some(ends) => fields.both(ends),
+        None => Ok(()),
+    }
 }
 
 fn put_state(fields: &mut Fields, object: &Object) -> Result<(), AllocError>

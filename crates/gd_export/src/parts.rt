@@ -1,15 +1,18 @@
 //! The fields that drawings and events have in common. An id, a kind and a colour are strings, as in the printed lines; no
 //! parent and no fill are null.
 
-ghost use Rattle.std.specs.Prelude.{◌≡◌, OnOk, decimal, true};
+ghost use Rattle.std.specs.Prelude.{◌≡◌, OnOk, codes, decimal, true};
 ghost use Rattle.std.specs.Fmt.{signed_decimal};
 ghost use Rattle.gd_export.specs.Texts.{is_quiet};
-ghost use Rattle.gd_json.specs.Parts.{colour_json, colour_or_null, id_json, id_or_null, kind_json, two};
-ghost use Rattle.gd_json.specs.Values.{flag, plain, put_field, quoted};
+ghost use Rattle.gd_json.specs.Parts.{colour_json, colour_or_null, dash_json, heads_json, id_json, id_or_null, kind_json, two};
+ghost use Rattle.gd_base.specs.Labels.{IsLabel};
+ghost use Rattle.gd_json.specs.EventsJson.{both_fields};
+ghost use Rattle.gd_lines.specs.Text.{align_word};
+ghost use Rattle.gd_json.specs.Values.{flag, plain, put_all, put_field, quoted};
 
 use crate::texts::{colour_of, id_of, kind_of};
 use crate::values::{Fields, Items, Json};
-use gd_base::{Label, Shape, Stamp};
+use gd_base::{Align, Dash, Ends, Heads, Shape, Stamp};
 use std::alloc::AllocError;
 
 impl Fields {
@@ -45,8 +48,9 @@ impl Fields {
         self.put(key, Json::plain(text))
     }
 
-    pub fn label(&mut self, key: &str, label: &Label) -> Result<(), AllocError>
-        requires { is_quiet key.now ≡ true }
+    pub fn label(&mut self, key: &str, label: &str) -> Result<(), AllocError>
+        requires key { is_quiet key.now ≡ true }
+        requires label { IsLabel label.now }
         ensures { OnOk result (self.new ≡ put_field self.old (key.now, quoted label.now)) }
     {
         let label = Json::label(self.alloc(), label)?;
@@ -109,5 +113,53 @@ impl Fields {
         items.push(Json::integer(x))?;
         items.push(Json::integer(y))?;
         self.put(key, items.close())
+    }
+
+    /// The same of smaller numbers.
+    pub fn pair(&mut self, key: &str, x: i32, y: i32) -> Result<(), AllocError>
+        requires { is_quiet key.now ≡ true }
+        ensures { OnOk result (self.new ≡ put_field self.old (key.now, two x y)) }
+    {
+        self.two(key, i64::from(x), i64::from(y))
+    }
+
+    pub fn dash(&mut self, dash: Dash) -> Result<(), AllocError>
+        ensures { OnOk result (self.new ≡ put_field self.old (codes "dash", dash_json dash)) }
+    {
+        match dash {
+            Dash::Solid => self.word("dash", "solid"),
+            Dash::Dashed => self.word("dash", "dashed"),
+            Dash::Dotted => self.word("dash", "dotted"),
+        }
+    }
+
+    pub fn heads(&mut self, heads: Heads) -> Result<(), AllocError>
+        ensures { OnOk result (self.new ≡ put_field self.old (codes "heads", heads_json heads)) }
+    {
+        match heads {
+            Heads::Bare => self.word("heads", "none"),
+            Heads::AtEnd => self.word("heads", "end"),
+            Heads::AtStart => self.word("heads", "start"),
+            Heads::AtBoth => self.word("heads", "both"),
+        }
+    }
+
+    pub fn align(&mut self, align: Align) -> Result<(), AllocError>
+        ensures { OnOk result (self.new
+            ≡ put_field self.old (codes "align", plain (align_word align))) }
+    {
+        match align {
+            Align::Start => self.word("align", "start"),
+            Align::Middle => self.word("align", "middle"),
+            Align::End => self.word("align", "end"),
+        }
+    }
+
+    /// The ends of a connector.
+    pub fn both(&mut self, ends: Ends) -> Result<(), AllocError>
+        ensures { OnOk result (self.new ≡ put_all self.old (both_fields ends)) }
+    {
+        self.id("from", ends.from)?;
+        self.id("to", ends.to)
     }
 }

@@ -1,12 +1,14 @@
 //! A drawing.
 
-ghost use Rattle.std.specs.Prelude.{◌≡◌, IfOk, OnOk};
-ghost use Rattle.gd_json.specs.PictureJson.{item_json, look_fields, picture_json, shape_fields};
-ghost use Rattle.gd_json.specs.Values.{put_all};
+ghost use Rattle.std.specs.Prelude.{◌≡◌, [], ◌∷◌, IfOk, OnOk, codes};
+ghost use Rattle.gd_base.specs.declared.item.Body.TheVariants.{Joined};
+ghost use Rattle.gd_json.specs.Parts.{id_json};
+ghost use Rattle.gd_json.specs.PictureJson.{at_fields, body_fields, item_fields, item_json, picture_json};
+ghost use Rattle.gd_json.specs.Values.{plain, put_all, quoted};
 
 use crate::array::{ArrayText, JsonText};
 use crate::values::{Fields, Json};
-use gd_base::{Item, ShapeItem};
+use gd_base::{Body, Item, JoinedItem};
 use gd_view::Picture;
 use std::alloc::{AllocError, Global};
 
@@ -31,32 +33,64 @@ pub(crate) fn item_of(alloc: Global, item: &Item) -> Result<Json, AllocError>
     ensures { IfOk result (λ json. json ≡ item_json item.now) }
 {
     let mut fields = Fields::new(alloc);
-    fields.id("id", item.id)?;
-    fields.parent("in", item.parent)?;
-    fields.two("at", item.at.x, item.at.y)?;
-    put_shape(&mut fields, &item.shape)?;
+    put_item(&mut fields, item)?;
     Ok(fields.close())
 }
 
-/// Puts what only a shape has, or that the item is a group.
-fn put_shape(fields: &mut Fields, shape: &Option<ShapeItem>) -> Result<(), AllocError>
-    ensures { OnOk result (fields.new ≡ put_all fields.old (shape_fields shape.now)) }
+fn put_item(fields: &mut Fields, item: &Item) -> Result<(), AllocError>
+    ensures { OnOk result (fields.new ≡ put_all fields.old (item_fields item.now)) }
 {
-    match shape {
-        Some(shape) => {
-            fields.kind("kind", shape.kind)?;
-            fields.label("label", &shape.label)?;
-            fields.two("size", i64::from(shape.w), i64::from(shape.h))?;
-            put_look(fields, shape)
-        }
-        None => fields.word("kind", "group"),
+    fields.id("id", item.id)?;
+    fields.parent("in", item.parent)?;
+    put_at(fields, item)?;
+    put_body(fields, &item.body)
+}
+
+/// Puts where an item is shown that isn't shown between its ends.
+fn put_at(fields: &mut Fields, item: &Item) -> Result<(), AllocError>
+    ensures { OnOk result (fields.new ≡ put_all fields.old (at_fields item.now item.now.body)) }
+{
+    match &item.body {
+        Body::Joined(_) => Ok(()),
+        Body::Shape(_) | Body::Group => fields.two("at", item.at.x, item.at.y),
     }
 }
 
-fn put_look(fields: &mut Fields, shape: &ShapeItem) -> Result<(), AllocError>
-    ensures { OnOk result (fields.new ≡ put_all fields.old (look_fields shape.now)) }
+/// Puts what only a shape has, or only a connector, or that the item is a group.
+fn put_body(fields: &mut Fields, body: &Body) -> Result<(), AllocError>
+    ensures { OnOk result (fields.new ≡ put_all fields.old (body_fields body.now)) }
 {
-    fields.colour("stroke", shape.stroke)?;
-    fields.fill("fill", shape.fill)?;
-    fields.count("width", u64::from(shape.width))
+    match body {
+        Body::Shape(shape) => {
+            fields.kind("kind", shape.kind)?;
+            fields.label("label", shape.label.as_str())?;
+            fields.pair("size", shape.w, shape.h)?;
+            fields.look(&shape.look)
+        }
+        Body::Joined(joined) => put_joined(fields, joined),
+        Body::Group => fields.word("kind", "group"),
+    }
+}
+
+/// Puts what only a connector has.
+fn put_joined(fields: &mut Fields, joined: &JoinedItem) -> Result<(), AllocError>
+    ensures { OnOk result (fields.new ≡ put_all fields.old (body_fields (Joined joined.now))) }
+{
+    put_ends(fields, joined)?;
+    fields.look(&joined.look)
+}
+
+/// Puts that it is a connector, its label and its ends.
+fn put_ends(fields: &mut Fields, joined: &JoinedItem) -> Result<(), AllocError>
+    ensures { OnOk result (fields.new ≡ put_all fields.old
+        ((codes "kind", plain (codes "connector"))
+        ∷ (codes "label", quoted joined.now.label)
+        ∷ (codes "from", id_json joined.now.ends.from)
+        ∷ (codes "to", id_json joined.now.ends.to)
+        ∷ [])) }
+{
+    fields.word("kind", "connector")?;
+    fields.label("label", joined.label.as_str())?;
+    fields.id("from", joined.ends.from)?;
+    fields.id("to", joined.ends.to)
 }

@@ -5,8 +5,8 @@ ghost use Rattle.std.specs.Fmt.{signed_decimal};
 ghost use Rattle.gd_export.specs.Texts.{is_quiet};
 ghost use Rattle.gd_json.specs.Values.{array, flag, null, object, plain, put_field, quoted};
 ghost use Rattle.json.specs.Print.{escape};
+ghost use Rattle.gd_base.specs.Labels.{IsLabel};
 
-use gd_base::Label;
 use serde_json::{Map, Value, push, put};
 use std::alloc::{AllocError, Global};
 use std::marker::Model;
@@ -72,11 +72,12 @@ impl Json {
     }
 
     #[tactic(auto, using(crate::proofs::Marks::label_marks))]
-    pub fn label(alloc: Global, label: &Label) -> Result<Self, AllocError>
+    pub fn label(alloc: Global, label: &str) -> Result<Self, AllocError>
+        requires { IsLabel label.now }
         ensures { IfOk result (λ json. json ≡ quoted label.now) }
     {
         Ok(Json {
-            value: Value::try_from_str(alloc, label.as_str())?,
+            value: Value::try_from_str(alloc, label)?,
         })
     }
 

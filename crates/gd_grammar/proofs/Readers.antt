@@ -1,5 +1,5 @@
 -- Readings one behind the other, step by step, and readings by a tag, row by row.
-use Rattle.std.proofs.Common.{◌≡◌, ℕ, ◌+◌, true, List, [], ◌∷◌, get_or, Ok, arith}
+use Rattle.std.proofs.Common.{◌≡◌, ℕ, ◌+◌, true, List, [], ◌∷◌, get_or, Ok, refl, arith}
 use Rattle.std.specs.List.{AllByRecursion}
 use Rattle.std.specs.Prelude.{nat_le, ◌==◌}
 use Rattle.gd_base.specs.declared.fault.FieldFault.{FieldFault}
@@ -19,6 +19,17 @@ use Rattle.gd_grammar.proofs.ExactFields.{exact_byte, exact_byte_within, tag_is,
 infixr 5 ◌&◌
 pub ◌&◌ : {A B : Type 0} → A → B → A × B
 a & b = (a, b)
+
+-- a field was read, and what follows it
+pub then-read : {A B : Type 0} (r : Reader A) (f : A → Reader B) {bytes rest : List ℕ} {a : A} {z : B × List ℕ}
+    → r bytes ≡ Ok (a, rest) → f a rest ≡ Ok z → then_at r f bytes ≡ Ok z
+unfolding then_at
+then-read r f first second = rw first second
+
+-- nothing more was read
+pub pure-read : {A : Type 0} (value : A) (bytes : List ℕ) → pure value bytes ≡ Ok (value, bytes)
+unfolding pure
+pure-read value bytes = refl
 
 -- ---- read alike whatever follows
 

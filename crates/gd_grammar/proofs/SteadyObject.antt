@@ -1,38 +1,28 @@
--- Each part of an object is read alike whatever follows it. An object takes at most 252 bytes.
-use Rattle.std.proofs.Common.{cond, None, Some, Ok, Err, arith}
-use Rattle.std.specs.Prelude.{Option, ◌==◌, option_map}
+-- Each part of an object is read alike whatever follows it. An object takes at most 578 bytes, and a group at most 277.
+use Rattle.std.proofs.Common.{ℕ, ◌+◌, ◌≤◌, cond, None, Some, Ok, Err, arith}
+use Rattle.std.specs.Prelude.{Option, option_map}
 use Rattle.gd_base.specs.declared.fault.FieldWhy.TheVariants.{FutureId}
-use Rattle.gd_base.specs.Labels.{most_label}
-use Rattle.gd_base.specs.Ranges.{place_limit, size_limit, is_colour, is_width}
+use Rattle.gd_base.specs.Labels.{most_title}
+use Rattle.gd_base.specs.Ranges.{place_limit, size_limit}
 use Rattle.gd_base.specs.Stamps.{Stamp, is_before}
+use Rattle.gd_base.specs.declared.object.Kind.{Kind}
+use Rattle.gd_base.specs.declared.object.Kind.TheVariants.{Shape, Group, Connector}
 use Rattle.gd_base.specs.declared.rank.Rank.TheVariants.{Low, High}
-use Rattle.gd_grammar.specs.EventBytes.{colour_at, fill_at, parent_id_at}
-use Rattle.gd_grammar.specs.Fields.{byte_at, id_at, word_at}
-use Rattle.gd_grammar.specs.ObjectBytes.{kind_rows, kind_at, thin_at, flag_rows, flag_at, parent_at, some_link_at, link_rows, link_at, given_at, rank_rows, rank_at, object_at}
-use Rattle.gd_grammar.specs.Reading.{fault_at, ranged, then_at}
+use Rattle.gd_grammar.specs.EventBytes.{parent_id_at}
+use Rattle.gd_grammar.specs.Fields.{id_at}
+use Rattle.gd_grammar.specs.ObjectBytes.{kind_rows, kind_at, flag_rows, flag_at, parent_at, some_link_at, link_rows, link_at, given_at, some_ends_at, ends_rows, ends_or_none_at, joined_rows, joined_at, own_ends_at, rank_rows, rank_at, own_label_at, of_kind_at, object_at}
+use Rattle.gd_grammar.specs.Reading.{fault_at}
 use Rattle.gd_grammar.specs.Steady.{Steady}
 use Rattle.gd_grammar.specs.declared.naming.Naming.{Naming}
 use Rattle.gd_grammar.specs.declared.sizes.TheConstants.{OBJECT_BYTES}
 use Rattle.gd_grammar.proofs.Readers.{◌&◌, Steady-pure, Steady-next, Steady-into, Steady-tags}
 use Rattle.gd_grammar.proofs.Steady.{Steady-then, Steady-weaken, done, fault_there, either}
-use Rattle.gd_grammar.proofs.SteadyFields.{in_range, Steady-byte, Steady-id, Steady-stamp, Steady-signed, Steady-label-within, Steady-word}
+use Rattle.gd_grammar.proofs.SteadyFields.{Steady-id, Steady-stamp, Steady-signed, Steady-label-within, Steady-long-label}
+use Rattle.gd_grammar.proofs.SteadyLooks.{Steady-look}
 
-pub Steady-colour : Steady 4 colour_at
-unfolding colour_at
-Steady-colour = Steady-then 4 0 word_at (λ word bytes rest. ranged (is_colour word) word bytes rest) Steady-word (λ word. in_range 0 _ _)
-
-pub Steady-fill : Steady 4 fill_at
-unfolding fill_at
-Steady-fill = Steady-then 4 0 word_at (λ word bytes rest. cond (word == 0xFFFFFFFF) (Ok (None, rest)) (ranged (is_colour word) (Some word) bytes rest)) Steady-word
-    (λ word. either (word == 0xFFFFFFFF) (λ _. done 0 None) (λ _. in_range 0 _ _))
-
-Steady-kind : Steady 1 kind_at
+pub Steady-kind : Steady 1 kind_at
 unfolding kind_at
-Steady-kind = Steady-tags 0 kind_rows (Steady-pure _ & Steady-pure _ & Steady-pure _ & Steady-pure _ & Steady-pure _ & tt)
-
-Steady-thin : Steady 1 thin_at
-unfolding thin_at then_at
-Steady-thin = Steady-then 1 0 byte_at (λ width bytes rest. ranged (is_width width) width bytes rest) Steady-byte (λ width. in_range 0 _ _)
+Steady-kind = Steady-tags 0 kind_rows (Steady-pure _ & Steady-pure _ & Steady-pure _ & Steady-pure _ & Steady-pure _ & Steady-pure _ & tt)
 
 Steady-flag : Steady 1 flag_at
 unfolding flag_at
@@ -65,10 +55,43 @@ pub Steady-rank : (stamp : Option Stamp) → Steady 8 (rank_at stamp)
 unfolding rank_at
 Steady-rank stamp = Steady-tags 7 (rank_rows stamp) (Steady-into 7 Low (Steady-given stamp) & Steady-into 7 High (Steady-given stamp) & tt)
 
+Steady-some-ends : (stamp : Option Stamp) → Steady 14 (some_ends_at stamp)
+unfolding some_ends_at
+Steady-some-ends stamp = Steady-next 7 (Steady-given stamp) (λ from. Steady-next 7 (Steady-given stamp) (λ to. Steady-pure _))
+
+Steady-own-ends : (kind : Kind) (stamp : Option Stamp) → Steady 15 (own_ends_at kind stamp)
+unfolding own_ends_at ends_or_none_at joined_at
+Steady-own-ends (Shape kind) stamp = Steady-tags 14 (ends_rows stamp) (Steady-weaken 0 14 _ (omega arith) (Steady-pure _) & Steady-some-ends stamp & tt)
+Steady-own-ends Group stamp = Steady-tags 14 (ends_rows stamp) (Steady-weaken 0 14 _ (omega arith) (Steady-pure _) & Steady-some-ends stamp & tt)
+Steady-own-ends Connector stamp = Steady-tags 14 (joined_rows stamp) (Steady-some-ends stamp & tt)
+
+-- how many bytes the label of an object of that kind takes at most
+abbrev pub most_own : Kind → ℕ
+most_own (Shape kind) = 502
+most_own Group = 201
+most_own Connector = 502
+
+Steady-own-label : (kind : Kind) → Steady (most_own kind) (own_label_at kind)
+unfolding own_label_at
+Steady-own-label (Shape kind) = Steady-long-label
+Steady-own-label Group = Steady-label-within most_title
+Steady-own-label Connector = Steady-long-label
+
+own-few : (kind : Kind) → most_own kind ≤ 502
+own-few (Shape kind) = omega arith
+own-few Group = omega arith
+own-few Connector = omega arith
+
+pub Steady-of-kind : (kind : Kind) (naming : Option Naming) → Steady (75 + most_own kind) (of_kind_at kind naming)
+unfolding of_kind_at
+Steady-of-kind kind naming = Steady-weaken (4 + (4 + (4 + (4 + (19 + (most_own kind + (15 + (16 + (1 + (8 + 0)))))))))) (75 + most_own kind) _ (omega arith)
+    (Steady-next 4 (Steady-signed place_limit) (λ x. Steady-next 4 (Steady-signed place_limit) (λ y.
+    Steady-next 4 (Steady-signed size_limit) (λ w. Steady-next 4 (Steady-signed size_limit) (λ h. Steady-next 19 Steady-look (λ look.
+    Steady-next (most_own kind) (Steady-own-label kind) (λ label. Steady-next 15 (Steady-own-ends kind (option_map (λ n. n.stamp) naming)) (λ ends.
+    Steady-next 16 (Steady-link naming) (λ link. Steady-next 1 Steady-flag (λ dissolved.
+    Steady-next 8 (Steady-rank (option_map (λ n. n.stamp) naming)) (λ rank. Steady-pure _)))))))))))
+
 pub Steady-object : (naming : Option Naming) → Steady OBJECT_BYTES (object_at naming)
 unfolding object_at
 Steady-object naming =
-    Steady-next 1 Steady-kind (λ kind. Steady-next 4 (Steady-signed place_limit) (λ x. Steady-next 4 (Steady-signed place_limit) (λ y.
-    Steady-next 4 (Steady-signed size_limit) (λ w. Steady-next 4 (Steady-signed size_limit) (λ h. Steady-next 4 Steady-colour (λ stroke. Steady-next 4 Steady-fill (λ fill.
-    Steady-next 1 Steady-thin (λ width. Steady-next 201 (Steady-label-within most_label) (λ label. Steady-next 16 (Steady-link naming) (λ link. Steady-next 1 Steady-flag (λ dissolved.
-    Steady-next 8 (Steady-rank (option_map (λ n. n.stamp) naming)) (λ rank. Steady-pure _))))))))))))
+    Steady-next 1 Steady-kind (λ kind. Steady-weaken (75 + most_own kind) 577 _ (omega (arith, own-few kind)) (Steady-of-kind kind naming))

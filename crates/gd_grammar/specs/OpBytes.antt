@@ -1,22 +1,28 @@
 -- The bytes of an operation on a drawing: a tag, and the fields by the tag. An id or the stamp of a rank that isn't before the
 -- event's stamp is FutureId at its first byte, and so is a group that isn't above what is linked to it. That, and whether the id
 -- of a member or of a tie is above that of the one before it, is judged before the fields behind the id. In version One a label
--- has at most 64 bytes. Since version Two an object is put at the bottom, and since version Three there is what an undo does.
+-- has at most 64 bytes, and in version Two at most 200, in neither with a line feed. Only a group is restored with ties. Since version Two an object is put at the bottom,
+-- and since version Three there are connectors, looks of several parts, and what an undo does.
 use Rattle.std.specs.Prelude.{ℕ, true, false, List, [], ◌∷◌, Option, Some, None}
+use Rattle.gd_base.specs.Kinds.{most_ties}
 use Rattle.gd_base.specs.Ranges.{place_limit, size_limit}
 use Rattle.gd_base.specs.Stamps.{Stamp}
-use Rattle.gd_base.specs.declared.content.Content.TheVariants.{ToPlace, ToSize, ToStroke, ToFill, ToWidth, ToText, ToFlag, ToRank}
+use Rattle.gd_base.specs.declared.content.Content.TheVariants.{ToPlace, ToSize, ToLooks, ToText, ToFlag, ToEnds, ToRank}
 use Rattle.gd_base.specs.declared.content.Height.TheVariants.{To, At}
 use Rattle.gd_base.specs.declared.content.Side.TheVariants.{Bottom, Top}
 use Rattle.gd_base.specs.declared.member.Member.{Member}
-use Rattle.gd_base.specs.declared.op.Op.TheVariants.{Create, Delete, Set, Group, Restore, Disband}
+use Rattle.gd_base.specs.declared.ranges.TheConstants.{MOST_MEMBERS}
+use Rattle.gd_base.specs.declared.op.Op.TheVariants.{Create, Delete, Set, Group, Connect, Restore, Disband}
+use Rattle.gd_base.specs.declared.object.Ends.{Ends}
 use Rattle.gd_base.specs.declared.ties.Tie.{Tie}
 use Rattle.gd_base.specs.declared.version.Version.{Version}
 use Rattle.gd_events.specs.Ops.{Op, Done}
 use Rattle.gd_grammar.specs.EventBytes.{last_tag, shape_at, label_at, colour_at, fill_at, width_at, count_at, member_id_at}
 use Rattle.gd_grammar.specs.Fields.{id_at, signed_at}
-use Rattle.gd_grammar.specs.ObjectBytes.{link_at, rank_at, object_at}
-use Rattle.gd_grammar.specs.Reading.{Reader, pure, many_at}
+use Rattle.gd_grammar.specs.LookBytes.{all_looks_at, is_style}
+use Rattle.gd_base.specs.Looks.{only_fill, only_stroke, only_width}
+use Rattle.gd_grammar.specs.ObjectBytes.{kind_at, link_at, of_kind_at, rank_at}
+use Rattle.gd_grammar.specs.Reading.{Reader, pure, many_at, ranged, then_at}
 use Rattle.gd_grammar.specs.Readers.{◌>>=◌, into, by_tag, by_tag_within}
 
 -- ---- contents
@@ -33,13 +39,21 @@ size_at = do
   h ← signed_at size_limit
   pure (ToSize w h)
 
--- the parts of the look
+-- a stroke, a fill or a width
 abbrev pub look_rows : List (ℕ × Reader Done)
-look_rows = (1, into ToStroke colour_at) ∷ (2, into ToFill fill_at) ∷ (3, into ToWidth width_at) ∷ []
+look_rows =
+    (1, into (λ stroke. ToLooks (only_stroke stroke)) colour_at)
+    ∷ (2, into (λ fill. ToLooks (only_fill fill)) fill_at)
+    ∷ (3, into (λ width. ToLooks (only_width width)) width_at)
+    ∷ []
 
--- which part of the look, and its value
-unfoldable pub look_at : Reader Done
-look_at = by_tag look_rows
+-- which of them, and its value
+unfoldable pub lone_at : Reader Done
+lone_at = by_tag look_rows
+
+-- any other looks
+unfoldable pub style_at : Reader Done
+style_at bytes = then_at all_looks_at (λ looks. ranged (is_style looks) (ToLooks looks) bytes) bytes
 
 abbrev pub text_at : Version → Reader Done
 text_at version = into ToText (label_at version)
@@ -47,6 +61,16 @@ text_at version = into ToText (label_at version)
 -- a rank that it had
 abbrev pub level_at : Stamp → Reader Done
 level_at stamp = into (λ rank. ToRank (At rank)) (rank_at (Some stamp))
+
+-- the ends of a connector, which are before the event's stamp
+unfoldable pub ends_at : Stamp → Reader Ends
+ends_at stamp = do
+  from ← id_at stamp
+  to ← id_at stamp
+  pure (record { from = from; to = to })
+
+abbrev pub reconnect_at : Stamp → Reader Done
+reconnect_at stamp = into (λ ends. ToEnds (Some ends)) (ends_at stamp)
 
 -- ---- operations
 
@@ -79,7 +103,7 @@ members_at count stamp last bytes = many_at (member_at stamp) (λ m. Some m.id) 
 
 unfoldable pub group_at : Stamp → Reader Op
 group_at stamp = do
-  count ← count_at 2
+  count ← count_at 2 MOST_MEMBERS
   members ← members_at count stamp None
   pure (Group members)
 
@@ -93,23 +117,30 @@ tie_at stamp last = do
 abbrev pub ties_at : ℕ → Stamp → Option Stamp → Reader (List Tie)
 ties_at count stamp last bytes = many_at (tie_at stamp) (λ t. Some t.id) count last bytes
 
--- their number, at least so many, and the ties
-unfoldable pub all_ties_at : ℕ → Stamp → Reader (List Tie)
-all_ties_at least stamp = do
-  count ← count_at least
+-- their number, from so many to so many, and the ties
+unfoldable pub all_ties_at : ℕ → ℕ → Stamp → Reader (List Tie)
+all_ties_at least most stamp = do
+  count ← count_at least most
   ties_at count stamp None
+
+unfoldable pub connect_at : Version → Stamp → Reader Op
+connect_at version stamp = do
+  ends ← ends_at stamp
+  label ← label_at version
+  pure (Connect ends label)
 
 unfoldable pub restore_at : Stamp → Reader Op
 restore_at stamp = do
   id ← id_at stamp
-  object ← object_at (Some (record { stamp = stamp; id = id }))
-  ties ← all_ties_at 0 stamp
+  kind ← kind_at
+  object ← of_kind_at kind (Some (record { stamp = stamp; id = id }))
+  ties ← all_ties_at 0 (most_ties kind) stamp
   pure (Restore id object ties)
 
 unfoldable pub disband_at : Stamp → Reader Op
 disband_at stamp = do
   id ← id_at stamp
-  ties ← all_ties_at 1 stamp
+  ties ← all_ties_at 1 MOST_MEMBERS stamp
   pure (Disband id ties)
 
 -- those that set something other than a label
@@ -117,12 +148,14 @@ abbrev pub small_rows : Stamp → List (ℕ × Reader Op)
 small_rows stamp =
     (3, set_at stamp place_at)
     ∷ (4, set_at stamp size_at)
-    ∷ (5, set_at stamp look_at)
+    ∷ (5, set_at stamp lone_at)
     ∷ (8, set_at stamp (pure (ToFlag true)))
     ∷ (9, set_at stamp (pure (ToRank (To Top))))
     ∷ (10, set_at stamp (pure (ToRank (To Bottom))))
     ∷ (13, set_at stamp (level_at stamp))
     ∷ (14, set_at stamp (pure (ToFlag false)))
+    ∷ (15, set_at stamp style_at)
+    ∷ (17, set_at stamp (reconnect_at stamp))
     ∷ []
 
 abbrev pub op_rows : Version → Stamp → List (ℕ × Reader Op)
@@ -133,6 +166,7 @@ op_rows version stamp =
     ∷ (7, group_at stamp)
     ∷ (11, restore_at stamp)
     ∷ (12, disband_at stamp)
+    ∷ (16, connect_at version stamp)
     ∷ small_rows stamp
 
 unfoldable pub op_at : Version → Stamp → Reader Op

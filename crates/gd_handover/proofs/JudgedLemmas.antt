@@ -11,7 +11,7 @@ use Rattle.gd_events.specs.Sound.{is_above}
 use Rattle.gd_grammar.specs.Drawings.{event_at}
 use Rattle.gd_grammar.specs.Fields.{stamp_at, word_at}
 use Rattle.gd_grammar.specs.Reading.{ranged}
-use Rattle.gd_base.specs.declared.object.Object.{Object}
+use Rattle.gd_base.specs.Whole.{Object}
 use Rattle.gd_outside.specs.Seen.{SeenSource}
 use Rattle.gd_grammar.specs.ObjectBytes.{object_at}
 use Rattle.gd_snapshots.specs.SnapshotBytes.{Views, in_view, misread_at, number_within, placed_at, kept_at}
@@ -20,10 +20,10 @@ use Rattle.gd_snapshots.specs.declared.known.Known.{Known}
 use Rattle.gd_handover.specs.Parts.{Part}
 use Rattle.gd_handover.specs.Pieces.{kept_fault}
 use Rattle.gd_handover.specs.declared.fault.SnapshotFault.{SnapshotFault}
-use Rattle.gd_handover.specs.declared.fault.SnapshotFault.TheVariants.{Bad}
+use Rattle.gd_handover.specs.declared.fault.SnapshotFault.TheVariants.{Bad, NoMemory}
 use Rattle.gd_handover.specs.declared.reader.Reader.{Reader}
 use Rattle.gd_handover.proofs.LoopLemmas.{view-step}
-use Rattle.gd_handover.proofs.PartLemmas.{standing-then, part-stops, part-standing, part-ok, part-refused}
+use Rattle.gd_handover.proofs.PartLemmas.{standing-then, part-memory, part-stops, part-standing, part-ok, part-refused}
 
 -- ---- numbers
 
@@ -84,6 +84,11 @@ module _ (last : Option Stamp) where
 
   pub placed-read : (i : Stamp) (o : Object) {r s t : Reader} {a b c : SeenSource} → is_above last i ≡ true → Part id (Ok i) r s a b → Part object (Ok o) s t b c → Part (placed_at last) (Ok (i, o)) r t a c
   placed-read i o above p q = placed-then i (Ok (i, o)) above p (part-ok object (λ _ o rest. Ok ((i, o), rest)) (behind-id i) (λ bytes. refl) o (i, o) (λ bytes rest. refl) q)
+
+  -- memory ran out behind it
+  pub placed-memory : (i : Stamp) (o : Object) {r s t : Reader} {a b c : SeenSource} → is_above last i ≡ true
+      → Part id (Ok i) r s a b → Part object (Ok o) s t b c → Part (placed_at last) (Err NoMemory) r t a c
+  placed-memory i o above p q = part-memory (placed-read i o above p q)
 
 -- ---- kept events
 

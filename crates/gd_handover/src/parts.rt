@@ -11,7 +11,7 @@ use crate::fault::SnapshotFault;
 use crate::judged::{is_above, is_bounded, least_sure};
 use crate::reader::Reader;
 use crate::snapshot::{KnownList, PlacedList};
-use gd_base::{Object, Stamp, ViewWhy};
+use gd_base::{KeptObject, Object, Stamp, ViewWhy};
 use gd_events::{Event, EventList};
 use gd_outside::Source;
 use gd_snapshots::Known;
@@ -23,7 +23,7 @@ const KNOWN_BYTES: usize = 8;
 /// The bytes of an id, and of an object behind its id at least.
 const ID_BYTES: usize = 7;
 
-const PLACED_BYTES: usize = 44;
+const PLACED_BYTES: usize = 55;
 
 /// The bytes of an event at least.
 const LEAST_EVENT: usize = 17;
@@ -91,7 +91,7 @@ pub fn read_objects<S: Source>(
     count: u32,
 ) -> Result<PlacedList, SnapshotFault>
     requires near { reader.old.place ≤ 2 ^ 40 }
-    requires few { length reader.old.ahead ≤ 44 * count + 4 }
+    requires few { length reader.old.ahead ≤ 55 * count + 4 }
     requires count { count ≤ 2 ^ 20 }
     ensures part { Part (objects_at count None) result reader.old reader.new
         (S.seen source.old) (S.seen source.new) }
@@ -103,7 +103,7 @@ pub fn read_objects<S: Source>(
     let mut last = None;
     'each: for i in 0..count {
         let least = PLACED_BYTES * (count - i) as usize + NUMBER_BYTES;
-        let (id, object) = read_placed(reader, source, least, last)?;
+        let (id, object) = read_placed(alloc, reader, source, least, last)?;
         last = Some(id);
         objects.push(id, object)?;
     }
@@ -112,17 +112,18 @@ pub fn read_objects<S: Source>(
 
 /// An object behind its id, which is above the last one.
 fn read_placed<S: Source>(
+    alloc: Global,
     reader: &mut Reader,
     source: &mut S,
     least: usize,
     last: Option<Stamp>,
-) -> Result<(Stamp, Object), SnapshotFault>
+) -> Result<(Stamp, KeptObject), SnapshotFault>
     requires near { reader.old.place ≤ 2 ^ 60 }
     requires few { length reader.old.ahead ≤ least }
     requires least { 7 ≤ least }
     ensures part { Part (placed_at last) result reader.old reader.new
         (S.seen source.old) (S.seen source.new) }
-    ensures few { IfOk result (λ _. length reader.new.ahead ≤ least - 44) }
+    ensures few { IfOk result (λ _. length reader.new.ahead ≤ least - 55) }
     ensures near { IfOk result (λ _. reader.new.place ≤ reader.old.place + 2200) }
 {
     let at = reader.place;
@@ -134,7 +135,8 @@ fn read_placed<S: Source>(
         });
     }
     let object = reader.next::<Object, S>(source, least - ID_BYTES)?;
-    Ok((id, object))
+    let kept = object.keep(alloc)?;
+    Ok((id, kept))
 }
 
 /// So many kept events, where that is known of the sites. They are the last part.

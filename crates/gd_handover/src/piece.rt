@@ -97,7 +97,7 @@ impl Piece for Object {
 
     ghost read = { object_at None };
 
-    ghost least = { 37 };
+    ghost least = { 48 };
 
     ghost laws = { object_piece };
 

@@ -9,7 +9,7 @@ ghost use Rattle.gd_snapshots.specs.SnapshotBytes.{placed_bytes, snapshot_pieces
 
 use crate::pieces::{front_of, number_of, placed_of};
 use crate::snapshot::Snapshot;
-use gd_base::{Object, Stamp};
+use gd_base::{KeptObject, Stamp};
 use gd_effects::print;
 use gd_events::ListedEvent;
 use gd_outside::{End, Sink};
@@ -30,7 +30,7 @@ pub fn write_snapshot<K: Sink>(snapshot: &Snapshot, output: &mut K) -> Result<()
 }
 
 /// Each object behind its id.
-fn print_objects<K: Sink>(objects: &[(Stamp, Object)], output: &mut K) -> Result<(), End>
+fn print_objects<K: Sink>(objects: &[(Stamp, KeptObject)], output: &mut K) -> Result<(), End>
     ensures does { Prints (K.seen output.old) (map Print (map placed_bytes objects.now)) result
         (K.seen output.new) }
     ensures end { (e : End) → result ≡ Err e → e ≡ End.WriteFault }

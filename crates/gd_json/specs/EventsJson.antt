@@ -3,22 +3,24 @@
 use Rattle.std.specs.Prelude.{ℕ, ℤ, true, false, Option, Some, None, List, [], ◌∷◌, ◌++◌, map, codes, decimal}
 use Rattle.std.specs.Fmt.{signed_decimal}
 use Rattle.gd_base.specs.Stamps.{Stamp}
-use Rattle.gd_base.specs.declared.content.Content.TheVariants.{ToPlace, ToSize, ToStroke, ToFill, ToWidth, ToText, ToFlag, ToRank}
+use Rattle.gd_base.specs.declared.content.Content.TheVariants.{ToPlace, ToSize, ToLooks, ToText, ToFlag, ToEnds, ToRank}
+use Rattle.gd_base.specs.declared.look.Looks.{Looks}
+use Rattle.gd_base.specs.declared.object.Ends.{Ends}
 use Rattle.gd_base.specs.declared.content.Height.TheVariants.{To, At}
 use Rattle.gd_base.specs.declared.content.Side.TheVariants.{Bottom, Top}
 use Rattle.gd_base.specs.declared.member.Member.{Member}
-use Rattle.gd_base.specs.declared.op.Op.TheVariants.{Create, Delete, Set, Group, Restore, Disband}
+use Rattle.gd_base.specs.declared.op.Op.TheVariants.{Create, Delete, Set, Group, Connect, Restore, Disband}
 use Rattle.gd_base.specs.declared.object.Kind.{Kind}
 use Rattle.gd_base.specs.declared.object.Kind.TheVariants as kinds
 use Rattle.gd_base.specs.declared.object.Link.{Link}
-use Rattle.gd_base.specs.declared.object.Object.{Object}
+use Rattle.gd_base.specs.Whole.{Object}
 use Rattle.gd_base.specs.declared.rank.Rank.{Rank}
 use Rattle.gd_base.specs.declared.rank.Rank.TheVariants.{Low, High}
 use Rattle.gd_base.specs.declared.ties.Tie.{Tie}
 use Rattle.gd_events.specs.Events.{Event}
 use Rattle.gd_events.specs.Ops.{Op, Done}
 use Rattle.gd_json.specs.Values.{Field, array, flag, in_order, null, object, plain, quoted}
-use Rattle.gd_json.specs.Parts.{colour_json, colour_or_null, id_json, kind_json, two}
+use Rattle.gd_json.specs.Parts.{align_or_null, colour_json, colour_or_null, dash_json, heads_json, id_json, kind_json, number_or_null, style_fields, two}
 
 abbrev pub id_field : Stamp → Field
 id_field id = (codes "id", id_json id)
@@ -58,10 +60,15 @@ rank_json (High stamp) = object (in_order ((codes "high", id_json stamp) ∷ [])
 abbrev pub kind_or_group : Kind → List ℕ
 kind_or_group (kinds.Shape shape) = kind_json shape
 kind_or_group kinds.Group = plain (codes "group")
+kind_or_group kinds.Connector = plain (codes "connector")
 
--- how an object looks
-abbrev pub look_of : Object → List Field
-look_of o = (codes "stroke", colour_json o.stroke) ∷ (codes "fill", colour_or_null o.fill) ∷ count_field (codes "width") o.width ∷ []
+-- the ends of a connector
+abbrev pub both_fields : Ends → List Field
+both_fields ends = (codes "from", id_json ends.from) ∷ (codes "to", id_json ends.to) ∷ []
+
+abbrev pub ends_fields : Option Ends → List Field
+ends_fields None = []
+ends_fields (Some ends) = both_fields ends
 
 -- to which group it is linked, whether it is dissolved, and how high it lies
 abbrev pub state_of : Object → List Field
@@ -71,7 +78,7 @@ state_of o = (codes "link", link_json o.link) ∷ (codes "dissolved", flag o.dis
 abbrev pub object_fields : Object → List Field
 object_fields o =
     (codes "kind", kind_or_group o.kind) ∷ (codes "at", two o.x o.y) ∷ (codes "size", two o.w o.h) ∷ (codes "label", quoted o.label)
-    ∷ look_of o ++ state_of o
+    ∷ style_fields o.look ++ ends_fields o.ends ++ state_of o
 
 abbrev pub tie_fields : Tie → List Field
 tie_fields t = id_field t.id ∷ (codes "link", link_json t.link) ∷ []
@@ -88,16 +95,29 @@ ties_field ties = (codes "ties", array (map tie_json ties))
 abbrev pub named : List ℕ → List Field → List Field
 named op fields = (codes "op", plain op) ∷ fields
 
+-- a part of a look, where it is set
+abbrev pub part_field : {A : Type 0} → List ℕ → (A → List ℕ) → Option A → List Field
+part_field key json None = []
+part_field key json (Some value) = (key, json value) ∷ []
+
+-- the parts that are set
+abbrev pub looks_fields : Looks → List Field
+looks_fields l =
+    part_field (codes "stroke") colour_json l.stroke ++ part_field (codes "fill") colour_or_null l.fill
+    ++ part_field (codes "width") decimal l.width ++ part_field (codes "dash") dash_json l.dash
+    ++ part_field (codes "heads") heads_json l.heads ++ part_field (codes "round") number_or_null l.round
+    ++ part_field (codes "opacity") decimal l.opacity ++ part_field (codes "letters") number_or_null l.letters
+    ++ part_field (codes "align") align_or_null l.align
+
 -- what sets a content
 abbrev pub content_fields : Done → List Field
 content_fields (ToPlace x y) = named (codes "move") (number_field (codes "x") x ∷ number_field (codes "y") y ∷ [])
 content_fields (ToSize w h) = named (codes "resize") (number_field (codes "w") w ∷ number_field (codes "h") h ∷ [])
-content_fields (ToStroke colour) = named (codes "restyle") ((codes "stroke", colour_json colour) ∷ [])
-content_fields (ToFill fill) = named (codes "restyle") ((codes "fill", colour_or_null fill) ∷ [])
-content_fields (ToWidth width) = named (codes "restyle") (count_field (codes "width") width ∷ [])
+content_fields (ToLooks looks) = named (codes "restyle") (looks_fields looks)
 content_fields (ToText label) = named (codes "retext") ((codes "label", quoted label) ∷ [])
 content_fields (ToFlag true) = named (codes "ungroup") []
 content_fields (ToFlag false) = named (codes "reopen") []
+content_fields (ToEnds ends) = named (codes "reconnect") (ends_fields ends)
 content_fields (ToRank (To Top)) = named (codes "raise") []
 content_fields (ToRank (To Bottom)) = named (codes "lower") []
 content_fields (ToRank (At rank)) = named (codes "rerank") ((codes "rank", rank_json rank) ∷ [])
@@ -108,6 +128,7 @@ op_fields (Create kind x y w h label) =
 op_fields (Delete id) = named (codes "delete") (id_field id ∷ [])
 op_fields (Set id content) = id_field id ∷ content_fields content
 op_fields (Group members) = named (codes "group") ((codes "members", array (map member_json members)) ∷ [])
+op_fields (Connect ends label) = named (codes "connect") ((codes "label", quoted label) ∷ both_fields ends)
 op_fields (Restore id o ties) = named (codes "restore") (id_field id ∷ ties_field ties ∷ object_fields o)
 op_fields (Disband id ties) = named (codes "disband") (id_field id ∷ ties_field ties ∷ [])
 

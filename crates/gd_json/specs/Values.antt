@@ -9,11 +9,11 @@ use Rattle.std.specs.Ordering.{match_ordering, nat_cmp}
 abbrev pub is_marked : ℕ → Bool
 is_marked b = (b == 34) || (b == 92)
 
--- a byte of a label, behind a backslash where it needs one
+-- a byte of a label, behind a backslash where it needs one; a line feed is a backslash and an n
 abbrev pub marked : ℕ → List ℕ
-marked b = if is_marked b then 92 ∷ b ∷ [] else b ∷ []
+marked b = if is_marked b then 92 ∷ b ∷ [] else if b == 10 then 92 ∷ 110 ∷ [] else b ∷ []
 
--- a string of a label, which can hold no control character: all else stands as it is
+-- a string of a label, which can hold no other control character: all else stands as it is
 abbrev pub quoted : List ℕ → List ℕ
 quoted text = codes "\"" ++ flat_map marked text ++ codes "\""
 

@@ -1,18 +1,25 @@
 -- Worked rows: items and events, and their JSON, written by hand.
 use Rattle.std.specs.Prelude.{ℕ, ℤ, pos, negsuc, List, [], ◌∷◌, ◌++◌, codes, Some, None, true, false}
+use Rattle.gd_base.specs.Looks.{new_look, no_looks, only_fill, only_stroke, only_width}
 use Rattle.gd_base.specs.Stamps.{Stamp}
+use Rattle.gd_base.specs.declared.item.Body.TheVariants.{Shape, Joined, Group}
 use Rattle.gd_base.specs.declared.item.Item.{Item}
+use Rattle.gd_base.specs.declared.look.Align.TheVariants.{Middle, End}
+use Rattle.gd_base.specs.declared.look.Dash.TheVariants.{Dashed, Dotted}
+use Rattle.gd_base.specs.declared.look.Heads.TheVariants.{Bare, AtEnd, AtBoth}
 use Rattle.gd_base.specs.declared.member.Member.{Member}
 use Rattle.gd_base.specs.declared.shape.Shape.TheVariants.{Rect, Ellipse, Line, Text}
-use Rattle.gd_base.specs.declared.content.Content.TheVariants.{ToPlace, ToSize, ToStroke, ToFill, ToWidth, ToText, ToFlag, ToRank}
+use Rattle.gd_base.specs.declared.content.Content.TheVariants.{ToPlace, ToSize, ToLooks, ToText, ToFlag, ToEnds, ToRank}
 use Rattle.gd_base.specs.declared.content.Height.TheVariants.{To, At}
 use Rattle.gd_base.specs.declared.content.Side.TheVariants.{Bottom, Top}
-use Rattle.gd_base.specs.declared.op.Op.TheVariants.{Create, Delete, Set, Group, Restore, Disband}
+use Rattle.gd_base.specs.declared.op.Op.TheVariants.{Create, Delete, Set, Group as Grouped, Connect, Restore, Disband}
+use Rattle.gd_base.specs.declared.object.Ends.{Ends}
 use Rattle.gd_base.specs.declared.object.Kind.TheVariants as kinds
-use Rattle.gd_base.specs.declared.object.Object.{Object}
+use Rattle.gd_base.specs.Whole.{Object}
 use Rattle.gd_base.specs.declared.rank.Rank.TheVariants.{Low, High}
 use Rattle.gd_base.specs.declared.ties.Tie.{Tie}
 use Rattle.gd_events.specs.Ops.{Op}
+use Rattle.gd_model.specs.Objects.{new_connector}
 use Rattle.gd_events.specs.Events.{Event}
 
 abbrev pub at_stamp : ℕ → ℕ → Stamp
@@ -54,11 +61,17 @@ filled_line = record {
   id = at_stamp 281474976710655 16;
   parent = Some (at_stamp 9 2);
   at = record { x = negsuc 4294967295; y = pos 7 };
-  shape = Some record { kind = Line; w = negsuc 9; h = pos 0; stroke = 0x00AB0C; fill = Some 0xFF8000; width = 64; label = odd_label };
+  body = Shape record {
+    kind = Line;
+    w = negsuc 9;
+    h = pos 0;
+    look = record (new_look Bare) { stroke = 0x00AB0C; fill = Some 0xFF8000; width = 64 };
+    label = odd_label;
+  };
 }
 
 abbrev pub inner_group : Item
-inner_group = record { id = at_stamp 9 2; parent = Some (at_stamp 12 1); at = record { x = negsuc 2; y = pos 4 }; shape = None }
+inner_group = record { id = at_stamp 9 2; parent = Some (at_stamp 12 1); at = record { x = negsuc 2; y = pos 4 }; body = Group }
 
 -- a shape with a label, in no group and with no fill
 abbrev pub lone_text : Item
@@ -66,7 +79,28 @@ lone_text = record {
   id = at_stamp 3 1;
   parent = None;
   at = record { x = pos 1; y = pos 2 };
-  shape = Some record { kind = Text; w = pos 3; h = pos 4; stroke = 0x0A0B0C; fill = None; width = 5; label = codes "none" };
+  body = Shape record {
+    kind = Text;
+    w = pos 3;
+    h = pos 4;
+    look = record (new_look Bare) { stroke = 0x0A0B0C; width = 5; round = Some 0; letters = Some 24; align = Some Middle };
+    label = codes "none";
+  };
+}
+
+-- a connector, with a label of two lines
+abbrev pub arrow_ends : Ends
+arrow_ends = record { from = at_stamp 3 1; to = at_stamp 9 2 }
+
+abbrev pub two_lines : List ℕ
+two_lines = codes "a" ++ 10 ∷ codes "b"
+
+abbrev pub arrow : Item
+arrow = record {
+  id = at_stamp 5 1;
+  parent = None;
+  at = record { x = pos 0; y = pos 0 };
+  body = Joined record { ends = arrow_ends; look = record (new_look AtEnd) { dash = Dotted; opacity = 50 }; label = two_lines };
 }
 
 -- items, each with its JSON
@@ -77,7 +111,8 @@ items_of_json = (
       ++ codes ",\"size\":[-10,0],\"stroke\":\"00AB0C\",\"width\":64}",
 )
     ∷ (inner_group, codes "{\"at\":[-3,4],\"id\":\"9.2\",\"in\":\"12.1\",\"kind\":\"group\"}")
-    ∷ (lone_text, codes "{\"at\":[1,2],\"fill\":null,\"id\":\"3.1\",\"in\":null,\"kind\":\"text\",\"label\":\"none\",\"size\":[3,4],\"stroke\":\"0A0B0C\",\"width\":5}")
+    ∷ (lone_text, codes "{\"align\":\"middle\",\"at\":[1,2],\"fill\":null,\"id\":\"3.1\",\"in\":null,\"kind\":\"text\",\"label\":\"none\",\"letters\":24,\"round\":0,\"size\":[3,4],\"stroke\":\"0A0B0C\",\"width\":5}")
+    ∷ (arrow, codes "{\"dash\":\"dotted\",\"fill\":null,\"from\":\"3.1\",\"heads\":\"end\",\"id\":\"5.1\",\"in\":null,\"kind\":\"connector\",\"label\":\"a\\nb\",\"opacity\":50,\"stroke\":\"000000\",\"to\":\"9.2\",\"width\":1}")
     ∷ []
 
 -- a shape in a group, and a dissolved group in none
@@ -88,10 +123,9 @@ old_shape = record {
   y = negsuc 1;
   w = pos 3;
   h = pos 4;
-  stroke = 0x0A0B0C;
-  fill = Some 0xFF8000;
-  width = 5;
+  look = record (new_look Bare) { stroke = 0x0A0B0C; fill = Some 0xFF8000; width = 5 };
   label = odd_label;
+  ends = None;
   link = Some record { parent = at_stamp 9 2; dx = pos 6; dy = negsuc 6 };
   dissolved = false;
   rank = Low (at_stamp 8 1);
@@ -104,13 +138,18 @@ old_group = record {
   y = pos 0;
   w = pos 0;
   h = pos 0;
-  stroke = 0;
-  fill = None;
-  width = 1;
+  look = new_look Bare;
   label = [];
+  ends = None;
   link = None;
   dissolved = true;
   rank = High (at_stamp 9 2);
+}
+
+-- the connector, with all looks set
+abbrev pub old_arrow : Object
+old_arrow = record (new_connector (at_stamp 5 1) arrow_ends two_lines) {
+  look = record (new_look AtBoth) { dash = Dashed; round = Some 1000000; opacity = 1; letters = Some 1; align = Some End };
 }
 
 -- two ties, of which one leads to no group
@@ -129,13 +168,13 @@ events_of_json = (
     ∷ (event 8 3 2 (Delete (at_stamp 7 16)), codes "{\"clock\":8,\"id\":\"7.16\",\"op\":\"delete\",\"seq\":2,\"site\":3}")
     ∷ (event 9 3 3 (Set (at_stamp 7 3) (ToPlace (pos 2147483647) (negsuc 2147483646))), codes "{\"clock\":9,\"id\":\"7.3\",\"op\":\"move\",\"seq\":3,\"site\":3,\"x\":2147483647,\"y\":-2147483647}")
     ∷ (event 10 3 4 (Set (at_stamp 7 3) (ToSize (pos 11) (pos 12))), codes "{\"clock\":10,\"h\":12,\"id\":\"7.3\",\"op\":\"resize\",\"seq\":4,\"site\":3,\"w\":11}")
-    ∷ (event 11 3 5 (Set (at_stamp 7 3) (ToStroke 0x00AB0C)), codes "{\"clock\":11,\"id\":\"7.3\",\"op\":\"restyle\",\"seq\":5,\"site\":3,\"stroke\":\"00AB0C\"}")
-    ∷ (event 12 3 6 (Set (at_stamp 7 3) (ToFill (Some 0))), codes "{\"clock\":12,\"fill\":\"000000\",\"id\":\"7.3\",\"op\":\"restyle\",\"seq\":6,\"site\":3}")
-    ∷ (event 13 3 7 (Set (at_stamp 7 3) (ToFill None)), codes "{\"clock\":13,\"fill\":null,\"id\":\"7.3\",\"op\":\"restyle\",\"seq\":7,\"site\":3}")
-    ∷ (event 14 3 8 (Set (at_stamp 7 3) (ToWidth 64)), codes "{\"clock\":14,\"id\":\"7.3\",\"op\":\"restyle\",\"seq\":8,\"site\":3,\"width\":64}")
+    ∷ (event 11 3 5 (Set (at_stamp 7 3) (ToLooks (only_stroke 0x00AB0C))), codes "{\"clock\":11,\"id\":\"7.3\",\"op\":\"restyle\",\"seq\":5,\"site\":3,\"stroke\":\"00AB0C\"}")
+    ∷ (event 12 3 6 (Set (at_stamp 7 3) (ToLooks (only_fill (Some 0)))), codes "{\"clock\":12,\"fill\":\"000000\",\"id\":\"7.3\",\"op\":\"restyle\",\"seq\":6,\"site\":3}")
+    ∷ (event 13 3 7 (Set (at_stamp 7 3) (ToLooks (only_fill None))), codes "{\"clock\":13,\"fill\":null,\"id\":\"7.3\",\"op\":\"restyle\",\"seq\":7,\"site\":3}")
+    ∷ (event 14 3 8 (Set (at_stamp 7 3) (ToLooks (only_width 64))), codes "{\"clock\":14,\"id\":\"7.3\",\"op\":\"restyle\",\"seq\":8,\"site\":3,\"width\":64}")
     ∷ (event 15 3 9 (Set (at_stamp 7 3) (ToText odd_label)), codes "{\"clock\":15,\"id\":\"7.3\",\"label\":" ++ odd_label_json ++ codes ",\"op\":\"retext\",\"seq\":9,\"site\":3}")
     ∷ (
-      event 16 3 10 (Group (member 2 1 (pos 0) (negsuc 8) ∷ member 7 3 (pos 10) (pos 0) ∷ [])),
+      event 16 3 10 (Grouped (member 2 1 (pos 0) (negsuc 8) ∷ member 7 3 (pos 10) (pos 0) ∷ [])),
       codes "{\"clock\":16,\"members\":[{\"dx\":0,\"dy\":-9,\"id\":\"2.1\"},{\"dx\":10,\"dy\":0,\"id\":\"7.3\"}],\"op\":\"group\",\"seq\":10,\"site\":3}",
     )
     ∷ (event 17 3 11 (Set (at_stamp 16 3) (ToFlag true)), codes "{\"clock\":17,\"id\":\"16.3\",\"op\":\"ungroup\",\"seq\":11,\"site\":3}")
@@ -149,6 +188,18 @@ events_of_json = (
       event 20 3 14 (Restore (at_stamp 9 2) old_group old_ties),
       codes "{\"at\":[0,0],\"clock\":20,\"dissolved\":true,\"fill\":null,\"id\":\"9.2\",\"kind\":\"group\",\"label\":\"\",\"link\":null,\"op\":\"restore\",\"rank\":{\"high\":\"9.2\"},"
           ++ codes "\"seq\":14,\"site\":3,\"size\":[0,0],\"stroke\":\"000000\"," ++ old_ties_json ++ codes ",\"width\":1}",
+    )
+    ∷ (
+      event 20 3 14 (Restore (at_stamp 5 1) old_arrow []),
+      codes "{\"align\":\"end\",\"at\":[0,0],\"clock\":20,\"dash\":\"dashed\",\"dissolved\":false,\"fill\":null,\"from\":\"3.1\",\"heads\":\"both\",\"id\":\"5.1\",\"kind\":\"connector\","
+          ++ codes "\"label\":\"a\\nb\",\"letters\":1,\"link\":null,\"op\":\"restore\",\"opacity\":1,\"rank\":{\"high\":\"5.1\"},\"round\":1000000,\"seq\":14,\"site\":3,"
+          ++ codes "\"size\":[0,0],\"stroke\":\"000000\",\"ties\":[],\"to\":\"9.2\",\"width\":1}",
+    )
+    ∷ (event 20 3 14 (Connect arrow_ends two_lines), codes "{\"clock\":20,\"from\":\"3.1\",\"label\":\"a\\nb\",\"op\":\"connect\",\"seq\":14,\"site\":3,\"to\":\"9.2\"}")
+    ∷ (event 20 3 14 (Set (at_stamp 5 1) (ToEnds (Some arrow_ends))), codes "{\"clock\":20,\"from\":\"3.1\",\"id\":\"5.1\",\"op\":\"reconnect\",\"seq\":14,\"site\":3,\"to\":\"9.2\"}")
+    ∷ (
+      event 20 3 14 (Set (at_stamp 5 1) (ToLooks (record no_looks { stroke = Some 1; round = Some None; letters = Some None; align = Some None }))),
+      codes "{\"align\":null,\"clock\":20,\"id\":\"5.1\",\"letters\":null,\"op\":\"restyle\",\"round\":null,\"seq\":14,\"site\":3,\"stroke\":\"000001\"}",
     )
     ∷ (event 21 3 15 (Disband (at_stamp 9 2) old_ties), codes "{\"clock\":21,\"id\":\"9.2\",\"op\":\"disband\",\"seq\":15,\"site\":3," ++ old_ties_json ++ codes "}")
     ∷ (event 22 3 16 (Set (at_stamp 7 3) (ToRank (At (High (at_stamp 7 3))))), codes "{\"clock\":22,\"id\":\"7.3\",\"op\":\"rerank\",\"rank\":{\"high\":\"7.3\"},\"seq\":16,\"site\":3}")

@@ -8,6 +8,7 @@ use Rattle.gd_base.specs.declared.ranges.TheConstants.{MOST_MEMBERS}
 use Rattle.gd_base.specs.Labels.{IsLabel, is_name}
 use Rattle.gd_base.specs.Ranges.{place_limit, size_limit, is_within}
 use Rattle.gd_base.specs.Contents.{IsSaid}
+use Rattle.gd_base.specs.Typed.{AreEnds}
 use Rattle.gd_base.specs.declared.op.Op.TheVariants as op
 use Rattle.gd_lines.specs.Edits.{Edit}
 use Rattle.gd_lines.specs.declared.command.Command.{Command}
@@ -24,6 +25,7 @@ IsEdit (op.Create kind x y w h label) =
     × IsLabel label
 IsEdit (op.Delete id) = IsStamp id
 IsEdit (op.Set id content) = IsStamp id × IsSaid content
+IsEdit (op.Connect ends label) = AreEnds (Some ends) × IsLabel label
 IsEdit (op.Group ids) = (2 ≤ length ids) × (length ids ≤ MOST_MEMBERS) × AllByRecursion IsStamp ids
 IsEdit other = ⊥
 

@@ -2,6 +2,7 @@
 -- the line of bytes that are no log.
 use Rattle.std.specs.Prelude.{ℕ, ◌+◌, ◌/◌, ◌%◌, ℤ, List, [], ◌∷◌, ◌++◌, length, map, Option, Some, None, ◌==◌, nat_lt, nat_le, codes, decimal, if◌then◌else◌}
 use Rattle.std.specs.Fmt.{signed_decimal}
+use Rattle.std.specs.List.{flat_map}
 use Rattle.gd_base.specs.Stamps.{Stamp}
 use Rattle.gd_base.specs.declared.shape.Shape as shape
 use Rattle.gd_base.specs.declared.shape.Shape.TheVariants.{Rect, Ellipse, Line, Text}
@@ -9,8 +10,20 @@ use Rattle.gd_base.specs.declared.fault.LogWhy.{LogWhy}
 use Rattle.gd_base.specs.declared.fault.LogWhy.TheVariants as why
 use Rattle.gd_base.specs.declared.fault.ViewWhy.{ViewWhy}
 use Rattle.gd_base.specs.declared.fault.ViewWhy.TheVariants as view
+use Rattle.gd_base.specs.declared.item.Body.{Body}
+use Rattle.gd_base.specs.declared.item.Body.TheVariants as body
 use Rattle.gd_base.specs.declared.item.Item.{Item}
+use Rattle.gd_base.specs.declared.item.JoinedItem.{JoinedItem}
 use Rattle.gd_base.specs.declared.item.ShapeItem.{ShapeItem}
+use Rattle.gd_base.specs.declared.look.Align.{Align}
+use Rattle.gd_base.specs.declared.look.Align.TheVariants as align
+use Rattle.gd_base.specs.declared.look.Dash.{Dash}
+use Rattle.gd_base.specs.declared.look.Dash.TheVariants.{Solid, Dashed, Dotted}
+use Rattle.gd_base.specs.declared.look.Heads.{Heads}
+use Rattle.gd_base.specs.declared.look.Heads.TheVariants.{Bare, AtEnd, AtStart, AtBoth}
+use Rattle.gd_base.specs.declared.look.Look.{Look}
+use Rattle.gd_base.specs.declared.object.Ends.{Ends}
+use Rattle.gd_base.specs.declared.ranges.TheConstants.{OPACITY_LIMIT}
 
 -- a hexadecimal digit, in upper case
 unfoldable pub hex_digit : ℕ → ℕ
@@ -43,9 +56,10 @@ shape_word Ellipse = codes "ellipse"
 shape_word Line = codes "line"
 shape_word Text = codes "text"
 
-abbrev pub kind_word : Option ShapeItem → List ℕ
-kind_word (Some shape) = shape_word shape.kind
-kind_word None = codes "group"
+abbrev pub kind_word : Body → List ℕ
+kind_word (body.Shape shape) = shape_word shape.kind
+kind_word (body.Joined joined) = codes "connector"
+kind_word body.Group = codes "group"
 
 -- an id, or that there is none
 abbrev pub parent_text : Option Stamp → List ℕ
@@ -56,14 +70,32 @@ abbrev pub fill_text : Option ℕ → List ℕ
 fill_text None = codes "none"
 fill_text (Some colour) = colour_text colour
 
-abbrev pub label_text : List ℕ → List ℕ
-label_text label = if length label == 0 then [] else codes " text " ++ label
+-- a byte of a label as it is printed
+abbrev pub escaped_byte : ℕ → List ℕ
+escaped_byte b = if b == 10 then codes "\\n" else if b == 92 then codes "\\\\" else b ∷ []
 
--- what it is, its id, its effective parent and its place
+-- a label on a line: a line feed is a backslash and an n, and a backslash is two of them
+unfoldable pub escaped : List ℕ → List ℕ
+escaped text = flat_map escaped_byte text
+
+abbrev pub label_text : List ℕ → List ℕ
+label_text label = if length label == 0 then [] else codes " text " ++ escaped label
+
+unfoldable pub place_text : ℤ → ℤ → List ℕ
+place_text x y = codes " at " ++ signed_decimal x ++ codes " " ++ signed_decimal y
+
+unfoldable pub between_text : Ends → List ℕ
+between_text ends = codes " from " ++ id_text ends.from ++ codes " to " ++ id_text ends.to
+
+-- where it is: at a place, or between its ends
+abbrev pub where_text : Item → Body → List ℕ
+where_text i (body.Joined joined) = between_text joined.ends
+where_text i other = place_text i.at.x i.at.y
+
+-- what it is, its id, its effective parent, and where it is
 unfoldable pub head_text : Item → List ℕ
 head_text i =
-    kind_word i.shape ++ codes " " ++ id_text i.id ++ codes " in " ++ parent_text i.parent
-    ++ codes " at " ++ signed_decimal i.at.x ++ codes " " ++ signed_decimal i.at.y
+    kind_word i.body ++ codes " " ++ id_text i.id ++ codes " in " ++ parent_text i.parent ++ where_text i i.body
 
 unfoldable pub size_text : ℤ → ℤ → List ℕ
 size_text w h = codes " size " ++ signed_decimal w ++ codes " " ++ signed_decimal h
@@ -75,17 +107,63 @@ colours_text stroke fill =
 unfoldable pub width_text : ℕ → List ℕ
 width_text width = codes " width " ++ decimal width
 
+-- ---- looks that aren't as they are made
+
+abbrev pub dash_text : Dash → List ℕ
+dash_text Solid = []
+dash_text Dashed = codes " dash dashed"
+dash_text Dotted = codes " dash dotted"
+
+abbrev pub heads_text : Heads → List ℕ
+heads_text Bare = []
+heads_text AtEnd = codes " heads end"
+heads_text AtStart = codes " heads start"
+heads_text AtBoth = codes " heads both"
+
+abbrev pub round_text : Option ℕ → List ℕ
+round_text None = []
+round_text (Some round) = codes " round " ++ decimal round
+
+abbrev pub opacity_text : ℕ → List ℕ
+opacity_text opacity = if opacity == OPACITY_LIMIT then [] else codes " opacity " ++ decimal opacity
+
+abbrev pub letters_text : Option ℕ → List ℕ
+letters_text None = []
+letters_text (Some letters) = codes " size " ++ decimal letters
+
+abbrev pub align_word : Align → List ℕ
+align_word align.Start = codes "start"
+align_word align.Middle = codes "middle"
+align_word align.End = codes "end"
+
+abbrev pub align_text : Option Align → List ℕ
+align_text None = []
+align_text (Some a) = codes " align " ++ align_word a
+
+unfoldable pub marks_text : Look → List ℕ
+marks_text l =
+    dash_text l.dash ++ heads_text l.heads ++ round_text l.round ++ opacity_text l.opacity ++ letters_text l.letters
+    ++ align_text l.align
+
+-- how something looks
+unfoldable pub style_text : Look → List ℕ
+style_text l = colours_text l.stroke l.fill ++ width_text l.width ++ marks_text l
+
 -- what only a shape has
 unfoldable pub look_text : ShapeItem → List ℕ
-look_text s =
-    size_text s.w s.h ++ colours_text s.stroke s.fill ++ width_text s.width ++ label_text s.label
+look_text s = size_text s.w s.h ++ style_text s.look ++ label_text s.label
 
-abbrev pub look_of : Option ShapeItem → List ℕ
-look_of (Some shape) = look_text shape
-look_of None = []
+-- what only a connector has, but for its ends
+unfoldable pub joined_text : JoinedItem → List ℕ
+joined_text j = style_text j.look ++ label_text j.label
+
+abbrev pub look_of : Body → List ℕ
+look_of (body.Shape shape) = look_text shape
+look_of (body.Joined joined) = joined_text joined
+look_of body.Group = []
 
 unfoldable pub item_line : Item → List ℕ
-item_line i = head_text i ++ look_of i.shape ++ codes "\n"
+item_line i = head_text i ++ look_of i.body ++ codes "\n"
 
 unfoldable pub end_line : ℕ → List ℕ
 end_line count = codes "end " ++ decimal count ++ codes "\n"

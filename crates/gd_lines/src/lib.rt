@@ -2,7 +2,9 @@
 #![tactic(auto)]
 
 mod command;
+mod look_name;
 mod reply;
 
 pub use command::{Command, LONGEST_LINE, ScriptLine, Turn};
+pub use look_name::LookName;
 pub use reply::Reply;

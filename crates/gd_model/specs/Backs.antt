@@ -22,7 +22,7 @@ taking id (t ∷ ts) = Disband id (t ∷ ts)
 
 -- the operation of a form
 abbrev pub op_of : Form → Op
-op_of (Sets id content) = Set id (content_map (λ label. label) At content)
+op_of (Sets id content) = Set id (content_map (λ label. label) (λ looks. looks) At content)
 op_of (Puts id object ties) = Restore id object ties
 op_of (Takes id ties) = taking id ties
 

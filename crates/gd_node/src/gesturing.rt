@@ -144,13 +144,12 @@ fn refuse_others(said: &mut Said, count: u32) -> Result<(), AllocError>
     ensures { OnOk result (said.new
         ≡ said.old ++ flat_map reply_text (replicate count (reply.Refused GestureFull))) }
 {
-    let reply = Reply::Refused {
-        why: Refusal::GestureFull,
-    };
     let mut left = count;
     'others: while left > 0 {
         left -= 1;
-        said.add(&reply)?;
+        said.add(&Reply::Refused {
+            why: Refusal::GestureFull,
+        })?;
     }
     Ok(())
 }

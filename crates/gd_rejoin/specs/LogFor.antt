@@ -16,4 +16,4 @@ pub record IsLogFor (header : Header) (events : List Event) (place : ℕ) (chain
   pub closes : told → Closes drawings header events contents
   pub gate : place ≡ gate_place drawings header.version events
   pub chained : AreChains drawings chains events
-  pub near : place ≤ 2 ^ 30
+  pub near : place ≤ 2 ^ 31

@@ -21,7 +21,7 @@ pub record Resumes (header : Header) (events : List Event) (site : SiteValue) (w
   pub ruled : IsRuled IsOp drawings header events
   pub stands : StandsFor (resumed header.site header.n header.session events) site
   pub gate : writer.place ≡ gate_place drawings header.version events
-  pub near : writer.place ≤ 2 ^ 30
+  pub near : writer.place ≤ 2 ^ 31
   pub chained : AreChains drawings writer.chains events
   pub paid : steps' ≡ steps + sum (costs events)
 

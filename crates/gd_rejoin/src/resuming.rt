@@ -99,7 +99,7 @@ fn site_of<L: Ledger>(
     requires newest { header.now.version ≡ version.Three }
     requires ruled { IsRuled IsOp drawings header.now log.now.events }
     requires gate { log.now.place ≡ gate_place drawings header.now.version log.now.events }
-    requires near { log.now.place ≤ 2 ^ 30 }
+    requires near { log.now.place ≤ 2 ^ 31 }
     requires chained { AreChains drawings log.now.chains log.now.events }
     ensures goes_on { IfOk result
         (λ x. Resumes header.now log.now.events x.0 x.1 steps.old steps.new) }

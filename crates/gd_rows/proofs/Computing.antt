@@ -10,6 +10,7 @@ use Rattle.gd_base.specs.Insertions.{inserted_by}
 use Rattle.gd_check.specs.Checks as checks
 use Rattle.gd_grammar.specs.Chains.{chained, of_site}
 use Rattle.gd_grammar.specs.EventBytes as bytes
+use Rattle.gd_grammar.specs.LookBytes as looks
 use Rattle.gd_grammar.specs.ObjectBytes as objects
 use Rattle.gd_grammar.specs.OpBytes as operations
 use Rattle.gd_grammar.specs.Spelling.{object_bytes}
@@ -17,7 +18,8 @@ use Rattle.gd_grammar.specs.Readers.{steps}
 use Rattle.gd_grammar.specs.Fields as fields
 use Rattle.gd_grammar.specs.Reading.{many_at}
 use Rattle.gd_grammar.specs.FieldBytes.{each_bytes}
-use Rattle.gd_grammar.specs.FrameBytes.{body_at, event_count_at, focus_at, frame, frame_at, frame_magic_at, frame_version_at, half_at, head_at, name_at, name_text_at, next_event_at, note_at, six_at}
+use Rattle.gd_grammar.specs.FrameBytes.{body_at, event_count_at, focus_at, frame, frame_at, frame_magic_at, frame_version_at, head_at, name_at, name_text_at, next_event_at, note_at, six_at}
+use Rattle.gd_grammar.specs.Fields.{half_at}
 use Rattle.gd_grammar.specs.Kinds as kinds
 use Rattle.gd_grammar.specs.LogBytes.{events_at, gated_bytes, log, record_at, step_at, turn_fault}
 use Rattle.gd_grammar.specs.HeaderBytes.{header_at, magic_at, sites_at, version_at}
@@ -32,8 +34,8 @@ use Rattle.gd_lines.specs.Reading.{then_at}
 use Rattle.gd_lines.specs.Replies.{applied_line, arrivals_line, backdated_line, bad_frame_line, churned_line, delivered_line, done_line, dropped_line, link_fault_line, mail_line, noted_line, parted_line, polled_line, ready_line, refused_line, reworked_line, site_line, standing_text, status_line, status_text, who_line}
 use Rattle.gd_lines.specs.Rows.{by_name}
 use Rattle.gd_lines.specs.ScriptLines.{at_words, deliver_words, mail_at, read_script, script_rows, send_words, site_at}
-use Rattle.gd_lines.specs.Text.{bad_log_line, bad_view_line, colour_text, colours_text, end_line, head_text, hex_digit, high_digits, id_text, item_line, look_text, nibble, size_text, width_text}
-use Rattle.gd_lines.specs.WordKinds.{colour, digit, fill, focus, id, kind, label, name, natural_in, number, number_in, numeral}
+use Rattle.gd_lines.specs.Text.{bad_log_line, bad_view_line, between_text, colour_text, colours_text, end_line, escaped, head_text, hex_digit, high_digits, id_text, item_line, joined_text, look_text, marks_text, nibble, place_text, size_text, style_text, width_text}
+use Rattle.gd_lines.specs.WordKinds.{alignment, colour, dash, digit, fill, focus, heads, id, kind, label, look_name, name, natural_in, new_name, number, number_in, numeral, unescaped}
 use Rattle.gd_base.specs.Ranks.{level_cmp, rank_cmp}
 use Rattle.gd_model.specs.Backs.{back}
 use Rattle.gd_model.specs.Board.{apply}
@@ -65,12 +67,17 @@ use Rattle.gd_worlds.specs.Rehearsal.{rehearsal_lines}
 
 -- events, logs and frames
 unfoldable pub bytes_compute : ⊤
-unfolding chars is_utf8 fields.byte_at fields.byte_within fields.check_word_at fields.clock_at bytes.colour_at operations.all_ties_at operations.create_at operations.disband_at operations.restore_at operations.tie_at kinds.event_at bytes.fill_at operations.group_at bytes.label_at fields.id_at fields.label_within operations.member_at bytes.count_at bytes.member_id_at bytes.parent_id_at fields.number_at operations.look_at operations.op_at operations.place_at operations.set_at operations.size_at bytes.shape_at fields.signed_at fields.site_at fields.stamp_at bytes.width_at fields.word_at checks.next checks.nexts checks.with_bytes chained of_site body_at event_count_at each_bytes focus_at frame frame_at many_at steps frame_magic_at frame_version_at half_at head_at name_at name_text_at next_event_at note_at six_at events_at gated_bytes header_at log magic_at record_at sites_at step_at turn_fault version_at
+unfolding chars is_utf8 fields.byte_at fields.byte_within fields.check_word_at fields.clock_at bytes.colour_at operations.all_ties_at operations.create_at operations.disband_at operations.restore_at operations.tie_at kinds.event_at bytes.fill_at operations.group_at bytes.label_at fields.id_at fields.label_within fields.length_at fields.long_label_at operations.member_at bytes.count_at bytes.member_id_at bytes.parent_id_at fields.number_at operations.connect_at operations.ends_at operations.lone_at operations.style_at operations.op_at operations.place_at operations.set_at operations.size_at bytes.shape_at fields.signed_at fields.site_at fields.stamp_at bytes.width_at fields.word_at checks.next checks.nexts checks.with_bytes chained of_site body_at event_count_at each_bytes focus_at frame frame_at many_at steps frame_magic_at frame_version_at half_at head_at name_at name_text_at next_event_at note_at six_at events_at gated_bytes header_at log magic_at record_at sites_at step_at turn_fault version_at
 bytes_compute = tt
+
+-- looks
+unfoldable pub looks_compute : ⊤
+unfolding looks.align_at looks.all_looks_at looks.dash_at looks.heads_at looks.if_set looks.letters_at looks.look_at looks.look_bytes looks.looks_bytes looks.opacity_at looks.round_at looks.thin_at
+looks_compute = tt
 
 -- lines that are typed, and lines that are printed
 unfoldable pub lines_compute : ⊤
-unfolding chars is_utf8 encode_utf8 digits ops.command_text ops.member_text ops.state_text ops.tie_text ops.two_text ops.whole_text behind count_from without_cr word then_at by_name edits.colour_at edits.create_words edits.delete_words edits.edit_rows edits.fill_at edits.fill_words edits.group_words edits.id_at edits.ids_at edits.kind_at edits.label_at edits.natural_at edits.place_at edits.place_words edits.set_words edits.size_at edits.size_words edits.stroke_words edits.text_words edits.width_at edits.width_words lines.asked_rows lines.command_rows lines.focus_at lines.focus_words lines.name_at lines.name_words lines.read event_json link_json rank_json tie_json item_json member_json put_field at_words deliver_words mail_at read_script script_rows send_words site_at applied_line arrivals_line backdated_line bad_frame_line done_line dropped_line link_fault_line noted_line parted_line polled_line ready_line refused_line reworked_line standing_text status_line status_text who_line bad_log_line bad_view_line colour_text colours_text end_line head_text hex_digit high_digits id_text item_line look_text nibble size_text width_text colour digit fill focus id kind label name natural_in number number_in numeral
+unfolding chars is_utf8 encode_utf8 digits ops.command_text ops.member_text ops.state_text ops.tie_text ops.two_text ops.whole_text behind count_from without_cr word then_at by_name edits.colour_at edits.create_words edits.delete_words edits.edit_rows edits.look_rows edits.other_rows edits.connect_words edits.ends_at edits.ends_words edits.fill_at edits.group_words edits.id_at edits.ids_at edits.kind_at edits.label_at edits.look_words edits.looks_at edits.named_at edits.natural_at edits.place_at edits.place_words edits.set_words edits.size_at edits.size_words edits.style_words edits.text_words edits.value_at edits.width_at lines.asked_rows lines.command_rows lines.focus_at lines.focus_words lines.name_at lines.name_words lines.read event_json link_json rank_json tie_json item_json member_json put_field at_words deliver_words mail_at read_script script_rows send_words site_at applied_line arrivals_line backdated_line bad_frame_line done_line dropped_line link_fault_line noted_line parted_line polled_line ready_line refused_line reworked_line standing_text status_line status_text who_line bad_log_line bad_view_line between_text colour_text colours_text end_line escaped head_text hex_digit high_digits id_text item_line joined_text look_text marks_text nibble place_text size_text style_text width_text alignment colour dash digit fill focus heads id kind label look_name name natural_in new_name number number_in numeral unescaped
 lines_compute = tt
 
 -- drawings, sites, worlds and runs
@@ -85,9 +92,9 @@ worlds_compute = tt
 
 -- snapshots and viewers
 unfoldable pub snapshots_compute : ⊤
-unfolding objects.given_at objects.flag_at objects.kind_at objects.link_at objects.object_at objects.parent_at objects.rank_at objects.some_link_at objects.thin_at object_bytes steps snapshots.head_at kept_at known_at number_within placed_at snapshot_at snapshot_bytes least_sure known_behind snapshot_of opened viewer_all_arrived viewer_taken of_viewer_events end_behind item_at items_of shown_behind whole_behind
+unfolding objects.ends_or_none_at objects.flag_at objects.given_at objects.joined_at objects.kind_at objects.link_at objects.object_at objects.of_kind_at objects.own_ends_at objects.own_label_at objects.parent_at objects.rank_at objects.some_ends_at objects.some_link_at object_bytes steps snapshots.head_at kept_at known_at number_within placed_at snapshot_at snapshot_bytes least_sure known_behind snapshot_of opened viewer_all_arrived viewer_taken of_viewer_events end_behind item_at items_of shown_behind whole_behind
 snapshots_compute = tt
 
 unfoldable pub computing : ⊤
-unfolding bytes_compute lines_compute sites_compute worlds_compute snapshots_compute
+unfolding bytes_compute looks_compute lines_compute sites_compute worlds_compute snapshots_compute
 computing = tt

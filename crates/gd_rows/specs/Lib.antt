@@ -13,5 +13,6 @@ pub mod WorkedRejoins
 pub mod WorkedSnapshots
 pub mod WorkedOps
 pub mod WorkedPairs
+pub mod WorkedConnectors
 pub mod WorkedViews
 pub mod WorkedChecks

@@ -1,8 +1,9 @@
 -- Worked rows: logs of a few events, byte by byte, and what is printed of them.
 use Prim.Native.String.{String}
 use Rattle.std.specs.Prelude.{ℕ, ℤ, pos, negsuc, Bool, true, false, Option, List, [], ◌∷◌, ◌++◌, map, replicate, take, set, codes, Some, None}
+use Rattle.gd_base.specs.Looks.{only_fill, only_stroke, only_width}
 use Rattle.gd_base.specs.Stamps.{Stamp}
-use Rattle.gd_base.specs.declared.content.Content.TheVariants.{ToPlace, ToSize, ToStroke, ToFill, ToWidth, ToText, ToFlag, ToRank}
+use Rattle.gd_base.specs.declared.content.Content.TheVariants.{ToPlace, ToSize, ToLooks, ToText, ToFlag, ToRank}
 use Rattle.gd_base.specs.declared.content.Height.TheVariants.{To}
 use Rattle.gd_base.specs.declared.content.Side.TheVariants.{Bottom, Top}
 use Rattle.gd_base.specs.declared.member.Member.{Member}
@@ -114,11 +115,11 @@ abbrev pub styled_events : List Event
 styled_events =
     event 1 1 1 (Create Ellipse (pos 0) (pos 0) (pos 20) (pos 20) [])
     ∷ event 2 1 2 (Set (at_stamp 1 1) (ToSize (negsuc 4) (pos 30)))
-    ∷ event 3 1 3 (Set (at_stamp 1 1) (ToStroke 0x00AB0C))
-    ∷ event 4 1 4 (Set (at_stamp 1 1) (ToFill (Some 0xFF8000)))
-    ∷ event 5 1 5 (Set (at_stamp 1 1) (ToWidth 64))
+    ∷ event 3 1 3 (Set (at_stamp 1 1) (ToLooks (only_stroke 0x00AB0C)))
+    ∷ event 4 1 4 (Set (at_stamp 1 1) (ToLooks (only_fill (Some 0xFF8000))))
+    ∷ event 5 1 5 (Set (at_stamp 1 1) (ToLooks (only_width 64)))
     ∷ event 6 1 6 (Set (at_stamp 1 1) (ToText (99 ∷ 97 ∷ 102 ∷ 195 ∷ 169 ∷ [])))
-    ∷ event 7 1 7 (Set (at_stamp 1 2) (ToFill None))
+    ∷ event 7 1 7 (Set (at_stamp 1 2) (ToLooks (only_fill None)))
     ∷ []
 
 abbrev pub styled_text : List (List ℕ)

@@ -3,12 +3,16 @@
 -- What takes an edit back is read off the drawing in front of the edit, and what takes that back off the drawing
 -- behind the edit. Drawings are worked from the events in the order of their stamps.
 use Rattle.std.specs.Prelude.{ℕ, pos, negsuc, true, false, List, [], ◌∷◌, ◌++◌, map, replicate, codes, Option, Some, None}
+use Rattle.gd_base.specs.Looks.{new_look, no_looks, only_fill, only_stroke, only_width}
 use Rattle.gd_base.specs.Stamps.{Stamp}
-use Rattle.gd_base.specs.declared.content.Content.TheVariants.{ToPlace, ToSize, ToStroke, ToFill, ToWidth, ToText, ToFlag, ToRank}
+use Rattle.gd_base.specs.declared.content.Content.TheVariants.{ToPlace, ToSize, ToLooks, ToText, ToFlag, ToEnds, ToRank}
 use Rattle.gd_base.specs.declared.content.Height.TheVariants.{At}
 use Rattle.gd_base.specs.declared.content.Side.TheVariants.{Bottom, Top}
+use Rattle.gd_base.specs.declared.look.Dash.TheVariants.{Solid, Dashed}
+use Rattle.gd_base.specs.declared.look.Heads.TheVariants.{Bare, AtEnd}
+use Rattle.gd_base.specs.declared.object.Ends.{Ends}
 use Rattle.gd_base.specs.declared.object.Link.{Link}
-use Rattle.gd_base.specs.declared.object.Object.{Object}
+use Rattle.gd_base.specs.Whole.{Object}
 use Rattle.gd_base.specs.declared.op.Op.TheVariants as op
 use Rattle.gd_base.specs.declared.rank.Rank.{Rank}
 use Rattle.gd_base.specs.declared.rank.Rank.TheVariants.{Low, High}
@@ -23,7 +27,7 @@ use Rattle.gd_lines.specs.declared.command.Turn.{Turn}
 use Rattle.gd_lines.specs.declared.command.Turn.TheVariants.{Undo, Redo}
 use Rattle.gd_lines.specs.declared.reply.Reply.{Reply}
 use Rattle.gd_lines.specs.declared.reply.Reply.TheVariants as reply
-use Rattle.gd_model.specs.Objects.{new_group, new_shape}
+use Rattle.gd_model.specs.Objects.{new_connector, new_group, new_shape}
 use Rattle.gd_reference.specs.Backs.{Backs}
 use Rattle.gd_reference.specs.NodeRun.{HeardLine, site_after}
 use Rattle.gd_reference.specs.SlowSite.{SlowSite, new_site}
@@ -155,18 +159,19 @@ refusing_printed =
 -- ---- the back of each kind of edit
 
 -- A shape with a size, a look and a label of its own stands in a group that was moved, so it is shown at 101 202 and
--- not at its own place. Another shape stands alone.
+-- not at its own place. Another shape stands alone, and is connected to the group.
 abbrev pub dressing : List HeardLine
 dressing =
     edits
     (op.Create Rect (pos 1) (pos 2) (pos 3) (pos 4) (codes "old")
     ∷ new_rect (pos 20)
     ∷ new_rect (pos 40)
-    ∷ op.Set (at_stamp 1 1) (ToStroke 0x00AB0C)
-    ∷ op.Set (at_stamp 1 1) (ToFill (Some 0xFF8000))
-    ∷ op.Set (at_stamp 1 1) (ToWidth 9)
+    ∷ op.Set (at_stamp 1 1) (ToLooks (only_stroke 0x00AB0C))
+    ∷ op.Set (at_stamp 1 1) (ToLooks (only_fill (Some 0xFF8000)))
+    ∷ op.Set (at_stamp 1 1) (ToLooks (only_width 9))
     ∷ group_of 1 1 2 1
     ∷ move_to 7 1 100 200
+    ∷ op.Connect (record { from = at_stamp 3 1; to = at_stamp 7 1 }) []
     ∷ [])
 
 abbrev pub dressed : SlowSite
@@ -178,39 +183,42 @@ dressed_text =
     ∷ group_line "7.1" "-" "100 200"
     ∷ codes "rect 1.1 in 7.1 at 101 202 size 3 4 stroke 00AB0C fill FF8000 width 9 text old\n"
     ∷ square_line "2.1" "7.1" "120 200"
-    ∷ codes "end 4\n"
+    ∷ codes "connector 9.1 in - from 3.1 to 7.1 stroke 000000 fill none width 1 heads end\n"
+    ∷ codes "end 5\n"
     ∷ []
 
 -- the newest first: what was set is set back, what was made is taken away, and the members of the group were in none
 abbrev pub dressed_backs : List Op
 dressed_backs =
-    place_of 7 1 0 0
+    op.Delete (at_stamp 9 1)
+    ∷ place_of 7 1 0 0
     ∷ op.Disband (at_stamp 7 1) (free 1 ∷ free 2 ∷ [])
-    ∷ op.Set (at_stamp 1 1) (ToWidth 1)
-    ∷ op.Set (at_stamp 1 1) (ToFill None)
-    ∷ op.Set (at_stamp 1 1) (ToStroke 0)
+    ∷ op.Set (at_stamp 1 1) (ToLooks (only_width 1))
+    ∷ op.Set (at_stamp 1 1) (ToLooks (only_fill None))
+    ∷ op.Set (at_stamp 1 1) (ToLooks (only_stroke 0))
     ∷ op.Delete (at_stamp 3 1)
     ∷ op.Delete (at_stamp 2 1)
     ∷ op.Delete (at_stamp 1 1)
     ∷ []
 
--- the shape as it is then, and its group
+-- the shape as it is then, its group, and the connector
 abbrev pub dressed_shape : Object
 dressed_shape =
     record (new_shape (at_stamp 1 1) Rect (pos 1) (pos 2) (pos 3) (pos 4) (codes "old")) {
-      stroke = 0x00AB0C;
-      fill = Some 0xFF8000;
-      width = 9;
+      look = record (new_look Bare) { stroke = 0x00AB0C; fill = Some 0xFF8000; width = 9 };
       link = Some (record { parent = at_stamp 7 1; dx = pos 0; dy = pos 0 });
     }
 
 abbrev pub dressed_group : Object
 dressed_group = record (new_group (at_stamp 7 1)) { x = pos 100; y = pos 200 }
 
+abbrev pub dressed_connector : Object
+dressed_connector = new_connector (at_stamp 9 1) (record { from = at_stamp 3 1; to = at_stamp 7 1 }) []
+
 abbrev pub ranked : ℕ → Rank → Op
 ranked clock rank = op.Set (at_stamp clock 1) (ToRank (At rank))
 
--- that shape, the one that stands alone, and the group
+-- that shape, the one that stands alone, the group, and the connector
 abbrev pub shape : Stamp
 shape = at_stamp 1 1
 
@@ -220,7 +228,13 @@ lone = at_stamp 3 1
 abbrev pub group : Stamp
 group = at_stamp 7 1
 
--- an edit, what takes it back, and what takes that back. The next stamp is 9.1
+abbrev pub connector : Stamp
+connector = at_stamp 9 1
+
+abbrev pub leads : Stamp → Stamp → Option Ends
+leads from to = Some (record { from = from; to = to })
+
+-- an edit, what takes it back, and what takes that back. The next stamp is 10.1
 pub record Taken : Type 0 where
   pub edit : Edit
   pub back : Op
@@ -232,15 +246,20 @@ taken edit back again = record { edit = edit; back = back; again = again }
 abbrev pub made_and_taken : List Taken
 made_and_taken =
     taken (op.Create Ellipse (pos 0) (pos 0) (pos 1) (pos 1) [])
-    (op.Delete (at_stamp 9 1))
-    (op.Restore (at_stamp 9 1) (new_shape (at_stamp 9 1) Ellipse (pos 0) (pos 0) (pos 1) (pos 1) []) [])
+    (op.Delete (at_stamp 10 1))
+    (op.Restore (at_stamp 10 1) (new_shape (at_stamp 10 1) Ellipse (pos 0) (pos 0) (pos 1) (pos 1) []) [])
     -- a group of a shape and a group
     ∷ taken (group_of 7 1 3 1)
-    (op.Disband (at_stamp 9 1) (free 3 ∷ free 7 ∷ []))
-    (op.Restore (at_stamp 9 1) (new_group (at_stamp 9 1)) (tied 3 9 0 0 ∷ tied 7 9 0 0 ∷ []))
+    (op.Disband (at_stamp 10 1) (free 3 ∷ free 7 ∷ []))
+    (op.Restore (at_stamp 10 1) (new_group (at_stamp 10 1)) (tied 3 10 0 0 ∷ tied 7 10 0 0 ∷ []))
+    -- a connector of a shape and a group
+    ∷ taken (op.Connect (record { from = at_stamp 1 1; to = at_stamp 7 1 }) (codes "new"))
+    (op.Delete (at_stamp 10 1))
+    (op.Restore (at_stamp 10 1) (new_connector (at_stamp 10 1) (record { from = at_stamp 1 1; to = at_stamp 7 1 }) (codes "new")) [])
     -- what is deleted goes back as it was, with its link and its rank
     ∷ taken (op.Delete shape) (op.Restore shape dressed_shape []) (op.Delete shape)
     ∷ taken (op.Delete group) (op.Restore group dressed_group []) (op.Delete group)
+    ∷ taken (op.Delete connector) (op.Restore connector dressed_connector []) (op.Delete connector)
     ∷ []
 
 abbrev pub set_and_taken : List Taken
@@ -251,30 +270,50 @@ set_and_taken =
     ∷ taken (op.Set shape (ToSize (pos 5) (negsuc 5)))
     (op.Set shape (ToSize (pos 3) (pos 4)))
     (op.Set shape (ToSize (pos 5) (negsuc 5)))
-    ∷ taken (op.Set shape (ToStroke 7)) (op.Set shape (ToStroke 0x00AB0C)) (op.Set shape (ToStroke 7))
-    ∷ taken (op.Set shape (ToFill None))
-    (op.Set shape (ToFill (Some 0xFF8000)))
-    (op.Set shape (ToFill None))
-    ∷ taken (op.Set lone (ToFill (Some 7))) (op.Set lone (ToFill None)) (op.Set lone (ToFill (Some 7)))
-    ∷ taken (op.Set shape (ToWidth 7)) (op.Set shape (ToWidth 9)) (op.Set shape (ToWidth 7))
+    ∷ taken (op.Set shape (ToLooks (only_stroke 7))) (op.Set shape (ToLooks (only_stroke 0x00AB0C))) (op.Set shape (ToLooks (only_stroke 7)))
+    ∷ taken (op.Set shape (ToLooks (only_fill None)))
+    (op.Set shape (ToLooks (only_fill (Some 0xFF8000))))
+    (op.Set shape (ToLooks (only_fill None)))
+    ∷ taken (op.Set lone (ToLooks (only_fill (Some 7)))) (op.Set lone (ToLooks (only_fill None))) (op.Set lone (ToLooks (only_fill (Some 7))))
+    ∷ taken (op.Set shape (ToLooks (only_width 7))) (op.Set shape (ToLooks (only_width 9))) (op.Set shape (ToLooks (only_width 7)))
     ∷ taken (op.Set shape (ToText [])) (op.Set shape (ToText (codes "old"))) (op.Set shape (ToText []))
     ∷ taken (op.Set lone (ToText (codes "new")))
     (op.Set lone (ToText []))
     (op.Set lone (ToText (codes "new")))
+    -- several parts of a look, of which two are as the kind has them
+    ∷ taken (op.Set shape (ToLooks (record no_looks { stroke = Some 7; dash = Some Dashed; round = Some (Some 4); align = Some None })))
+    (op.Set shape (ToLooks (record no_looks { stroke = Some 0x00AB0C; dash = Some Solid; round = Some None; align = Some None })))
+    (op.Set shape (ToLooks (record no_looks { stroke = Some 7; dash = Some Dashed; round = Some (Some 4); align = Some None })))
+    -- a connector without heads, and between others
+    ∷ taken (op.Set connector (ToLooks (record no_looks { heads = Some Bare })))
+    (op.Set connector (ToLooks (record no_looks { heads = Some AtEnd })))
+    (op.Set connector (ToLooks (record no_looks { heads = Some Bare })))
+    ∷ taken (op.Set connector (ToEnds (leads shape lone)))
+    (op.Set connector (ToEnds (leads lone group)))
+    (op.Set connector (ToEnds (leads shape lone)))
     -- the group is whole again, and what was raised or lowered has the rank of its own stamp again
     ∷ taken (op.Set group (ToFlag true)) (op.Set group (ToFlag false)) (op.Set group (ToFlag true))
-    ∷ taken (op.Set shape (ToRank Top)) (ranked 1 (High (at_stamp 1 1))) (ranked 1 (High (at_stamp 9 1)))
-    ∷ taken (op.Set lone (ToRank Bottom)) (ranked 3 (High (at_stamp 3 1))) (ranked 3 (Low (at_stamp 9 1)))
-    ∷ taken (op.Set group (ToRank Bottom)) (ranked 7 (High (at_stamp 7 1))) (ranked 7 (Low (at_stamp 9 1)))
+    ∷ taken (op.Set shape (ToRank Top)) (ranked 1 (High (at_stamp 1 1))) (ranked 1 (High (at_stamp 10 1)))
+    ∷ taken (op.Set lone (ToRank Bottom)) (ranked 3 (High (at_stamp 3 1))) (ranked 3 (Low (at_stamp 10 1)))
+    ∷ taken (op.Set group (ToRank Bottom)) (ranked 7 (High (at_stamp 7 1))) (ranked 7 (Low (at_stamp 10 1)))
     ∷ []
 
 -- edits that are refused: no such object, a group, a shape, and a member
 abbrev pub unacceptable : List Edit
 unacceptable =
     move_to 9 9 0 0
-    ∷ op.Set group (ToWidth 7)
+    ∷ op.Set group (ToLooks (only_width 7))
     ∷ op.Set lone (ToFlag true)
     ∷ group_of 1 1 3 1
+    ∷ []
+
+-- and of ends: no such end, an end that is a connector, both ends the same, and a shape that is no connector
+abbrev pub unjoined : List Edit
+unjoined =
+    op.Connect (record { from = lone; to = at_stamp 9 9 }) []
+    ∷ op.Connect (record { from = lone; to = connector }) []
+    ∷ op.Connect (record { from = lone; to = lone }) []
+    ∷ op.Set lone (ToEnds (Some (record { from = shape; to = group })))
     ∷ []
 
 -- ---- groups, one behind the other
@@ -507,8 +546,8 @@ restoring =
     ∷ Deliver 0
     ∷ at_one (Edits (move_to 1 1 5 5) ∷ Edits (op.Delete (at_stamp 1 1)) ∷ Turns Undo ∷ [])
     ++ world.At 2 (Edits (move_to 1 1 50 60))
-    ∷ world.At 2 (Edits (op.Set (at_stamp 1 1) (ToStroke 7)))
-    ∷ world.At 2 (Edits (op.Set (at_stamp 1 1) (ToFill (Some 7))))
+    ∷ world.At 2 (Edits (op.Set (at_stamp 1 1) (ToLooks (only_stroke 7))))
+    ∷ world.At 2 (Edits (op.Set (at_stamp 1 1) (ToLooks (only_fill (Some 7)))))
     ∷ Send 2 1
     ∷ Send 1 2
     ∷ []
@@ -517,10 +556,10 @@ abbrev pub late_move : Event
 late_move = event 2 2 1 (place_of 1 1 50 60)
 
 abbrev pub late_stroke : Event
-late_stroke = event 3 2 2 (op.Set (at_stamp 1 1) (ToStroke 7))
+late_stroke = event 3 2 2 (op.Set (at_stamp 1 1) (ToLooks (only_stroke 7)))
 
 abbrev pub late_fill : Event
-late_fill = event 4 2 3 (op.Set (at_stamp 1 1) (ToFill (Some 7)))
+late_fill = event 4 2 3 (op.Set (at_stamp 1 1) (ToLooks (only_fill (Some 7))))
 
 -- what site 1 puts back is what it had when it deleted it, before site 2's events came
 abbrev pub put_back : Event
@@ -555,7 +594,7 @@ restored_text =
 abbrev pub restored_backs : Backs
 restored_backs =
     backs_of
-    (op.Restore (at_stamp 1 1) (record (rect_of 1 1) { x = pos 5; y = pos 5; fill = Some 7 }) []
+    (op.Restore (at_stamp 1 1) (record (rect_of 1 1) { x = pos 5; y = pos 5; look = record (new_look Bare) { fill = Some 7 } }) []
     ∷ place_of 1 1 0 0
     ∷ op.Delete (at_stamp 1 1)
     ∷ [])
@@ -566,15 +605,15 @@ restored_backs =
 abbrev pub lost_backs : List (List Turn × Backs)
 lost_backs = (
   [],
-  backs_of (op.Set (at_stamp 1 1) (ToFill None) ∷ op.Set (at_stamp 1 1) (ToStroke 0) ∷ place_of 1 1 0 0 ∷ []) [],
+  backs_of (op.Set (at_stamp 1 1) (ToLooks (only_fill None)) ∷ op.Set (at_stamp 1 1) (ToLooks (only_stroke 0)) ∷ place_of 1 1 0 0 ∷ []) [],
 )
     ∷ (
       Undo ∷ Undo ∷ Undo ∷ [],
-      backs_of [] (place_of 1 1 5 5 ∷ op.Set shape (ToStroke 0) ∷ op.Set shape (ToFill (Some 7)) ∷ []),
+      backs_of [] (place_of 1 1 5 5 ∷ op.Set shape (ToLooks (only_stroke 0)) ∷ op.Set shape (ToLooks (only_fill (Some 7))) ∷ []),
     )
     ∷ (
       Undo ∷ Undo ∷ Undo ∷ Redo ∷ Redo ∷ Redo ∷ [],
-      backs_of (op.Set (at_stamp 1 1) (ToFill None) ∷ op.Set (at_stamp 1 1) (ToStroke 0) ∷ place_of 1 1 0 0 ∷ []) [],
+      backs_of (op.Set (at_stamp 1 1) (ToLooks (only_fill None)) ∷ op.Set (at_stamp 1 1) (ToLooks (only_stroke 0)) ∷ place_of 1 1 0 0 ∷ []) [],
     )
     ∷ []
 

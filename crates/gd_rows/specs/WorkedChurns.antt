@@ -5,9 +5,11 @@ use Prim.Native.String.{String}
 use Rattle.std.specs.Prelude.{ℕ, zero, suc, pos, true, List, [], ◌∷◌, ◌++◌, length, map, replicate, codes, Option, Some, None}
 use Rattle.rand_pcg.specs.Lcg.{Lcg}
 use Rattle.rand_pcg.specs.Pcg.{pcg32}
+use Rattle.gd_base.specs.Looks.{no_looks, only_stroke}
 use Rattle.gd_base.specs.Stamps.{Stamp}
-use Rattle.gd_base.specs.declared.content.Content.TheVariants.{ToStroke, ToFlag, ToRank}
+use Rattle.gd_base.specs.declared.content.Content.TheVariants.{ToLooks, ToText, ToFlag, ToEnds, ToRank}
 use Rattle.gd_base.specs.declared.content.Side.TheVariants.{Top}
+use Rattle.gd_base.specs.declared.look.Dash.TheVariants.{Dashed}
 use Rattle.gd_base.specs.declared.op.Op.TheVariants as op
 use Rattle.gd_base.specs.declared.refusal.Refusal.TheVariants.{NoObject}
 use Rattle.gd_base.specs.declared.shape.Shape.TheVariants.{Rect}
@@ -53,7 +55,7 @@ abbrev pub drawn_by : List Stamp → ℕ → ℕ → Option ScriptLine × ℕ
 drawn_by made mails number = let (line, behind) = line_for made mails 3 number (seeded 26) in (line, (pcg32 behind).0)
 
 abbrev pub numbers : List ℕ
-numbers = 0 ∷ 1 ∷ 2 ∷ 3 ∷ 4 ∷ 5 ∷ 6 ∷ 7 ∷ 8 ∷ 9 ∷ 10 ∷ 11 ∷ 12 ∷ 13 ∷ 14 ∷ 15 ∷ 16 ∷ 17 ∷ []
+numbers = 0 ∷ 1 ∷ 2 ∷ 3 ∷ 4 ∷ 5 ∷ 6 ∷ 7 ∷ 8 ∷ 9 ∷ 10 ∷ 11 ∷ 12 ∷ 13 ∷ 14 ∷ 15 ∷ 16 ∷ 17 ∷ 18 ∷ 19 ∷ 20 ∷ 21 ∷ []
 
 abbrev pub turn_at : ℕ → Turn → Option ScriptLine
 turn_at site which = Some (script.At site (command.Turn which))
@@ -62,7 +64,7 @@ turn_at site which = Some (script.At site (command.Turn which))
 abbrev pub turned_table : List (Option ScriptLine × ℕ)
 turned_table = (turn_at 3 Undo, 148789253) ∷ (turn_at 3 Redo, 148789253) ∷ []
 
--- the words of this seed are 148789253, 77906497, 1297502356 and 3230469346
+-- the words of this seed are 148789253, 77906497, 1297502356, 3230469346 and 2565941027
 abbrev pub drawn_table : List (Option ScriptLine × ℕ)
 drawn_table =
     replicate 4 (create_at 3 253 497, 1297502356)
@@ -71,10 +73,15 @@ drawn_table =
     ∷ (edit_at 3 (op.Set (at_stamp 5 2) (ToRank Top)), 77906497)
     ∷ (edit_at 3 (op.Group (at_stamp 5 2 ∷ at_stamp 2 3 ∷ [])), 1297502356)
     ∷ (edit_at 3 (op.Set (at_stamp 5 2) (ToFlag true)), 77906497)
-    ∷ (edit_at 3 (op.Set (at_stamp 5 2) (ToStroke 10797633)), 1297502356)
+    ∷ (edit_at 3 (op.Set (at_stamp 5 2) (ToLooks (only_stroke 10797633))), 1297502356)
     ∷ replicate 2 (Some (script.Send 3 2), 77906497)
     ++ replicate 2 (Some (script.Deliver 4), 77906497)
     ++ turned_table
+    ++ (edit_at 3 (op.Connect (record { from = at_stamp 5 2; to = at_stamp 2 3 }) []), 1297502356)
+    ∷ (edit_at 3 (op.Set (at_stamp 5 2) (ToEnds (Some (record { from = at_stamp 2 3; to = at_stamp 2 3 })))), 3230469346)
+    ∷ (edit_at 3 (op.Set (at_stamp 5 2) (ToLooks (record no_looks { stroke = Some 10797633; dash = Some Dashed; opacity = Some 47 }))), 2565941027)
+    ∷ (edit_at 3 (op.Set (at_stamp 5 2) (ToText (codes "churn" ++ 10 ∷ codes "t"))), 1297502356)
+    ∷ []
 
 -- the same where nothing was made and no mail sent
 abbrev pub idle_table : List (Option ScriptLine × ℕ)
@@ -84,6 +91,7 @@ idle_table =
     ++ replicate 2 (Some (script.Send 3 2), 77906497)
     ++ replicate 2 (None, 148789253)
     ++ turned_table
+    ++ replicate 4 (None, 148789253)
 
 -- the site to which each of the four sends by the first word of a seed
 abbrev pub sent_to : ℕ → List (Option ScriptLine)
@@ -104,34 +112,34 @@ abbrev pub lines_drawn : ℕ → Churning → List (Option ScriptLine)
 lines_drawn zero c = []
 lines_drawn (suc n) c = (step c.made (length c.world.mail) c.generator).0 ∷ lines_drawn n (stepped c)
 
--- a group is picked among, as what it holds; the undo of it and the redo make nothing, and take nothing away
+-- Site 3 makes a rect, which site 2 gets, another one, and a group of both, which it connects to one of its members. A group is
+-- picked among, as what it holds. Site 2 moves and raises the rect.
 abbrev pub group_lines : List (Option ScriptLine)
 group_lines =
-    None
-    ∷ create_at 2 319 195
-    ∷ create_at 2 561 683
+    create_at 3 936 594
     ∷ Some (script.Send 3 2)
-    ∷ edit_at 2 (op.Group (at_stamp 2 2 ∷ at_stamp 1 2 ∷ []))
-    ∷ turn_at 2 Undo
-    ∷ turn_at 2 Redo
-    ∷ edit_at 2 (move_to 3 2 736 978)
+    ∷ Some (script.Deliver 1)
+    ∷ create_at 3 686 621
+    ∷ edit_at 3 (op.Group (at_stamp 2 3 ∷ at_stamp 1 3 ∷ []))
+    ∷ edit_at 2 (move_to 1 3 275 278)
+    ∷ edit_at 3 (op.Connect (record { from = at_stamp 3 3; to = at_stamp 1 3 }) [])
+    ∷ edit_at 2 (op.Set (at_stamp 1 3) (ToRank Top))
     ∷ []
 
 abbrev pub group_made : List Stamp
-group_made = at_stamp 1 2 ∷ at_stamp 2 2 ∷ at_stamp 3 2 ∷ []
+group_made = at_stamp 1 3 ∷ at_stamp 2 3 ∷ at_stamp 3 3 ∷ at_stamp 4 3 ∷ []
 
--- Site 4 makes a rect. Site 2, which hasn't got it, can't colour it, and then gets it. Site 4 raises it, and site 2
--- deletes it, takes that back, and deletes it again.
+-- Site 3 makes a rect, which site 1 gets, and deletes it. Site 1 raises and moves it, makes another one, and connects the two.
 abbrev pub eight_lines : List (Option ScriptLine)
 eight_lines =
-    create_at 4 663 593
-    ∷ edit_at 2 (op.Set (at_stamp 1 4) (ToStroke 0x09B666))
-    ∷ Some (script.Send 4 2)
+    create_at 3 534 90
+    ∷ Some (script.Send 3 1)
     ∷ Some (script.Deliver 1)
-    ∷ edit_at 4 (op.Set (at_stamp 1 4) (ToRank Top))
-    ∷ edit_at 2 (op.Delete (at_stamp 1 4))
-    ∷ turn_at 2 Undo
-    ∷ turn_at 2 Redo
+    ∷ edit_at 3 (op.Delete (at_stamp 1 3))
+    ∷ edit_at 1 (op.Set (at_stamp 1 3) (ToRank Top))
+    ∷ edit_at 1 (move_to 1 3 921 462)
+    ∷ create_at 1 516 204
+    ∷ edit_at 1 (op.Connect (record { from = at_stamp 1 3; to = at_stamp 4 1 }) [])
     ∷ []
 
 -- ---- what is printed
@@ -156,32 +164,31 @@ nothing_printed =
     "edits 0 refused 0 sent 12 delivered 12 idle 0"
     "arrivals applied 0 dropped 0 reworked 0 undone 0"
 
--- All but the redo, and two rounds: five steps, and then those of the first round, in which the sites 2 and 4 have
--- events for the others, and behind which all hold all. First site 2 sends its delete and its restore: to the sites 1
--- and 3, which hold nothing, and to site 4, where the delete comes before the raise, which is redone. Then site 4 sends
--- its rect and its raise to the sites 1 and 3, and the raise alone to site 2, which has acknowledged the rect. The
--- delete covers the rect, and the restore behind the raise is redone.
+-- All but the connector, and two rounds: six events at their sites, and then those of the first round, in which the sites 1 and 3
+-- have events for the others, and behind which all hold all. First site 1 sends its raise, its move and its rect: to site 2, which
+-- holds nothing; to site 3, where the delete covers the raise; and to site 4. Then site 3 sends its delete to site 1, where it comes
+-- before the move, which is redone; and its rect and its delete to the sites 2 and 4, where the rect comes before the raise and the
+-- move, and the delete before the move.
 abbrev pub seven_works : List ℕ
-seven_works = replicate 5 1 ++ 1 ∷ 1 ∷ 1 ∷ 1 ∷ 3 ∷ 1 ∷ 0 ∷ 3 ∷ 3 ∷ 0 ∷ 3 ∷ []
+seven_works = replicate 6 1 ++ 1 ∷ 1 ∷ 1 ∷ 0 ∷ 1 ∷ 1 ∷ 1 ∷ 1 ∷ 1 ∷ 3 ∷ 5 ∷ 3 ∷ 5 ∷ 3 ∷ []
 
 abbrev pub seven_printed : List (List ℕ)
 seven_printed =
     seven_lines
-    "held 4 kept 0 line 3 clock 3"
-    "edits 4 refused 1 sent 25 delivered 25 idle 0"
-    "arrivals applied 6 dropped 2 reworked 4 undone 4"
+    "held 5 kept 0 line 4 clock 4"
+    "edits 5 refused 0 sent 25 delivered 25 idle 0"
+    "arrivals applied 9 dropped 1 reworked 5 undone 7"
 
--- With the redo. Site 2 sends a second delete too. Behind the raise the restore and that delete
--- are redone: the first of these doesn't cover the raise.
+-- With the connector, which nothing of its ends hangs on: it is applied wherever it comes.
 abbrev pub eight_works : List ℕ
-eight_works = replicate 6 1 ++ 1 ∷ 1 ∷ 1 ∷ 1 ∷ 1 ∷ 1 ∷ 3 ∷ 1 ∷ 1 ∷ 0 ∷ 5 ∷ 5 ∷ 0 ∷ 5 ∷ []
+eight_works = replicate 7 1 ++ 1 ∷ 1 ∷ 1 ∷ 1 ∷ 0 ∷ 1 ∷ 1 ∷ 1 ∷ 1 ∷ 1 ∷ 1 ∷ 1 ∷ 3 ∷ 5 ∷ 3 ∷ 5 ∷ 3 ∷ []
 
 abbrev pub eight_printed : List (List ℕ)
 eight_printed =
     seven_lines
-    "held 5 kept 0 line 4 clock 4"
-    "edits 5 refused 1 sent 25 delivered 25 idle 0"
-    "arrivals applied 9 dropped 2 reworked 4 undone 7"
+    "held 6 kept 0 line 5 clock 5"
+    "edits 6 refused 0 sent 25 delivered 25 idle 0"
+    "arrivals applied 12 dropped 1 reworked 5 undone 7"
 
 -- ---- counts
 

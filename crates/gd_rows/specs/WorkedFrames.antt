@@ -34,7 +34,7 @@ moves_from first (suc count) = ahead_move first ∷ moves_from (first + 1) count
 abbrev pub lettered : ℕ → Event
 lettered count = event 1 1 1 (op.Create Rect (pos 0) (pos 0) (pos 10) (pos 10) (letters count))
 
--- its event of that number, which gives the rect the longest label
+-- its event of that number, which gives the rect a label of 200 letters
 abbrev pub long_label : ℕ → Event
 long_label k = event k 1 k (op.Set (at_stamp 1 1) (ToText (letters 200)))
 
@@ -42,7 +42,7 @@ abbrev pub labels : List Event
 labels = map long_label (2 ∷ 3 ∷ 4 ∷ 5 ∷ 6 ∷ [])
 
 -- Events, and how many of them a frame has room for, which is 1,144 bytes. A delete takes 17 bytes, a move 25, the rect
--- 28 and its letters, and a longest label 218, so that five of these take 1,090.
+-- 28 and its letters, and such a label 218, so that five of these take 1,090.
 abbrev pub fits : List (List Event × ℕ)
 fits =
     ([], 0)

@@ -54,8 +54,8 @@ checks_on_the_way =
     ∷ (35 ∷ 82 ∷ 63 ∷ 148 ∷ [])
     ∷ (92 ∷ 61 ∷ 191 ∷ 125 ∷ [])
     ∷ (116 ∷ 87 ∷ 235 ∷ 233 ∷ [])
-    ∷ (37 ∷ 167 ∷ 236 ∷ 30 ∷ [])
-    ∷ (66 ∷ 63 ∷ 16 ∷ 15 ∷ [])
+    ∷ (8 ∷ 40 ∷ 124 ∷ 120 ∷ [])
+    ∷ (95 ∷ 100 ∷ 155 ∷ 172 ∷ [])
     ∷ []
 
 -- that of the first so many
@@ -106,9 +106,9 @@ redone = event 5 1 5 (op.Restore (at_stamp 1 1) (rect_of 1 1) []) ∷ event 6 1 
 
 abbrev pub restore_row : List ℕ
 restore_row =
-    0 ∷ 0 ∷ 0 ∷ 0 ∷ 0 ∷ 5 ∷ 1 ∷ 0 ∷ 5 ∷ 11 ∷ 0 ∷ 0 ∷ 0 ∷ 0 ∷ 0 ∷ 1 ∷ 1 ∷ 1
-    ∷ 0 ∷ 0 ∷ 0 ∷ 0 ∷ 0 ∷ 0 ∷ 0 ∷ 0 ∷ 0 ∷ 0 ∷ 0 ∷ 10 ∷ 0 ∷ 0 ∷ 0 ∷ 10 ∷ 0 ∷ 0 ∷ 0 ∷ 0 ∷ 255 ∷ 255 ∷ 255 ∷ 255 ∷ 1 ∷ 0
-    ∷ 0 ∷ 0 ∷ 1 ∷ 0 ∷ 0 ∷ 0 ∷ 0 ∷ 0 ∷ 1 ∷ 1 ∷ 0 ∷ []
+    0 ∷ 0 ∷ 0 ∷ 0 ∷ 0 ∷ 5 ∷ 1 ∷ 0 ∷ 5 ∷ 11 ∷ 0 ∷ 0 ∷ 0 ∷ 0 ∷ 0 ∷ 1 ∷ 1 ∷ 1 ∷ 0 ∷ 0 ∷ 0 ∷ 0 ∷ 0 ∷ 0 ∷ 0 ∷ 0
+    ∷ 0 ∷ 0 ∷ 0 ∷ 10 ∷ 0 ∷ 0 ∷ 0 ∷ 10 ∷ 0 ∷ 0 ∷ 0 ∷ 0 ∷ 255 ∷ 255 ∷ 255 ∷ 255 ∷ 1 ∷ 0 ∷ 0 ∷ 255 ∷ 255 ∷ 255 ∷ 255 ∷ 100 ∷ 0 ∷ 0
+    ∷ 0 ∷ 0 ∷ 0 ∷ 0 ∷ 0 ∷ 1 ∷ 0 ∷ 0 ∷ 0 ∷ 0 ∷ 0 ∷ 1 ∷ 1 ∷ 0 ∷ []
 
 -- With their gates and checks the records of the gesture have 33 and 30 bytes, and those of the undo 30 and 22. There is no
 -- second gesture to take back, or to do again.
@@ -125,7 +125,7 @@ turned_effects =
     ∷ Print (codes "ok 5.1\n") ∷ Print (codes "ok 6.1\n") ∷ Print (codes "end 2\n")
     ∷ Try 2
     (own_frame 6 (create_row ++ move_row 2 50 60 ++ move_row 3 0 0 ++ delete_row ++ restore_row ++ move_row 6 50 60)
-    (108 ∷ 73 ∷ 149 ∷ 135 ∷ []))
+    (4 ∷ 181 ∷ 181 ∷ 201 ∷ []))
     ∷ Print (codes "refused: NothingBack\n")
     ∷ []
 

@@ -52,9 +52,9 @@ handed entries input = listening entries (node_lines input)
 abbrev pub text_line : ℕ → List ℕ
 text_line count = codes "create text 0 0 10 10 " ++ letters count ++ 0xC3 ∷ 0xA9 ∷ lf ∷ []
 
--- labels of 201 and of 200 bytes
+-- labels of 501 and of 500 bytes
 abbrev pub label_input : List ℕ
-label_input = text_line 199 ++ text_line 198 ++ codes "quit\n"
+label_input = text_line 499 ++ text_line 498 ++ codes "quit\n"
 
 abbrev pub label_printed : List ℕ
 label_printed = codes "ready 1 of 2\nrefused: BadLabel\nok 1.1\n"

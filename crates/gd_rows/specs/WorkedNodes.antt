@@ -53,13 +53,13 @@ undone_row_to to checksum =
     71 ∷ 68 ∷ 79 ∷ 70 ∷ 3 ∷ 0 ∷ 0 ∷ 0 ∷ 7 ∷ 2 ∷ to ∷ 0 ∷ 0 ∷ 0 ∷ 2 ∷ 0 ∷ 0 ∷ 0 ∷ 0 ∷ 0 ∷ 2 ∷ delete_check
     ++ 0 ∷ 0 ∷ 0 ∷ 0 ∷ 0 ∷ 0 ∷ 0 ∷ 0 ∷ 0 ∷ 0 ∷ 2 ∷ record_row ++ delete_row ++ checksum
 
--- a record that puts the rect back as it was: black, not filled, of width 1, without a label, in no group, not
--- dissolved, at the rank high 1.2; and no ties
+-- a record that puts the rect back as it was: black, not filled, of width 1, solid, without heads, opaque, without a label,
+-- without ends, in no group, not dissolved, at the rank high 1.2; and no ties
 abbrev pub restore_row : List ℕ
 restore_row =
-    0 ∷ 0 ∷ 0 ∷ 0 ∷ 0 ∷ 3 ∷ 2 ∷ 0 ∷ 3 ∷ 11 ∷ 0 ∷ 0 ∷ 0 ∷ 0 ∷ 0 ∷ 1 ∷ 2 ∷ 1
-    ∷ 0 ∷ 0 ∷ 0 ∷ 0 ∷ 0 ∷ 0 ∷ 0 ∷ 0 ∷ 0 ∷ 0 ∷ 0 ∷ 10 ∷ 0 ∷ 0 ∷ 0 ∷ 10 ∷ 0 ∷ 0 ∷ 0 ∷ 0 ∷ 255 ∷ 255 ∷ 255 ∷ 255 ∷ 1 ∷ 0
-    ∷ 0 ∷ 0 ∷ 1 ∷ 0 ∷ 0 ∷ 0 ∷ 0 ∷ 0 ∷ 1 ∷ 2 ∷ 0 ∷ []
+    0 ∷ 0 ∷ 0 ∷ 0 ∷ 0 ∷ 3 ∷ 2 ∷ 0 ∷ 3 ∷ 11 ∷ 0 ∷ 0 ∷ 0 ∷ 0 ∷ 0 ∷ 1 ∷ 2 ∷ 1 ∷ 0 ∷ 0 ∷ 0 ∷ 0 ∷ 0 ∷ 0 ∷ 0 ∷ 0
+    ∷ 0 ∷ 0 ∷ 0 ∷ 10 ∷ 0 ∷ 0 ∷ 0 ∷ 10 ∷ 0 ∷ 0 ∷ 0 ∷ 0 ∷ 255 ∷ 255 ∷ 255 ∷ 255 ∷ 1 ∷ 0 ∷ 0 ∷ 255 ∷ 255 ∷ 255 ∷ 255 ∷ 100 ∷ 0 ∷ 0
+    ∷ 0 ∷ 0 ∷ 0 ∷ 0 ∷ 0 ∷ 1 ∷ 0 ∷ 0 ∷ 0 ∷ 0 ∷ 0 ∷ 1 ∷ 2 ∷ 0 ∷ []
 
 abbrev pub restore_event : Event
 restore_event =
@@ -67,7 +67,7 @@ restore_event =
 
 -- the check of all three
 abbrev pub restore_check : List ℕ
-restore_check = 195 ∷ 176 ∷ 7 ∷ 34 ∷ []
+restore_check = 255 ∷ 202 ∷ 208 ∷ 111 ∷ []
 
 -- the frame with all three
 abbrev pub redone_row_to : ℕ → List ℕ → List ℕ
@@ -95,7 +95,7 @@ turned_effects =
     ∷ Print (codes "refused: NothingBack\n")
     ∷ Work 1 ∷ Record 66 (record_event ∷ delete_event ∷ []) (restore_event ∷ [])
     ∷ Print (codes "ok 3.2\n") ∷ Print (codes "end 1\n")
-    ∷ Try 1 (redone_row_to 1 (128 ∷ 118 ∷ 85 ∷ 128 ∷ [])) ∷ Try 3 (redone_row_to 3 (69 ∷ 126 ∷ 136 ∷ 128 ∷ []))
+    ∷ Try 1 (redone_row_to 1 (195 ∷ 80 ∷ 22 ∷ 153 ∷ [])) ∷ Try 3 (redone_row_to 3 (64 ∷ 178 ∷ 114 ∷ 26 ∷ []))
     ∷ Print (codes "refused: NothingBack\n")
     ∷ []
 

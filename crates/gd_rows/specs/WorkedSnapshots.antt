@@ -1,15 +1,18 @@
 -- Worked rows of snapshots, byte by byte.
-use Rattle.std.specs.Prelude.{◌≡◌, ℕ, zero, suc, ◌+◌, ◌-◌, pos, negsuc, true, false, List, [], ◌∷◌, ◌++◌, length, set, take, Some, Err, IsOk}
+use Rattle.std.specs.Prelude.{◌≡◌, ℕ, zero, suc, ◌+◌, ◌-◌, pos, negsuc, true, false, List, [], ◌∷◌, ◌++◌, length, set, take, None, Some, Err, IsOk}
 use Rattle.std.specs.List.{AllByRecursion}
 use Rattle.gd_base.specs.declared.content.Content.TheVariants.{ToPlace, ToRank}
 use Rattle.gd_base.specs.declared.content.Height.TheVariants.{To}
 use Rattle.gd_base.specs.declared.content.Side.TheVariants.{Top}
 use Rattle.gd_base.specs.declared.fault.ViewWhy.{ViewWhy}
 use Rattle.gd_base.specs.declared.fault.ViewWhy.TheVariants.{Short, Magic, Version, Field, FutureId, Order, Bound}
+use Rattle.gd_base.specs.declared.look.Align.TheVariants.{End}
+use Rattle.gd_base.specs.declared.look.Dash.TheVariants.{Dashed}
+use Rattle.gd_base.specs.declared.look.Heads.TheVariants.{AtBoth}
 use Rattle.gd_base.specs.declared.op.Op.TheVariants.{Set}
 use Rattle.gd_base.specs.declared.shape.Shape.TheVariants.{Rect, Ellipse, Text}
 use Rattle.gd_base.specs.declared.object.Kind.TheVariants.{Shape}
-use Rattle.gd_base.specs.declared.object.Object.{Object}
+use Rattle.gd_base.specs.Whole.{Object}
 use Rattle.gd_base.specs.declared.rank.Rank.TheVariants.{Low}
 use Rattle.gd_model.specs.Objects.{new_group, new_shape}
 use Rattle.gd_snapshots.specs.SnapshotBytes.{snapshot_at}
@@ -23,16 +26,16 @@ abbrev pub tie_front : List ℕ
 tie_front =
     71 ∷ 68 ∷ 79 ∷ 83 ∷ 3 ∷ 0 ∷ 0 ∷ 0 ∷ 7 ∷ 1 ∷ 2 ∷ 0 ∷ 1 ∷ 0 ∷ 0 ∷ 0 ∷ 0 ∷ 0 ∷ 1 ∷ 0 ∷ 1 ∷ 0 ∷ 0 ∷ 0 ∷ 0 ∷ 0 ∷ 1 ∷ []
 
--- the ellipse of site 1 and the rect of site 2, of which the first begins at byte 31 and the second at byte 75
+-- the ellipse of site 1 and the rect of site 2, of which the first begins at byte 31 and the second at byte 86
 abbrev pub ellipse_bytes : List ℕ
 ellipse_bytes =
     0 ∷ 0 ∷ 0 ∷ 0 ∷ 0 ∷ 1 ∷ 1 ∷ 2 ∷ 0 ∷ 0 ∷ 0 ∷ 0 ∷ 0 ∷ 0 ∷ 0 ∷ 0 ∷ 0 ∷ 0 ∷ 0 ∷ 20 ∷ 0 ∷ 0 ∷ 0 ∷ 20 ∷ 0 ∷ 0 ∷ 0 ∷ 0
-    ∷ 255 ∷ 255 ∷ 255 ∷ 255 ∷ 1 ∷ 0 ∷ 0 ∷ 0 ∷ 1 ∷ 0 ∷ 0 ∷ 0 ∷ 0 ∷ 0 ∷ 1 ∷ 1 ∷ []
+    ∷ 255 ∷ 255 ∷ 255 ∷ 255 ∷ 1 ∷ 0 ∷ 0 ∷ 255 ∷ 255 ∷ 255 ∷ 255 ∷ 100 ∷ 0 ∷ 0 ∷ 0 ∷ 0 ∷ 0 ∷ 0 ∷ 0 ∷ 1 ∷ 0 ∷ 0 ∷ 0 ∷ 0 ∷ 0 ∷ 1 ∷ 1 ∷ []
 
 abbrev pub rect_bytes : List ℕ
 rect_bytes =
     0 ∷ 0 ∷ 0 ∷ 0 ∷ 0 ∷ 1 ∷ 2 ∷ 1 ∷ 0 ∷ 0 ∷ 0 ∷ 5 ∷ 0 ∷ 0 ∷ 0 ∷ 5 ∷ 0 ∷ 0 ∷ 0 ∷ 10 ∷ 0 ∷ 0 ∷ 0 ∷ 10 ∷ 0 ∷ 0 ∷ 0 ∷ 0
-    ∷ 255 ∷ 255 ∷ 255 ∷ 255 ∷ 1 ∷ 0 ∷ 0 ∷ 0 ∷ 1 ∷ 0 ∷ 0 ∷ 0 ∷ 0 ∷ 0 ∷ 1 ∷ 2 ∷ []
+    ∷ 255 ∷ 255 ∷ 255 ∷ 255 ∷ 1 ∷ 0 ∷ 0 ∷ 255 ∷ 255 ∷ 255 ∷ 255 ∷ 100 ∷ 0 ∷ 0 ∷ 0 ∷ 0 ∷ 0 ∷ 0 ∷ 0 ∷ 1 ∷ 0 ∷ 0 ∷ 0 ∷ 0 ∷ 0 ∷ 1 ∷ 2 ∷ []
 
 abbrev pub tie_snapshot_bytes : List ℕ
 tie_snapshot_bytes = tie_front ++ 0 ∷ 0 ∷ 0 ∷ 2 ∷ [] ++ ellipse_bytes ++ rect_bytes ++ 0 ∷ 0 ∷ 0 ∷ 0 ∷ []
@@ -57,18 +60,18 @@ abbrev pub full_front : List ℕ
 full_front =
     71 ∷ 68 ∷ 79 ∷ 83 ∷ 3 ∷ 0 ∷ 0 ∷ 0 ∷ 7 ∷ 2 ∷ 2 ∷ 0 ∷ 3 ∷ 0 ∷ 0 ∷ 0 ∷ 0 ∷ 0 ∷ 9 ∷ 0 ∷ 2 ∷ 0 ∷ 0 ∷ 0 ∷ 0 ∷ 0 ∷ 4 ∷ []
 
--- a text in a group, filled, and lowered
+-- a text in a group, with a look of its own, and lowered
 abbrev pub text_bytes : List ℕ
 text_bytes =
     0 ∷ 0 ∷ 0 ∷ 0 ∷ 0 ∷ 1 ∷ 1 ∷ 4 ∷ 255 ∷ 255 ∷ 255 ∷ 255 ∷ 0 ∷ 0 ∷ 0 ∷ 2 ∷ 0 ∷ 0 ∷ 0 ∷ 3 ∷ 0 ∷ 0 ∷ 0 ∷ 4 ∷ 0 ∷ 0 ∷ 0 ∷ 255
-    ∷ 0 ∷ 1 ∷ 2 ∷ 3 ∷ 64 ∷ 3 ∷ 97 ∷ 32 ∷ 98 ∷ 1 ∷ 0 ∷ 0 ∷ 0 ∷ 0 ∷ 0 ∷ 3 ∷ 2 ∷ 0 ∷ 0 ∷ 0 ∷ 1 ∷ 255 ∷ 255 ∷ 255 ∷ 254
-    ∷ 0 ∷ 0 ∷ 0 ∷ 0 ∷ 0 ∷ 0 ∷ 0 ∷ 4 ∷ 2 ∷ []
+    ∷ 0 ∷ 1 ∷ 2 ∷ 3 ∷ 64 ∷ 1 ∷ 3 ∷ 0 ∷ 0 ∷ 0 ∷ 8 ∷ 50 ∷ 1 ∷ 44 ∷ 3 ∷ 3 ∷ 97 ∷ 32 ∷ 98 ∷ 0 ∷ 1 ∷ 0 ∷ 0 ∷ 0 ∷ 0 ∷ 0 ∷ 3 ∷ 2
+    ∷ 0 ∷ 0 ∷ 0 ∷ 1 ∷ 255 ∷ 255 ∷ 255 ∷ 254 ∷ 0 ∷ 0 ∷ 0 ∷ 0 ∷ 0 ∷ 0 ∷ 0 ∷ 4 ∷ 2 ∷ []
 
 -- the group, dissolved
 abbrev pub group_bytes : List ℕ
 group_bytes =
     0 ∷ 0 ∷ 0 ∷ 0 ∷ 0 ∷ 3 ∷ 2 ∷ 5 ∷ 0 ∷ 0 ∷ 0 ∷ 0 ∷ 0 ∷ 0 ∷ 0 ∷ 0 ∷ 0 ∷ 0 ∷ 0 ∷ 0 ∷ 0 ∷ 0 ∷ 0 ∷ 0 ∷ 0 ∷ 0 ∷ 0 ∷ 0
-    ∷ 255 ∷ 255 ∷ 255 ∷ 255 ∷ 1 ∷ 0 ∷ 0 ∷ 1 ∷ 1 ∷ 0 ∷ 0 ∷ 0 ∷ 0 ∷ 0 ∷ 3 ∷ 2 ∷ []
+    ∷ 255 ∷ 255 ∷ 255 ∷ 255 ∷ 1 ∷ 0 ∷ 0 ∷ 255 ∷ 255 ∷ 255 ∷ 255 ∷ 100 ∷ 0 ∷ 0 ∷ 0 ∷ 0 ∷ 0 ∷ 0 ∷ 1 ∷ 1 ∷ 0 ∷ 0 ∷ 0 ∷ 0 ∷ 0 ∷ 3 ∷ 2 ∷ []
 
 -- the second and the third event of site 1: a raise and a move of the text
 abbrev pub raise_bytes : List ℕ
@@ -78,7 +81,7 @@ abbrev pub move_bytes : List ℕ
 move_bytes =
     0 ∷ 0 ∷ 0 ∷ 0 ∷ 0 ∷ 6 ∷ 1 ∷ 0 ∷ 3 ∷ 3 ∷ 0 ∷ 0 ∷ 0 ∷ 0 ∷ 0 ∷ 1 ∷ 1 ∷ 0 ∷ 0 ∷ 0 ∷ 7 ∷ 255 ∷ 255 ∷ 255 ∷ 248 ∷ []
 
--- the events begin at the bytes 141 and 158, and the place behind them is 183
+-- the events begin at the bytes 163 and 180, and the place behind them is 205
 abbrev pub full_snapshot_bytes : List ℕ
 full_snapshot_bytes =
     full_front ++ 0 ∷ 0 ∷ 0 ∷ 2 ∷ [] ++ text_bytes ++ group_bytes ++ 0 ∷ 0 ∷ 0 ∷ 2 ∷ [] ++ raise_bytes ++ move_bytes
@@ -91,10 +94,20 @@ full_text =
       y = pos 2;
       w = pos 3;
       h = pos 4;
-      stroke = 255;
-      fill = Some 66051;
-      width = 64;
+      look =
+          record {
+            stroke = 255;
+            fill = Some 66051;
+            width = 64;
+            dash = Dashed;
+            heads = AtBoth;
+            round = Some 8;
+            opacity = 50;
+            letters = Some 300;
+            align = Some End;
+          };
       label = 97 ∷ 32 ∷ 98 ∷ [];
+      ends = None;
       link = Some (record { parent = at_stamp 3 2; dx = pos 1; dy = negsuc 1 });
       dissolved = false;
       rank = Low (at_stamp 4 2);
@@ -167,12 +180,13 @@ tie_changes =
     ∷ change 27 4 255 (Faulty Field 27)
     ∷ change 30 1 3 (Faulty Field 27)
     -- the second id isn't above the first one
-    ∷ change 31 6 255 (Faulty Order 75)
+    ∷ change 31 6 255 (Faulty Order 86)
     ∷ change 36 1 0 (Faulty Field 31)
     ∷ change 37 1 0 (Faulty Field 37)
-    ∷ change 37 1 2 (Faulty Order 75)
+    ∷ change 37 1 2 (Faulty Order 86)
     ∷ change 38 1 0 (Faulty Field 38)
-    ∷ change 38 1 6 (Faulty Field 38)
+    ∷ change 38 1 6 (Faulty Field 75)
+    ∷ change 38 1 7 (Faulty Field 38)
     ∷ change 39 8 255 Whole
     ∷ change 39 1 128 (Faulty Field 39)
     ∷ change 43 1 128 (Faulty Field 43)
@@ -186,65 +200,86 @@ tie_changes =
     ∷ change 60 3 0 (Faulty Field 59)
     ∷ change 63 1 0 (Faulty Field 63)
     ∷ change 63 1 65 (Faulty Field 63)
-    -- the label would be too long, or a byte 0
-    ∷ change 64 1 201 (Faulty Field 64)
-    ∷ change 64 1 1 (Faulty Field 65)
+    ∷ change 64 1 2 Whole
+    ∷ change 64 1 3 (Faulty Field 64)
+    ∷ change 65 1 3 Whole
+    ∷ change 65 1 4 (Faulty Field 65)
+    -- a radius above the greatest, which isn't the byte for none
+    ∷ change 66 4 0 (Faulty Field 66)
+    ∷ change 70 1 1 Whole
+    ∷ change 70 1 0 (Faulty Field 70)
+    ∷ change 70 1 101 (Faulty Field 70)
+    ∷ change 71 1 3 Whole
+    ∷ change 71 1 4 (Faulty Field 71)
+    ∷ change 72 1 255 Whole
+    ∷ change 73 1 3 Whole
+    ∷ change 73 1 4 (Faulty Field 73)
+    -- a label of 201 bytes goes on behind the end, and none is as long; or it would be a byte 0
+    ∷ change 74 1 201 (Faulty Short 145)
+    ∷ change 74 1 203 (Faulty Field 74)
+    ∷ change 74 1 1 (Faulty Field 75)
+    -- an end would be of site 0
+    ∷ change 75 1 1 (Faulty Field 82)
+    ∷ change 75 1 2 (Faulty Field 75)
     -- the group would be of site 0
-    ∷ change 65 1 1 (Faulty Field 72)
-    ∷ change 65 1 2 (Faulty Field 65)
-    ∷ change 66 1 1 Whole
-    ∷ change 66 1 2 (Faulty Field 66)
-    ∷ change 67 1 0 Whole
-    ∷ change 67 1 2 (Faulty Field 67)
-    ∷ change 68 6 255 Whole
-    ∷ change 73 1 0 (Faulty Field 68)
-    ∷ change 74 1 17 (Faulty Field 74)
-    ∷ change 75 6 255 Whole
-    ∷ change 81 1 1 (Faulty Order 75)
-    ∷ change 82 1 5 Whole
-    ∷ change 83 8 255 Whole
-    ∷ change 91 2 255 (Faulty Field 91)
-    ∷ change 93 2 255 Whole
-    ∷ change 95 2 255 (Faulty Field 95)
-    ∷ change 97 2 255 Whole
-    ∷ change 99 1 1 (Faulty Field 99)
-    ∷ change 100 3 255 Whole
-    ∷ change 103 1 0 Whole
-    ∷ change 104 3 0 (Faulty Field 103)
-    ∷ change 107 1 65 (Faulty Field 107)
-    ∷ change 108 1 255 (Faulty Field 108)
-    ∷ change 109 1 255 (Faulty Field 109)
-    ∷ change 110 1 255 (Faulty Field 110)
-    ∷ change 111 1 255 (Faulty Field 111)
-    ∷ change 112 6 255 Whole
-    ∷ change 118 1 0 (Faulty Field 118)
-    ∷ change 119 4 1 (Faulty Field 119)
+    ∷ change 76 1 1 (Faulty Field 83)
+    ∷ change 76 1 2 (Faulty Field 76)
+    ∷ change 77 1 1 Whole
+    ∷ change 77 1 2 (Faulty Field 77)
+    ∷ change 78 1 0 Whole
+    ∷ change 78 1 2 (Faulty Field 78)
+    ∷ change 79 6 255 Whole
+    ∷ change 84 1 0 (Faulty Field 79)
+    ∷ change 85 1 17 (Faulty Field 85)
+    ∷ change 86 6 255 Whole
+    ∷ change 92 1 1 (Faulty Order 86)
+    ∷ change 93 1 5 Whole
+    -- a connector without ends
+    ∷ change 93 1 6 (Faulty Field 130)
+    ∷ change 94 8 255 Whole
+    ∷ change 102 2 255 (Faulty Field 102)
+    ∷ change 104 2 255 Whole
+    ∷ change 106 2 255 (Faulty Field 106)
+    ∷ change 108 2 255 Whole
+    ∷ change 110 1 1 (Faulty Field 110)
+    ∷ change 111 3 255 Whole
+    ∷ change 114 1 0 Whole
+    ∷ change 115 3 0 (Faulty Field 114)
+    ∷ change 118 1 65 (Faulty Field 118)
+    ∷ change 129 1 255 (Faulty Field 129)
+    ∷ change 131 1 255 (Faulty Field 131)
+    ∷ change 132 1 255 (Faulty Field 132)
+    ∷ change 133 1 255 (Faulty Field 133)
+    ∷ change 134 6 255 Whole
+    ∷ change 140 1 0 (Faulty Field 140)
+    ∷ change 141 4 1 (Faulty Field 141)
     ∷ []
 
 -- what is kept has to be in order, and within what is known of its site
 abbrev pub full_changes : List Change
 full_changes =
     -- a third kept event would be one event more than were made
-    change 140 1 4 (Faulty Field 137)
+    change 162 1 4 (Faulty Field 159)
     -- the first one at the line, or above its site's sure clock, or of no site, or of another site that didn't make it
-    ∷ change 146 1 4 (Faulty Bound 141)
-    ∷ change 18 1 5 (Faulty Bound 158)
-    ∷ change 147 1 3 (Faulty Bound 141)
-    ∷ change 147 1 2 (Faulty Bound 141)
-    ∷ change 149 1 4 (Faulty Bound 141)
+    ∷ change 168 1 4 (Faulty Bound 163)
+    ∷ change 18 1 5 (Faulty Bound 180)
+    ∷ change 169 1 3 (Faulty Bound 163)
+    ∷ change 169 1 2 (Faulty Bound 163)
+    ∷ change 171 1 4 (Faulty Bound 163)
     -- the same stamp twice, and one that is lower and not above the line either
-    ∷ change 163 1 5 (Faulty Order 158)
-    ∷ change 163 1 3 (Faulty Order 158)
+    ∷ change 185 1 5 (Faulty Order 180)
+    ∷ change 185 1 3 (Faulty Order 180)
     -- no tag, an id of no site, and an id behind the event
-    ∷ change 167 1 15 (Faulty Field 167)
-    ∷ change 157 1 0 (Faulty Field 157)
-    ∷ change 156 1 9 (Faulty FutureId 151)
+    ∷ change 189 1 18 (Faulty Field 189)
+    ∷ change 179 1 0 (Faulty Field 179)
+    ∷ change 178 1 9 (Faulty FutureId 173)
     ∷ []
 
 -- one cut short, of so many bytes
 abbrev pub IsShortAt : List ℕ → ℕ → Type 0
 IsShortAt bytes at = IsRead (take at bytes) (Faulty Short at)
 
-unfoldable pub AllShort : List ℕ → ℕ → Type 0
-AllShort bytes zero = Unit {0}
-AllShort bytes (suc count) = IsShortAt bytes count × AllShort bytes count
+-- cut to each of so many numbers of bytes, from the first one on
+unfoldable pub AllShort : List ℕ → ℕ → ℕ → Type 0
+AllShort bytes first zero = Unit {0}
+AllShort bytes first (suc count) = IsShortAt bytes (first + count) × AllShort bytes first count

@@ -75,21 +75,21 @@ bad behind done line = view behind (done ++ Print line ∷ []) BadView
 abbrev pub bad_views : List View
 bad_views =
     -- an item that isn't whole
-    bad (0 ∷ []) [] (codes "bad view at 124: Short\n")
-    ∷ bad (take 66 (item moving_frame)) [] (codes "bad view at 189: Short\n")
+    bad (0 ∷ []) [] (codes "bad view at 146: Short\n")
+    ∷ bad (take 66 (item moving_frame)) [] (codes "bad view at 211: Short\n")
     -- one that is longer than any frame, and one that might be
-    ∷ bad (4 ∷ 177 ∷ []) [] (codes "bad view at 123: Long\n")
-    ∷ bad (4 ∷ 176 ∷ []) [] (codes "bad view at 125: Short\n")
+    ∷ bad (4 ∷ 177 ∷ []) [] (codes "bad view at 145: Long\n")
+    ∷ bad (4 ∷ 176 ∷ []) [] (codes "bad view at 147: Short\n")
     -- behind a frame that is taken
-    ∷ bad (item moving_frame ++ 255 ∷ 255 ∷ []) moved_effects (codes "bad view at 190: Long\n")
+    ∷ bad (item moving_frame ++ 255 ∷ 255 ∷ []) moved_effects (codes "bad view at 212: Long\n")
     ∷ []
 
 -- bytes that are no snapshot
 abbrev pub cut_view : List ℕ
-cut_view = take 122 tie_snapshot_bytes
+cut_view = take 144 tie_snapshot_bytes
 
 abbrev pub cut_line : List (List ℕ)
-cut_line = codes "bad view at 122: Short\n" ∷ []
+cut_line = codes "bad view at 144: Short\n" ∷ []
 
 -- ---- a snapshot with kept events
 

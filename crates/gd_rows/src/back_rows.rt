@@ -18,7 +18,7 @@ ghost use Rattle.gd_reference.specs.SlowSite.{new_site};
 ghost use Rattle.gd_reference.specs.TakeBack.{NothingBack, Refused, after_edit, after_turn, turn};
 ghost use Rattle.gd_rows.specs.Worked.{at_stamp, event, square_line};
 ghost use Rattle.gd_rows.specs.WorkedNodes.{asked};
-ghost use Rattle.gd_rows.specs.WorkedBacks.{all_again, all_again_held, all_again_printed, all_back, all_back_held, all_back_printed, backs_of, behind, dressed, dressed_backs, dressed_text, far, far_shown, forgetting, forgotten, forgotten_printed, gestures_of, gone_site, gone_turns, kept_on_the_way, last_site, late_fill, late_move, late_stroke, lost_backs, made_and_moved, made_and_taken, moved_backs, nested, nested_backs, nested_shown, one, owing, place_of, prints, put_back, refusing, refusing_printed, regrouped, regrouped_again, regrouped_backs, regrouped_shown, restored, restored_backs, restored_text, restoring, set_and_taken, site_behind, stopping, stopping_again, three, told_to_one, told_to_two, turned, turns, two, unacceptable, undone_steps};
+ghost use Rattle.gd_rows.specs.WorkedBacks.{all_again, all_again_held, all_again_printed, all_back, all_back_held, all_back_printed, backs_of, behind, dressed, dressed_backs, dressed_text, far, far_shown, forgetting, forgotten, forgotten_printed, gestures_of, gone_site, gone_turns, kept_on_the_way, last_site, late_fill, late_move, late_stroke, lost_backs, made_and_moved, made_and_taken, moved_backs, nested, nested_backs, nested_shown, one, owing, place_of, prints, put_back, refusing, refusing_printed, regrouped, regrouped_again, regrouped_backs, regrouped_shown, restored, restored_backs, restored_text, restoring, set_and_taken, site_behind, stopping, stopping_again, three, told_to_one, told_to_two, turned, turns, two, unacceptable, undone_steps, unjoined};
 
 /// Two edits are taken back, the second first, and then nothing is left; then they are done again, the first first.
 /// Each undo and each redo is an event.
@@ -107,6 +107,7 @@ pub fn the_oldest_back_goes()
 /// A refused edit, a refused undo and a refused redo change nothing.
 pub fn what_is_refused_changes_nothing()
     ensures edits { AllByRecursion (λ w. after_edit dressed w ≡ dressed) unacceptable }
+    ensures ends { AllByRecursion (λ w. after_edit dressed w ≡ dressed) unjoined }
     ensures undo { after_turn (new_site 1 1 7) Undo ≡ new_site 1 1 7 }
     ensures redo { after_turn dressed Redo ≡ dressed }
     ensures clock_end { after_turn (after_turn last_site Undo) Redo ≡ after_turn last_site Undo }

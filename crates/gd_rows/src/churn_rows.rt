@@ -25,9 +25,9 @@ pub fn a_step_is_drawn()
 
 /// The lines of some steps, by what was made before.
 pub fn steps_are_drawn()
-    ensures eight { lines_drawn 8 (new_churning 181960431) ≡ eight_lines }
-    ensures group { lines_drawn 8 (new_churning 2642265044) ≡ group_lines }
-    ensures made { (times 8 stepped (new_churning 2642265044)).made ≡ group_made }
+    ensures eight { lines_drawn 8 (new_churning 224141972) ≡ eight_lines }
+    ensures group { lines_drawn 8 (new_churning 168112386) ≡ group_lines }
+    ensures made { (times 8 stepped (new_churning 168112386)).made ≡ group_made }
 {}
 
 /// No step: all hold all at once, and one round of mail that says nothing comes, among the sites of session 1.
@@ -37,14 +37,14 @@ pub fn nothing_is_churned()
     ensures mail { slice_get (churned 1 0).world.mail 0 ≡ Some empty_frame }
 {}
 
-/// A rect that one site raises while another one deletes it, and takes that back. All steps come before the first line.
+/// A rect that one site raises and moves while another one deletes it. All steps come before the first line.
 pub fn seven_steps()
-    ensures { churn_effects 181960431 7 ≡ map Work seven_works ++ map Print seven_printed }
+    ensures { churn_effects 224141972 7 ≡ map Work seven_works ++ map Print seven_printed }
 {}
 
-/// And deletes it again.
+/// And connects it to another one.
 pub fn eight_steps()
-    ensures { churn_effects 181960431 8 ≡ map Work eight_works ++ map Print eight_printed }
+    ensures { churn_effects 224141972 8 ≡ map Work eight_works ++ map Print eight_printed }
 {}
 
 /// Each answer counts for one number, and each number has its place.

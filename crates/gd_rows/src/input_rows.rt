@@ -81,7 +81,7 @@ pub fn a_repeated_frame()
     ensures end { end_after (node_lines (codes "poll\nquit\n")) ≡ Done }
 {}
 
-/// A label of 201 bytes is refused, and one of 200 is taken.
+/// A label of 501 bytes is refused, and one of 500 is taken.
 pub fn a_long_label()
     ensures printed { printed (handed [] label_input) ≡ label_printed }
     ensures end { end_after (node_lines label_input) ≡ Done }

@@ -4,6 +4,7 @@
 pub mod back_rows;
 pub mod check_rows;
 pub mod churn_rows;
+pub mod connector_rows;
 pub mod edit_rows;
 pub mod exit_rows;
 pub mod frame_rows;

@@ -5,7 +5,7 @@ ghost use Rattle.std.specs.Prelude.{◌≡◌, ◌++◌, ◌∷◌, [], Ok};
 ghost use Rattle.gd_snapshots.specs.SnapshotBytes.{snapshot_at, snapshot_bytes};
 ghost use Rattle.gd_rows.specs.WorkedSnapshots.{AllShort, ChangesRead, full_changes, full_snapshot, full_snapshot_bytes, tie_changes, tie_snapshot, tie_snapshot_bytes};
 
-/// A snapshot of two objects has 123 bytes, and is read whatever follows them.
+/// A snapshot of two objects has 145 bytes, and is read whatever follows them.
 pub fn a_snapshot_of_two_objects()
     ensures bytes { snapshot_bytes tie_snapshot ≡ tie_snapshot_bytes }
     ensures read { snapshot_at (tie_snapshot_bytes ++ 0 ∷ 57 ∷ [])
@@ -30,6 +30,7 @@ pub fn a_kept_event_has_its_bounds()
 
 /// A snapshot that is cut anywhere is Short at its end.
 pub fn a_cut_snapshot_is_short()
-    ensures tie { AllShort tie_snapshot_bytes 123 }
-    ensures full { AllShort full_snapshot_bytes 183 }
+    ensures tie { AllShort tie_snapshot_bytes 0 145 }
+    ensures front { AllShort full_snapshot_bytes 0 100 }
+    ensures rest { AllShort full_snapshot_bytes 100 105 }
 {}

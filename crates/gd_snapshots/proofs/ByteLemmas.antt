@@ -1,5 +1,5 @@
 -- What is spelled of a good snapshot is bytes.
-use Rattle.std.proofs.Common.{ℕ, List, [], ◌∷◌, ◌++◌, length, Option, None, arith}
+use Rattle.std.proofs.Common.{[], length, Option, None, arith}
 use Rattle.std.specs.Int.{bytes_high_first}
 use Rattle.gd_base.specs.Stamps.{Stamp}
 use Rattle.gd_grammar.specs.Drawings.{spelling}

@@ -5,21 +5,28 @@ use Rattle.std.specs.Prelude.{◌==◌}
 use Rattle.gd_base.specs.declared.fault.FieldFault.{FieldFault}
 use Rattle.gd_base.specs.declared.fault.FieldWhy.{FieldWhy}
 use Rattle.gd_base.specs.declared.fault.FieldWhy.TheVariants.{Short, Magic, Version, Field, FutureId, MemberOrder}
-use Rattle.gd_base.specs.Labels.{most_label}
+use Rattle.gd_base.specs.Kinds.{most_ties}
+use Rattle.gd_base.specs.Labels.{most_title}
 use Rattle.gd_base.specs.Ranges.{place_limit, size_limit}
 use Rattle.gd_base.specs.Results.{◌>>=◌}
 use Rattle.gd_base.specs.Stamps.{Stamp}
+use Rattle.gd_base.specs.declared.object.Kind.{Kind}
+use Rattle.gd_base.specs.declared.object.Kind.TheVariants as kinds
+use Rattle.gd_base.specs.declared.ranges.TheConstants.{MOST_MEMBERS}
 use Rattle.gd_base.specs.declared.version.Version as version
+use Rattle.gd_base.specs.declared.version.Version.TheVariants as versions
 use Rattle.gd_base.specs.declared.shape.Shape.TheVariants.{Rect, Ellipse, Line, Text}
 use Rattle.gd_events.specs.Ops.{Done}
 use Rattle.gd_grammar.specs.Drawings as drawing
 use Rattle.gd_grammar.specs.EventBytes.{most_label_in, shape_at, label_at, colour_at, fill_at, width_at, count_at, member_id_at, parent_id_at}
-use Rattle.gd_grammar.specs.Fields.{byte_at, byte_within, clock_at, site_at, stamp_at, id_at, number_at, signed_at, word_at, label_within}
-use Rattle.gd_grammar.specs.FrameBytes.{frame_version_at, half_at, six_at}
+use Rattle.gd_grammar.specs.Fields.{byte_at, byte_within, clock_at, site_at, stamp_at, id_at, number_at, signed_at, word_at, label_within, length_at, long_label_at}
+use Rattle.gd_grammar.specs.FrameBytes.{frame_version_at, six_at}
+use Rattle.gd_grammar.specs.Fields.{half_at}
+use Rattle.gd_grammar.specs.LookBytes.{thin_at, dash_rows, dash_at, heads_rows, heads_at, round_at, opacity_at, letters_at, align_rows, align_at, look_at, set_rows, if_set, all_looks_at}
 use Rattle.gd_grammar.specs.HeaderBytes.{magic_at, sites_at}
 use Rattle.gd_grammar.specs.Kinds.{event_at}
-use Rattle.gd_grammar.specs.ObjectBytes.{kind_rows, kind_at, thin_at, flag_rows, flag_at, parent_at, some_link_at, link_rows, link_at, given_at, rank_rows, rank_at, object_at}
-use Rattle.gd_grammar.specs.OpBytes.{place_at, size_at, look_rows, look_at, create_at, set_at, member_at, group_at, tie_at, all_ties_at, restore_at, disband_at, op_rows, op_at}
+use Rattle.gd_grammar.specs.ObjectBytes.{kind_rows, kind_at, flag_rows, flag_at, parent_at, some_link_at, link_rows, link_at, given_at, some_ends_at, ends_rows, ends_or_none_at, joined_rows, joined_at, own_ends_at, rank_rows, rank_at, own_label_at, of_kind_at, object_at}
+use Rattle.gd_grammar.specs.OpBytes.{place_at, size_at, look_rows, lone_at, style_at, ends_at, create_at, set_at, member_at, group_at, tie_at, all_ties_at, connect_at, restore_at, disband_at, op_rows, op_at}
 use Rattle.gd_grammar.specs.Readers.{picked, by_tag, by_tag_within}
 use Rattle.gd_grammar.specs.Reading.{Reads, Reader, bytes_at, fault_at, many_at, pure, ranged, short, then_at}
 use Rattle.gd_grammar.specs.declared.naming.Naming.{Naming}
@@ -138,6 +145,16 @@ unfolding label_within
 end-label most bytes =
     end-then _ _ (end-byte bytes) (λ len. end-either _ _ _ (end-fault Field bytes (λ e. cc)) (end-then _ _ (end-bytes len.0 len.1) (λ text. end-ranged _ _ len.1 text.1)))
 
+end-length : (bytes : List ℕ) → AtEnd (length_at bytes)
+unfolding length_at
+end-length bytes =
+    end-then _ _ (end-byte bytes) (λ first. end-either _ _ _ (end-ok first) (end-either _ _ _ (end-fault Field bytes (λ e. cc))
+    (end-then _ _ (end-byte first.1) (λ second. end-ranged _ _ bytes second.1))))
+
+end-long-label : (bytes : List ℕ) → AtEnd (long_label_at bytes)
+unfolding long_label_at
+end-long-label bytes = end-then _ _ (end-length bytes) (λ count. end-then _ _ (end-bytes count.0 count.1) (λ text. end-ranged _ _ count.1 text.1))
+
 end-half : (bytes : List ℕ) → AtEnd (half_at bytes)
 unfolding half_at
 end-half bytes = end-then _ _ (end-bytes 2 bytes) (λ two. end-ok _)
@@ -169,17 +186,63 @@ end-width bytes = end-then _ _ (end-word bytes) (λ word. end-ranged _ _ bytes w
 
 end-text : (v : version.Version) → Ends (label_at v)
 unfolding label_at
-end-text v = end-label (most_label_in v)
+end-text versions.One = end-label (most_label_in versions.One)
+end-text versions.Two = end-label (most_label_in versions.Two)
+end-text versions.Three = end-long-label
+
+-- ---- looks
+
+end-thin : Ends thin_at
+unfolding thin_at then_at
+end-thin bytes = end-then _ _ (end-byte bytes) (λ width. end-ranged _ _ bytes width.1)
+
+end-dash : Ends dash_at
+unfolding dash_at
+end-dash = end-tags dash_rows (end-pure _ & end-pure _ & end-pure _ & tt)
+
+end-heads : Ends heads_at
+unfolding heads_at
+end-heads = end-tags heads_rows (end-pure _ & end-pure _ & end-pure _ & end-pure _ & tt)
+
+end-round : Ends round_at
+unfolding round_at then_at
+end-round bytes = end-then _ _ (end-word bytes) (λ n. end-ranged _ _ bytes n.1)
+
+end-opacity : Ends opacity_at
+unfolding opacity_at then_at
+end-opacity bytes = end-then _ _ (end-byte bytes) (λ n. end-ranged _ _ bytes n.1)
+
+end-letters : Ends letters_at
+unfolding letters_at then_at
+end-letters bytes = end-then _ _ (end-half bytes) (λ n. end-ranged _ _ bytes n.1)
+
+end-align : Ends align_at
+unfolding align_at
+end-align = end-tags align_rows (end-pure _ & end-pure _ & end-pure _ & end-pure _ & tt)
+
+end-look : Ends look_at
+unfolding look_at
+end-look =
+    end-next end-colour (λ stroke. end-next end-fill (λ fill. end-next end-thin (λ width. end-next end-dash (λ dash. end-next end-heads (λ heads.
+    end-next end-round (λ round. end-next end-opacity (λ opacity. end-next end-letters (λ letters. end-next end-align (λ align. end-pure _)))))))))
+
+end-set-part : {A : Type 0} {r : Reader A} → Ends r → Ends (if_set r)
+unfolding if_set
+end-set-part {r = r} one = end-tags (set_rows r) (end-pure _ & end-next one (λ value. end-pure _) & tt)
+
+end-looks : Ends all_looks_at
+unfolding all_looks_at
+end-looks =
+    end-next (end-set-part end-colour) (λ stroke. end-next (end-set-part end-fill) (λ fill. end-next (end-set-part end-thin) (λ width.
+    end-next (end-set-part end-dash) (λ dash. end-next (end-set-part end-heads) (λ heads. end-next (end-set-part end-round) (λ round.
+    end-next (end-set-part end-opacity) (λ opacity. end-next (end-set-part end-letters) (λ letters. end-next (end-set-part end-align) (λ align.
+    end-pure _)))))))))
 
 -- ---- objects
 
 end-kind : Ends kind_at
 unfolding kind_at
-end-kind = end-tags kind_rows (end-pure _ & end-pure _ & end-pure _ & end-pure _ & end-pure _ & tt)
-
-end-thin : Ends thin_at
-unfolding thin_at then_at
-end-thin bytes = end-then _ _ (end-byte bytes) (λ width. end-ranged _ _ bytes width.1)
+end-kind = end-tags kind_rows (end-pure _ & end-pure _ & end-pure _ & end-pure _ & end-pure _ & end-pure _ & tt)
 
 end-flag : Ends flag_at
 unfolding flag_at
@@ -207,12 +270,32 @@ end-rank : (stamp : Option Stamp) → Ends (rank_at stamp)
 unfolding rank_at
 end-rank stamp = end-tags (rank_rows stamp) (end-next (end-given stamp) (λ given. end-pure _) & end-next (end-given stamp) (λ given. end-pure _) & tt)
 
+end-some-ends : (stamp : Option Stamp) → Ends (some_ends_at stamp)
+unfolding some_ends_at
+end-some-ends stamp = end-next (end-given stamp) (λ from. end-next (end-given stamp) (λ to. end-pure _))
+
+end-own-ends : (kind : Kind) (stamp : Option Stamp) → Ends (own_ends_at kind stamp)
+unfolding own_ends_at ends_or_none_at joined_at
+end-own-ends (kinds.Shape shape) stamp = end-tags (ends_rows stamp) (end-pure _ & end-some-ends stamp & tt)
+end-own-ends kinds.Group stamp = end-tags (ends_rows stamp) (end-pure _ & end-some-ends stamp & tt)
+end-own-ends kinds.Connector stamp = end-tags (joined_rows stamp) (end-some-ends stamp & tt)
+
+end-own-label : (kind : Kind) → Ends (own_label_at kind)
+unfolding own_label_at
+end-own-label (kinds.Shape shape) = end-long-label
+end-own-label kinds.Group = end-label most_title
+end-own-label kinds.Connector = end-long-label
+
+end-of-kind : (kind : Kind) (naming : Option Naming) → Ends (of_kind_at kind naming)
+unfolding of_kind_at
+end-of-kind kind naming =
+    end-next (end-signed place_limit) (λ x. end-next (end-signed place_limit) (λ y. end-next (end-signed size_limit) (λ w.
+    end-next (end-signed size_limit) (λ h. end-next end-look (λ look. end-next (end-own-label kind) (λ label. end-next (end-own-ends kind _) (λ ends.
+    end-next (end-link naming) (λ link. end-next end-flag (λ dissolved. end-next (end-rank _) (λ rank. end-pure _))))))))))
+
 pub end-object : (naming : Option Naming) → Ends (object_at naming)
 unfolding object_at
-end-object naming =
-    end-next end-kind (λ kind. end-next (end-signed place_limit) (λ x. end-next (end-signed place_limit) (λ y. end-next (end-signed size_limit) (λ w. end-next (end-signed size_limit) (λ h.
-    end-next end-colour (λ stroke. end-next end-fill (λ fill. end-next end-thin (λ width. end-next (end-label most_label) (λ label. end-next (end-link naming) (λ link. end-next end-flag (λ dissolved.
-    end-next (end-rank _) (λ rank. end-pure _))))))))))))
+end-object naming = end-next end-kind (λ kind. end-of-kind kind naming)
 
 -- ---- operations
 
@@ -226,9 +309,9 @@ end-set : (stamp : Stamp) (content : Reader Done) → Ends content → Ends (set
 unfolding set_at
 end-set stamp content then = end-next (end-id stamp) (λ id. end-next then (λ c. end-pure _))
 
-end-count : (least : ℕ) → Ends (count_at least)
+end-count : (least most : ℕ) → Ends (count_at least most)
 unfolding count_at
-end-count least bytes = end-then _ _ (end-byte bytes) (λ count. end-ranged _ _ bytes count.1)
+end-count least most bytes = end-then _ _ (end-byte bytes) (λ count. end-ranged _ _ bytes count.1)
 
 end-member-id : (stamp : Stamp) (last : Option Stamp) → Ends (member_id_at stamp last)
 unfolding member_id_at
@@ -240,26 +323,44 @@ end-member stamp last = end-next (end-member-id stamp last) (λ id. end-next (en
 
 end-group : (stamp : Stamp) → Ends (group_at stamp)
 unfolding group_at
-end-group stamp = end-next (end-count 2) (λ count. end-next (end-many _ _ (end-member stamp) count None) (λ members. end-pure _))
+end-group stamp = end-next (end-count 2 MOST_MEMBERS) (λ count. end-next (end-many _ _ (end-member stamp) count None) (λ members. end-pure _))
 
 end-tie : (stamp : Stamp) (last : Option Stamp) → Ends (tie_at stamp last)
 unfolding tie_at
 end-tie stamp last = end-next (end-member-id stamp last) (λ id. end-next (end-link _) (λ link. end-pure _))
 
-end-all-ties : (least : ℕ) (stamp : Stamp) → Ends (all_ties_at least stamp)
+end-all-ties : (least most : ℕ) (stamp : Stamp) → Ends (all_ties_at least most stamp)
 unfolding all_ties_at
-end-all-ties least stamp = end-next (end-count least) (λ count. end-many _ _ (end-tie stamp) count None)
+end-all-ties least most stamp = end-next (end-count least most) (λ count. end-many _ _ (end-tie stamp) count None)
 
 end-restore : (stamp : Stamp) → Ends (restore_at stamp)
 unfolding restore_at
-end-restore stamp = end-next (end-id stamp) (λ id. end-next (end-object _) (λ object. end-next (end-all-ties 0 stamp) (λ ties. end-pure _)))
+end-restore stamp =
+    end-next (end-id stamp) (λ id. end-next end-kind (λ kind. end-next (end-of-kind kind _) (λ object.
+    end-next (end-all-ties 0 (most_ties kind) stamp) (λ ties. end-pure _))))
 
 end-disband : (stamp : Stamp) → Ends (disband_at stamp)
 unfolding disband_at
-end-disband stamp = end-next (end-id stamp) (λ id. end-next (end-all-ties 1 stamp) (λ ties. end-pure _))
+end-disband stamp = end-next (end-id stamp) (λ id. end-next (end-all-ties 1 MOST_MEMBERS stamp) (λ ties. end-pure _))
+
+end-ends : (stamp : Stamp) → Ends (ends_at stamp)
+unfolding ends_at
+end-ends stamp = end-next (end-id stamp) (λ from. end-next (end-id stamp) (λ to. end-pure _))
+
+end-connect : (v : version.Version) (stamp : Stamp) → Ends (connect_at v stamp)
+unfolding connect_at
+end-connect v stamp = end-next (end-ends stamp) (λ ends. end-next (end-text v) (λ label. end-pure _))
+
+end-lone : Ends lone_at
+unfolding lone_at
+end-lone = end-tags look_rows (end-next end-colour (λ colour. end-pure _) & end-next end-fill (λ fill. end-pure _) & end-next end-width (λ width. end-pure _) & tt)
+
+end-style : Ends style_at
+unfolding style_at then_at
+end-style bytes = end-then _ _ (end-looks bytes) (λ looks. end-ranged _ _ bytes looks.1)
 
 end-op : (v : version.Version) (stamp : Stamp) → Ends (op_at v stamp)
-unfolding op_at place_at size_at look_at
+unfolding op_at place_at size_at
 end-op v stamp = end-tags-within _ (op_rows v stamp) (
     end-create v
     & end-next (end-id stamp) (λ id. end-pure _)
@@ -267,14 +368,17 @@ end-op v stamp = end-tags-within _ (op_rows v stamp) (
     & end-group stamp
     & end-restore stamp
     & end-disband stamp
+    & end-connect v stamp
     & end-set stamp _ (end-next (end-signed place_limit) (λ x. end-next (end-signed place_limit) (λ y. end-pure _)))
     & end-set stamp _ (end-next (end-signed size_limit) (λ w. end-next (end-signed size_limit) (λ h. end-pure _)))
-    & end-set stamp _ (end-tags look_rows (end-next end-colour (λ colour. end-pure _) & end-next end-fill (λ fill. end-pure _) & end-next end-width (λ width. end-pure _) & tt))
+    & end-set stamp _ end-lone
     & end-set stamp _ (end-pure _)
     & end-set stamp _ (end-pure _)
     & end-set stamp _ (end-pure _)
     & end-set stamp _ (end-next (end-rank _) (λ rank. end-pure _))
     & end-set stamp _ (end-pure _)
+    & end-set stamp _ end-style
+    & end-set stamp _ (end-next (end-ends stamp) (λ ends. end-pure _))
     & tt)
 
 pub end-event : (bytes : List ℕ) → AtEnd (drawing.event_at bytes)

@@ -1,18 +1,29 @@
 -- An object of a snapshot is read where its bytes stand, and nowhere else.
-use Rattle.std.proofs.Common.{ℕ, List, Option, Some, None}
+use Rattle.std.proofs.Common.{Option, Some, None}
 use Rattle.std.proofs.lemmas.Bool.{and_parts, and_from}
 use Rattle.gd_base.specs.Ranges.{place_limit, size_limit, is_within}
+use Rattle.gd_base.specs.Typed.{AreEnds}
+use Rattle.gd_base.specs.declared.object.Ends.{Ends}
 use Rattle.gd_base.specs.declared.object.Link.{Link}
-use Rattle.gd_base.specs.declared.object.Object.{Object}
+use Rattle.gd_base.specs.Whole.{Object}
 use Rattle.gd_base.specs.declared.rank.Rank.{Rank}
 use Rattle.gd_base.specs.declared.rank.Rank.TheVariants.{Low, High}
 use Rattle.gd_grammar.specs.Exact.{Exact}
 use Rattle.gd_grammar.specs.ObjectBytes.{object_at}
 use Rattle.gd_grammar.specs.Spelling.{object_bytes}
 use Rattle.gd_grammar.proofs.ExactObject as objects
-use Rattle.gd_grammar.proofs.SoundObjects.{IsLinkOf, IsRank, IsDrawnBy}
+use Rattle.gd_grammar.proofs.SoundLooks.{look-parts, parts-look}
+use Rattle.gd_grammar.proofs.SoundObjects.{AreEndsOf, IsLinkOf, IsRank, IsDrawnBy, own-label, label-back}
 use Rattle.gd_snapshots.specs.Snapshots as snapshots
 use Rattle.gd_snapshots.specs.Snapshots.{IsDrawn, IsLinkOrNone}
+
+ends-of : (ends : Option Ends) → AreEnds ends → AreEndsOf None ends
+ends-of None s = tt
+ends-of (Some ends) s = s
+
+ends-from : (ends : Option Ends) → AreEndsOf None ends → AreEnds ends
+ends-from None s = tt
+ends-from (Some ends) s = s
 
 link-of : (link : Option Link) → IsLinkOrNone link → IsLinkOf None link
 link-of None s = tt
@@ -42,25 +53,27 @@ drawn o s =
       top = record { within = place.1 };
       width = record { within = size.0 };
       height = record { within = size.1 };
-      stroke = s.stroke;
-      fill = s.fill;
-      thin = s.width;
-      label = s.label;
+      look = look-parts o.look s.look;
+      label = own-label o.kind o.label s.label s.title;
+      ends = record { given = ends-of o.ends s.ends; joined = s.joined };
       link = link-of o.link s.link;
       rank = rank-of o.rank s.rank;
     }
 
 from-drawn : (o : Object) → IsDrawnBy None o → IsDrawn o
-from-drawn o s = record {
-  place = and_from _ _ s.left.within s.top.within;
-  size = and_from _ _ s.width.within s.height.within;
-  stroke = s.stroke;
-  fill = s.fill;
-  width = s.thin;
-  label = s.label;
-  link = link-from o.link s.link;
-  rank = rank-from o.rank s.rank;
-}
+from-drawn o s =
+    let label = label-back o.kind o.label s.label in
+    record {
+      place = and_from _ _ s.left.within s.top.within;
+      size = and_from _ _ s.width.within s.height.within;
+      look = parts-look o.look s.look;
+      label = label.typed;
+      title = label.own;
+      ends = ends-from o.ends s.ends.given;
+      joined = s.ends.joined;
+      link = link-from o.link s.link;
+      rank = rank-from o.rank s.rank;
+    }
 
 pub exact_object : Exact (object_at None) IsDrawn object_bytes
 exact_object = record {

@@ -15,8 +15,8 @@ use Rattle.gd_grammar.specs.FieldBytes.{word_bytes}
 use Rattle.gd_grammar.specs.Reading.{Reads}
 use Rattle.gd_grammar.proofs.DrawingEvents.{exact_event}
 use Rattle.gd_grammar.proofs.Exact.{joined, spelt, taking, done, exact_field}
-use Rattle.gd_grammar.proofs.ExactFields.{exact_word, exact_site, exact_stamp}
-use Rattle.gd_grammar.proofs.ExactFrame.{exact-version, exact-half, exact-six}
+use Rattle.gd_grammar.proofs.ExactFields.{exact_half, exact_word, exact_site, exact_stamp}
+use Rattle.gd_grammar.proofs.ExactFrame.{exact-version, exact-six}
 use Rattle.gd_grammar.proofs.ExactHeader.{exact-magic, exact-sites}
 use Rattle.gd_grammar.specs.Spelling.{object_bytes}
 use Rattle.gd_snapshots.specs.Snapshots.{IsKept, IsKnown, IsPlaced, is_bounded}
@@ -65,9 +65,9 @@ exact_head = record {
 pub exact_known : Exact known_at IsKnown known_bytes
 unfolding known_at
 exact_known = record {
-  written = λ k rest s. rw (exact-half.written k.count (bytes_high_first 6 k.sure ++ rest) s.count, exact-six.written k.sure rest s.sure) refl;
+  written = λ k rest s. rw (exact_half.written k.count (bytes_high_first 6 k.sure ++ rest) s.count, exact-six.written k.sure rest s.sure) refl;
   taken = λ bytes z are e.
-      taking exact-half bytes are _ z e (λ count.
+      taking exact_half bytes are _ z e (λ count.
       taking exact-six count.rest count.left _ z count.on (λ sure.
       done _ z sure.on (record { sound = record { count = count.sound; sure = sure.sound }; text = joined count.text sure.text })));
 }

@@ -1,5 +1,4 @@
 pub mod SteadyParts
-pub mod Lengths
 pub mod ExactObject
 pub mod ExactParts
 pub mod ExactSnapshot

@@ -7,8 +7,9 @@ use Rattle.gd_grammar.specs.ObjectBytes.{object_at}
 use Rattle.gd_grammar.specs.Reading.{Reads}
 use Rattle.gd_grammar.specs.Steady.{Steady}
 use Rattle.gd_grammar.specs.declared.sizes.TheConstants.{EVENT_BYTES, OBJECT_BYTES}
-use Rattle.gd_grammar.proofs.DrawingEvents.{Steady-event, exact_event}
+use Rattle.gd_grammar.proofs.DrawingEvents.{Steady-event, exact_event, spelling-least}
 use Rattle.gd_grammar.proofs.ExactFields.{exact_stamp, exact_word}
+use Rattle.gd_grammar.proofs.Lengths.{object-least, text-least}
 use Rattle.gd_grammar.proofs.Steady.{Steady-weaken}
 use Rattle.gd_grammar.proofs.SteadyFields.{Steady-stamp, Steady-word}
 use Rattle.gd_grammar.proofs.SteadyObject.{Steady-object}
@@ -17,7 +18,6 @@ use Rattle.gd_snapshots.specs.SnapshotBytes.{head_at, known_at}
 use Rattle.gd_snapshots.proofs.Ends.{AtEnd, end-stamp, end-word, end-event, end-object, end-head, end-known}
 use Rattle.gd_snapshots.proofs.ExactObject.{exact_object}
 use Rattle.gd_snapshots.proofs.ExactParts.{exact_head, exact_known}
-use Rattle.gd_snapshots.proofs.Lengths.{object-least, spelling-least}
 use Rattle.gd_snapshots.proofs.SteadyParts.{Steady-head, Steady-known}
 
 piece : {A : Type 0} {read : List ℕ → Reads A} {Sound : A → Type 0} {spell : A → List ℕ} (most least : ℕ)
@@ -42,8 +42,8 @@ number_piece = piece 4 4 exact_word Steady-word (omega arith) (λ n s. omega ari
 pub id_piece : PieceLaws stamp_at 7
 id_piece = piece 7 7 exact_stamp Steady-stamp (omega arith) (λ id s. omega arith) end-stamp
 
-pub object_piece : PieceLaws (object_at None) 37
-object_piece = piece OBJECT_BYTES 37 exact_object (Steady-object None) (omega arith) (λ o s. object-least o) (end-object None)
+pub object_piece : PieceLaws (object_at None) 48
+object_piece = piece OBJECT_BYTES 48 exact_object (Steady-object None) (omega arith) (λ o s. omega (arith, object-least o, text-least o.label)) (end-object None)
 
 pub event_piece : PieceLaws event_at 17
 event_piece = piece EVENT_BYTES 17 exact_event Steady-event (omega arith) spelling-least end-event

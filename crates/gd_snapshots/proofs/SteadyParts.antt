@@ -1,23 +1,20 @@
 -- Each part of a snapshot in front of its objects is read alike whatever follows it.
-use Rattle.std.proofs.Common.{ℕ, ◌+◌, cond, ◌∷◌, Ok, Err, arith}
+use Rattle.std.proofs.Common.{ℕ, ◌+◌, cond, ◌∷◌, Ok, Err}
 use Rattle.std.specs.Prelude.{nat_le, ◌==◌}
-use Rattle.std.specs.Int.{w16, w64, from_be_bytes}
+use Rattle.std.specs.Int.{w64, from_be_bytes}
 use Rattle.gd_base.specs.declared.fault.FieldWhy.TheVariants as why
 use Rattle.gd_base.specs.Results.{◌>>=◌}
 use Rattle.gd_grammar.specs.Fields.{byte_at, site_at, word_at}
-use Rattle.gd_grammar.specs.FrameBytes.{frame_version_at, half_at, six_at}
+use Rattle.gd_grammar.specs.FrameBytes.{frame_version_at, six_at}
+use Rattle.gd_grammar.specs.Fields.{half_at}
 use Rattle.gd_grammar.specs.HeaderBytes.{magic_at, sites_at}
 use Rattle.gd_grammar.specs.Reading.{fault_at, bytes_at, ranged}
 use Rattle.gd_grammar.specs.Steady.{Steady}
 use Rattle.gd_grammar.proofs.Steady.{Steady-then, Steady-bytes, done, behind, fault_there, either}
-use Rattle.gd_grammar.proofs.SteadyFields.{in_range, Steady-byte, Steady-site, Steady-word, Steady-magic, Steady-sites}
+use Rattle.gd_grammar.proofs.SteadyFields.{in_range, Steady-byte, Steady-half, Steady-site, Steady-word, Steady-magic, Steady-sites}
 use Rattle.gd_snapshots.specs.SnapshotBytes.{snapshot_magic, head_at, known_at, number_within}
 
 -- ---- numbers
-
-pub Steady-half : Steady 2 half_at
-unfolding half_at
-Steady-half = Steady-then 2 0 (bytes_at 2) (λ two _ rest. Ok (from_be_bytes w16 two, rest)) (Steady-bytes 2) (λ two. done 0 _)
 
 pub Steady-six : Steady 6 six_at
 unfolding six_at

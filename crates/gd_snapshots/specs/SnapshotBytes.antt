@@ -19,7 +19,8 @@ use Rattle.gd_events.specs.Sound.{is_above}
 use Rattle.gd_grammar.specs.Drawings.{event_at, spelling}
 use Rattle.gd_grammar.specs.FieldBytes.{stamp_bytes, word_bytes, each_bytes}
 use Rattle.gd_grammar.specs.Fields.{site_at, stamp_at, word_at}
-use Rattle.gd_grammar.specs.FrameBytes.{frame_version_at, half_at, six_at}
+use Rattle.gd_grammar.specs.FrameBytes.{frame_version_at, six_at}
+use Rattle.gd_grammar.specs.Fields.{half_at}
 use Rattle.gd_grammar.specs.HeaderBytes.{magic_at, sites_at}
 use Rattle.gd_grammar.specs.ObjectBytes.{object_at}
 use Rattle.gd_grammar.specs.Reading.{Reads, many_at, ranged}

@@ -5,15 +5,18 @@
 -- come the held events above the line, by their stamps.
 use Rattle.std.specs.List.{AllByRecursion}
 use Rattle.std.specs.Prelude.{◌≡◌, ◌<◌, ◌≤◌, ◌^◌, ℕ, ◌+◌, ◌-◌, min, Bool, true, ◌&&◌, nat_le, nat_lt, List, [], ◌∷◌, length, get_or, map, sum, Option, Some, None, IsTrue}
+use Rattle.gd_base.specs.Kinds.{are_ends_of, is_label_of}
 use Rattle.gd_base.specs.Labels.{IsLabel}
-use Rattle.gd_base.specs.Ranges.{place_limit, size_limit, is_within, is_colour, is_fill, is_width}
+use Rattle.gd_base.specs.Ranges.{place_limit, size_limit, is_within}
+use Rattle.gd_base.specs.Looks.{is_look}
+use Rattle.gd_base.specs.Typed.{AreEnds}
 use Rattle.gd_base.specs.Stamps.{Stamp, IsStamp}
 use Rattle.gd_base.specs.declared.ranges.TheConstants.{CLOCK_LIMIT, SITES}
 use Rattle.gd_events.specs.Events.{Event}
 use Rattle.gd_events.specs.Sound.{IsSound, is_above}
 use Rattle.gd_grammar.specs.Reading.{AllFollow}
 use Rattle.gd_base.specs.declared.object.Link.{Link}
-use Rattle.gd_base.specs.declared.object.Object.{Object}
+use Rattle.gd_base.specs.Whole.{Object}
 use Rattle.gd_base.specs.declared.rank.Rank.{Rank}
 use Rattle.gd_base.specs.declared.rank.Rank.TheVariants.{Low, High}
 use Rattle.gd_snapshots.specs.declared.known.Known.{Known}
@@ -82,10 +85,11 @@ IsRank (High stamp) = IsStamp stamp
 pub record IsDrawn (o : Object) : Type 0 where
   pub place : IsTrue (is_within place_limit o.x && is_within place_limit o.y)
   pub size : IsTrue (is_within size_limit o.w && is_within size_limit o.h)
-  pub stroke : IsTrue (is_colour o.stroke)
-  pub fill : IsTrue (is_fill o.fill)
-  pub width : IsTrue (is_width o.width)
+  pub look : IsTrue (is_look o.look)
   pub label : IsLabel o.label
+  pub title : IsTrue (is_label_of o.kind o.label)
+  pub ends : AreEnds o.ends
+  pub joined : IsTrue (are_ends_of o.kind o.ends)
   pub link : IsLinkOrNone o.link
   pub rank : IsRank o.rank
 

@@ -1,4 +1,5 @@
 pub mod Newest
+pub mod Deciding
 pub mod Doing
 pub mod Passing
 pub mod Standing

@@ -63,8 +63,9 @@ impl Gesture {
     }
 
     /// Has the site make the next event, of an edit of its user, and returns its stamp. `ClockEnd`, `SessionFull`, `NoObject`,
-    /// `NotShape`, `NotGroup`, `SameMember`, `NotTop` and `TooFar` are decided in this order, before any memory is taken, and then the
-    /// site, the gesture and the steps are as before; `NoMemory` where it then ran out, and the steps are as before.
+    /// `NotShape`, `NotGroup`, `NotPlaced`, `NotConnector`, `SameMember`, `NotTop` and `TooFar` are decided in this order, before
+    /// any memory is taken, and then the site, the gesture and the steps are as before; `NoMemory` where it then ran out, and the
+    /// steps are as before.
     pub fn edit<L: Ledger>(
         &mut self,
         site: &mut Site,

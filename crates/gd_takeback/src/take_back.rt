@@ -95,9 +95,9 @@ impl TakeBack {
     }
 
     /// Carries out an edit of the site's user alone, and returns the event that it became. It keeps what takes the edit back, and
-    /// forgets what could be done again. `ClockEnd`, `SessionFull`, `NoObject`, `NotShape`, `NotGroup`, `SameMember`, `NotTop` and
-    /// `TooFar` are decided in this order, before any memory is taken; `NoMemory` where it then ran out. After each of them the
-    /// site, what is kept here and the steps are as before.
+    /// forgets what could be done again. `ClockEnd`, `SessionFull`, `NoObject`, `NotShape`, `NotGroup`, `NotPlaced`,
+    /// `NotConnector`, `SameMember`, `NotTop` and `TooFar` are decided in this order, before any memory is taken; `NoMemory` where
+    /// it then ran out. After each of them the site, what is kept here and the steps are as before.
     pub fn edit<L: Ledger>(
         &mut self,
         site: &mut Site,

@@ -13,7 +13,7 @@ use Rattle.gd_base.specs.Stamps.{stamp_cmp, is_same}
 use Rattle.gd_base.proofs.StampLemmas.{is_same-true, is_same-refl}
 use Rattle.gd_base.specs.StampTotal.{stamp_cmp-total}
 use Rattle.gd_base.specs.Stamps.{Stamp}
-use Rattle.gd_base.specs.declared.object.Object.{Object}
+use Rattle.gd_base.specs.Whole.{Object}
 use Rattle.gd_model.specs.Board.{Board, levels, stack}
 use Rattle.gd_drawing.proofs.Stacking.{level_cmp-total, level_cmp-IsAntisymmetric, level_test, at_rank, level_step, not_found, get-stack, t_first, t_second}
 use Rattle.gd_canvas.specs.Slots.{Slots}

@@ -15,7 +15,7 @@ use Rattle.gd_base.proofs.Lists.{Every-back}
 use Rattle.gd_base.proofs.StampLemmas.{is_same-true, is_same-comm, is_before-apart, is_before-trans}
 use Rattle.gd_base.specs.Stamps.{Stamp}
 use Rattle.gd_base.specs.declared.object.Link.{Link}
-use Rattle.gd_base.specs.declared.object.Object.{Object}
+use Rattle.gd_base.specs.Whole.{Object}
 use Rattle.gd_model.specs.Drawing.{Drawing}
 use Rattle.gd_model.specs.Board.{Board, listed}
 use Rattle.gd_model.specs.Shown.{above, above_by, through}

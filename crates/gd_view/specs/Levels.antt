@@ -2,7 +2,7 @@
 use Rattle.std.specs.Prelude.{List, Option, None, Some}
 use Rattle.std.specs.BTreeSet.{insert_key}
 use Rattle.gd_base.specs.Stamps.{Stamp}
-use Rattle.gd_base.specs.declared.object.Object.{Object}
+use Rattle.gd_base.specs.Whole.{Object}
 use Rattle.gd_model.specs.Drawing.{Drawing}
 use Rattle.gd_model.specs.Shown.{shown}
 use Rattle.gd_base.specs.declared.item.Item.{Item}

@@ -1,7 +1,7 @@
 -- An object as it is shown.
 use Rattle.std.specs.Prelude.{◌+ℤ◌, Bool, false, Option, None, Some, is_none}
 use Rattle.gd_base.specs.Stamps.{Stamp}
-use Rattle.gd_base.specs.declared.object.Object.{Object}
+use Rattle.gd_base.specs.Whole.{Object}
 use Rattle.gd_model.specs.Drawing.{Drawing}
 use Rattle.gd_model.specs.Shown.{seen_as}
 use Rattle.gd_model.specs.declared.above.Above.{Above}

@@ -7,7 +7,7 @@ use Rattle.indexmap.specs.IndexMap as index_map
 use Rattle.gd_base.specs.declared.ranges.TheConstants.{SESSION_EVENTS}
 use Rattle.gd_base.specs.Stamps.{stamp_cmp, is_same}
 use Rattle.gd_base.specs.Stamps.{Stamp}
-use Rattle.gd_base.specs.declared.object.Object.{Object}
+use Rattle.gd_base.specs.Whole.{Object}
 use Rattle.gd_model.specs.Drawing.{Drawing}
 use Rattle.gd_model.specs.Shown.{above}
 use Rattle.gd_model.specs.declared.above.Above.{Above}

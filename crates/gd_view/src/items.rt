@@ -1,71 +1,94 @@
 //! The item of one object: what is printed of it.
 
-ghost use Rattle.std.specs.Prelude.{◌≡◌, ◌≤◌, length};
+ghost use Rattle.std.specs.Prelude.{◌≡◌, ◌≤◌, length, IfOk};
 ghost use Rattle.std.specs.FinMap as map_of;
 ghost use Rattle.gd_base.specs.declared.ranges.TheConstants.{SESSION_EVENTS};
 ghost use Rattle.gd_model.specs.Board.{listed};
-ghost use Rattle.gd_model.specs.Shown.{shape_of, item_at, shown_as, seen_as};
+ghost use Rattle.gd_model.specs.Shown.{body_of, item_at, joined_of, seen_as, shown_as};
 ghost use Rattle.gd_slots.specs.Slots.{board_of};
 ghost use Rattle.gd_view.specs.Chains.{Within};
 
-use crate::chains::above;
-use crate::seen::{is_gone, place_at};
-use gd_base::{Item, Kind, Object, ShapeItem, Stamp};
+use crate::seen::{has_ends, place_at, stands};
+use gd_base::{Body, Ends, Item, JoinedItem, KeptObject, Kind, ShapeItem, Stamp};
 use gd_canvas::Canvas;
 use gd_model::Above;
+use std::alloc::AllocError;
 
-/// The item of that id. None where it isn't shown: it isn't there, is hidden, or is a dissolved group. It takes no memory.
+/// The item of that id, or none where it isn't shown: it isn't there, is hidden, is a dissolved group, or a connector of which an end
+/// isn't shown. It takes no memory; `AllocError` where its label has as many handles as can be counted.
 #[tactic(auto, using(crate::proofs::Rulesets::drawn))]
-pub fn item(canvas: &Canvas, id: Stamp) -> Option<Item>
+pub fn item(canvas: &Canvas, id: Stamp) -> Result<Option<Item>, AllocError>
     requires { map_of.len (board_of canvas.now) ≤ SESSION_EVENTS }
-    ensures { result ≡ seen_as (item_at id) (listed (board_of canvas.now)) id }
+    ensures { IfOk result (λ item. item ≡ seen_as (item_at id) (listed (board_of canvas.now)) id) }
 {
-    let object = canvas.get(id)?;
-    shown_item(canvas, id, object)
-}
-
-fn shown_item(canvas: &Canvas, id: Stamp, object: &Object) -> Option<Item>
-    requires { length (listed (board_of canvas.now)) ≤ SESSION_EVENTS }
-    ensures { result
-        ≡ shown_as (item_at id) (listed (board_of canvas.now)) id object.now }
-{
-    if is_gone(object) {
-        return None;
+    match canvas.get(id) {
+        Some(object) => shown_item(canvas, id, object),
+        None => Ok(None),
     }
-    let above = above(canvas, id, object.link)?;
-    Some(item_by(id, object, &above))
 }
 
-pub(crate) fn item_by(id: Stamp, object: &Object, above: &Above) -> Item
+fn shown_item(canvas: &Canvas, id: Stamp, object: &KeptObject) -> Result<Option<Item>, AllocError>
+    requires { length (listed (board_of canvas.now)) ≤ SESSION_EVENTS }
+    ensures { IfOk result (λ item. item
+        ≡ shown_as (item_at id) (listed (board_of canvas.now)) id object.now) }
+{
+    if !has_ends(canvas, object) {
+        return Ok(None);
+    }
+    match stands(canvas, id, object) {
+        Some(above) => {
+            let item = item_by(id, object, &above)?;
+            Ok(Some(item))
+        }
+        None => Ok(None),
+    }
+}
+
+pub(crate) fn item_by(id: Stamp, object: &KeptObject, above: &Above) -> Result<Item, AllocError>
     requires { Within SESSION_EVENTS above.now }
-    ensures { result ≡ item_at id object.now above.now }
+    ensures { IfOk result (λ item. item ≡ item_at id object.now above.now) }
 {
     let at = place_at(object, above);
-    let shape = shape_of(object);
-    Item {
+    let body = body_of(object)?;
+    Ok(Item {
         id,
         parent: above.parent,
         at,
-        shape,
-    }
+        body,
+    })
 }
 
-fn shape_of(object: &Object) -> Option<ShapeItem>
-    ensures { result ≡ shape_of object.now.kind object.now }
+fn body_of(object: &KeptObject) -> Result<Body, AllocError>
+    ensures { IfOk result (λ body. body ≡ body_of object.now.kind object.now) }
 {
     match object.kind {
         Kind::Shape(kind) => {
-            let label = object.label.copy();
-            Some(ShapeItem {
+            let label = object.label.share()?;
+            Ok(Body::Shape(ShapeItem {
                 kind,
                 w: object.w,
                 h: object.h,
-                stroke: object.stroke,
-                fill: object.fill,
-                width: object.width,
+                look: object.look,
                 label,
-            })
+            }))
         }
-        Kind::Group => None,
+        Kind::Group => Ok(Body::Group),
+        Kind::Connector => joined_of(object, object.ends),
+    }
+}
+
+fn joined_of(object: &KeptObject, ends: Option<Ends>) -> Result<Body, AllocError>
+    ensures { IfOk result (λ body. body ≡ joined_of object.now ends) }
+{
+    match ends {
+        Some(ends) => {
+            let label = object.label.share()?;
+            Ok(Body::Joined(JoinedItem {
+                ends,
+                look: object.look,
+                label,
+            }))
+        }
+        None => Ok(Body::Group),
     }
 }

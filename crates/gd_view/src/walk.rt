@@ -52,7 +52,7 @@ pub(crate) fn in_printed_order(alloc: Global, items: &[Item]) -> Result<Vec<Item
     let mut stack = Vec::new(alloc);
     open(&mut stack, links.firsts.get(None))?;
     while let Some(place) = stack.pop() {
-        let item = items[place].copy();
+        let item = items[place].share()?;
         open(&mut stack, links.next[place])?;
         open(&mut stack, links.firsts.get(Some(item.id)))?;
         printed.push(item)?;

@@ -16,7 +16,7 @@ use Rattle.gd_slots.specs.Slots.{board_of}
 use Rattle.gd_events.specs.Events.{Event}
 use Rattle.gd_events.specs.Ordered.{are_distinct}
 use Rattle.gd_grammar.specs.Reading.{AllFollow}
-use Rattle.gd_base.specs.declared.object.Object.{Object}
+use Rattle.gd_base.specs.Whole.{Object}
 use Rattle.gd_model.specs.Board.{Board}
 use Rattle.gd_snapshots.specs.Snapshots.{IsKept, IsKnown, IsPlaced, IsSnapshot, Placed, Snapshot, known_of, least_sure, stamp_of, total, unknown}
 use Rattle.gd_snapshots.specs.declared.known.Known.{Known}

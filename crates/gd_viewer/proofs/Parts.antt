@@ -6,7 +6,7 @@ use Rattle.gd_base.specs.Sites.{is_site}
 use Rattle.gd_base.specs.Stamps.{Stamp, stamp_cmp}
 use Rattle.gd_base.proofs.SiteLemmas.{is_site-bounds, is_site-within}
 use Rattle.gd_base.specs.StampTotal.{stamp_cmp-IsAntisymmetric, stamp_cmp-total}
-use Rattle.gd_base.specs.declared.object.Object.{Object}
+use Rattle.gd_base.specs.Whole.{Object}
 use Rattle.gd_model.specs.Board.{Board}
 use Rattle.gd_protocol.proofs.Lists.{put_other, put_same}
 use Rattle.gd_site.proofs.Numbers.{of_site-put}

@@ -14,7 +14,7 @@ use Rattle.gd_events.specs.Ordered.{ordered}
 use Rattle.gd_events.specs.Sound.{IsSound, is_above}
 use Rattle.gd_events.proofs.OrderLemmas.{InOrder-ordered}
 use Rattle.gd_grammar.specs.Reading.{AllFollow}
-use Rattle.gd_base.specs.declared.object.Object.{Object}
+use Rattle.gd_base.specs.Whole.{Object}
 use Rattle.gd_model.specs.Board.{apply_all}
 use Rattle.gd_protocol.proofs.Chains.{greatest_clock-bound}
 use Rattle.gd_protocol.proofs.Drawn.{every-ordered}

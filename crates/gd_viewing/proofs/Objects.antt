@@ -3,12 +3,14 @@ use Rattle.std.proofs.Common.{◌≡◌, suc, Bool, true, false, cond, List, [],
 use Rattle.std.specs.FinMap as map_of
 use Rattle.std.specs.FinMap.Entries.{below_all}
 use Rattle.std.specs.List.{AllByRecursion as Every}
+use Rattle.std.proofs.lemmas.Bool.{and_parts}
 use Rattle.gd_base.proofs.StampLemmas.{is_same-refl, is_same-true}
+use Rattle.gd_base.specs.Kinds.{are_ends_of, is_label_of}
 use Rattle.gd_base.specs.Ranks.{given_at}
 use Rattle.gd_base.specs.Stamps.{Stamp, IsStamp, is_before, is_same, stamp_cmp}
 use Rattle.gd_base.specs.Typed.{IsLinked}
 use Rattle.gd_base.specs.declared.object.Link.{Link}
-use Rattle.gd_base.specs.declared.object.Object.{Object}
+use Rattle.gd_base.specs.Whole.{Object}
 use Rattle.gd_base.specs.declared.rank.Rank.{Rank}
 use Rattle.gd_base.specs.declared.rank.Rank.TheVariants.{Low, High}
 use Rattle.gd_drawing.proofs.SoundObjects.{AreFieldsBefore, IsEntryBefore, board_before}
@@ -32,16 +34,19 @@ ranked (Low stamp) typed = typed
 ranked (High stamp) typed = typed
 
 drawn : (stamp id : Stamp) (o : Object) → AreFieldsBefore stamp id o → IsDrawn o
-drawn stamp id o h = record {
-  place = h.place;
-  size = h.size;
-  stroke = h.stroke;
-  fill = h.fill;
-  width = h.width;
-  label = h.label;
-  link = linked o.link h.link.typed h.link.range;
-  rank = ranked o.rank h.rank.0;
-}
+drawn stamp id o h =
+    let kind = and_parts (is_label_of o.kind o.label) (are_ends_of o.kind o.ends) h.kind in
+    record {
+      place = h.place;
+      size = h.size;
+      look = h.look;
+      label = h.label;
+      title = kind.0;
+      ends = h.ends.typed;
+      joined = kind.1;
+      link = linked o.link h.link.typed h.link.range;
+      rank = ranked o.rank h.rank.0;
+    }
 
 -- ---- the objects in the order of their ids
 

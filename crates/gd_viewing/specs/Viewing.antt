@@ -7,7 +7,8 @@ use Rattle.std.specs.Prelude.{ℕ, zero, suc, nat_lt, if◌then◌else◌, List,
 use Rattle.gd_base.specs.Results.{◌>>=◌}
 use Rattle.gd_base.specs.declared.fault.ViewWhy.TheVariants.{Long}
 use Rattle.gd_effects.specs.Effects.{Effect, Print, Work}
-use Rattle.gd_grammar.specs.FrameBytes.{Frame, Misread, frame, half_at}
+use Rattle.gd_grammar.specs.FrameBytes.{Frame, Misread, frame}
+use Rattle.gd_grammar.specs.Fields.{half_at}
 use Rattle.gd_grammar.specs.Reading.{bytes_at, place}
 use Rattle.gd_grammar.specs.declared.sizes.TheConstants.{FRAME_BYTES}
 use Rattle.gd_lines.specs.declared.reply.Reply.TheVariants as reply

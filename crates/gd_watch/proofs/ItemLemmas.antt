@@ -6,7 +6,7 @@ use Rattle.std.specs.Int.{w16, from_be_bytes}
 use Rattle.std.specs.Prelude.{Option, Some, Result, Ok, Err, IsErrAnd, IsSome}
 use Rattle.gd_base.specs.declared.fault.FieldFault.{FieldFault}
 use Rattle.gd_base.specs.declared.fault.ViewWhy.TheVariants.{Long, Short}
-use Rattle.gd_grammar.specs.FrameBytes.{half_at}
+use Rattle.gd_grammar.specs.Fields.{half_at}
 use Rattle.gd_grammar.specs.declared.sizes.TheConstants.{FRAME_BYTES}
 use Rattle.gd_handover.specs.Parts.{Grown, cut}
 use Rattle.gd_handover.proofs.PartLemmas.{called-then}

@@ -1,33 +1,40 @@
 //! What operations set.
-ghost use Rattle.std.specs.Prelude.{◌≡◌};
-ghost use Rattle.gd_base.specs.Contents.{content_map};
+ghost use Rattle.std.specs.Prelude.{◌≡◌, IfOk};
 ghost use Rattle.gd_base.specs.Results.{Gives};
 ghost use Rattle.gd_grammar.specs.EventBytes.{colour_at, fill_at, width_at};
-ghost use Rattle.gd_grammar.specs.OpBytes.{level_at, look_at, place_at, size_at};
+ghost use Rattle.gd_grammar.specs.OpBytes.{ends_at, level_at, lone_at, place_at, reconnect_at, size_at};
 ghost use Rattle.gd_wire.specs.Packed.{said};
 
 use crate::bytes::Bytes;
 use gd_base::{
-    COLOUR_LIMIT, Content, FieldFault, FieldWhy, Height, Label, PLACE_LIMIT, SIZE_LIMIT, Stamp,
-    WIDTH_LIMIT, map_content,
+    COLOUR_LIMIT, Content, Ends, FieldFault, FieldWhy, Height, Label, Looks, PLACE_LIMIT,
+    SIZE_LIMIT, Stamp, Text, WIDTH_LIMIT, map_content,
 };
+use gd_events::PackedLooks;
+use std::alloc::{AllocError, Global};
 use std::convert::Infallible;
 
 /// A content that is no label.
-pub(crate) type SmallContent = Content<Infallible, Height>;
+pub(crate) type SmallContent = Content<Infallible, Looks, Height>;
 
 /// The same as an operation has it.
-pub(crate) fn labelled(content: &SmallContent) -> Content<Label, Height>
+pub(crate) fn labelled(content: &SmallContent) -> Content<Label, Looks, Height>
     ensures { result ≡ said content.now }
 {
-    map_content!(content, none => match *none {}, height => *height)
+    map_content!(content, none => match *none {}, looks => *looks, height => *height)
 }
 
-/// The same as a packed operation has it.
-pub(crate) fn box_labelled(content: &SmallContent) -> Content<Box<Label>, Height>
-    ensures { content_map (λ label. label.value) (λ height. height) result ≡ said content.now }
+/// The same as a packed operation has it. `AllocError` where memory ran out.
+pub(crate) fn packed(
+    alloc: Global,
+    content: &SmallContent,
+) -> Result<Content<Text, PackedLooks, Height>, AllocError>
+    ensures { IfOk result (λ packed. packed ≡ said content.now) }
 {
-    map_content!(content, none => match *none {}, height => *height)
+    Ok(map_content!(content,
+        none => match *none {},
+        looks => PackedLooks::new(alloc, looks)?,
+        height => *height))
 }
 
 /// The word that stands for no fill.
@@ -61,27 +68,46 @@ impl<'a> Bytes<'a> {
         Ok(Content::ToRank(Height::At(rank)))
     }
 
-    /// One part of a shape's look: which one, and its value.
-    #[tactic(auto, unfolding(gd_grammar::specs::OpBytes::look_at, gd_grammar::specs::Readers::steps))]
-    pub(crate) fn look(&mut self) -> Result<SmallContent, FieldFault>
-        ensures { Gives (λ c. (said c, self.new)) result (look_at self.old) }
+    /// A lone stroke, fill or width: which one, and its value.
+    #[tactic(auto, unfolding(gd_grammar::specs::OpBytes::lone_at, gd_grammar::specs::Readers::steps))]
+    pub(crate) fn lone(&mut self) -> Result<SmallContent, FieldFault>
+        ensures { Gives (λ c. (said c, self.new)) result (lone_at self.old) }
     {
         let fault = self.fault(FieldWhy::Field);
         match self.byte()? {
             1 => {
                 let colour = self.colour()?;
-                Ok(Content::ToStroke(colour))
+                Ok(Content::ToLooks(Looks::only_stroke(colour)))
             }
             2 => {
                 let fill = self.fill()?;
-                Ok(Content::ToFill(fill))
+                Ok(Content::ToLooks(Looks::only_fill(fill)))
             }
             3 => {
                 let width = self.width()?;
-                Ok(Content::ToWidth(width))
+                Ok(Content::ToLooks(Looks::only_width(width)))
             }
             _ => Err(fault),
         }
+    }
+
+    /// The ends of a connector.
+    #[tactic(auto, unfolding(gd_grammar::specs::OpBytes::ends_at, gd_grammar::specs::Readers::steps))]
+    pub(crate) fn ends(&mut self, stamp: Stamp) -> Result<Ends, FieldFault>
+        ensures { Gives (λ ends. (ends, self.new)) result (ends_at stamp self.old) }
+    {
+        let from = self.id(stamp)?;
+        let to = self.id(stamp)?;
+        Ok(Ends { from, to })
+    }
+
+    /// Other ends of a connector.
+    #[tactic(auto, unfolding(gd_grammar::specs::Readers::steps))]
+    pub(crate) fn reconnect(&mut self, stamp: Stamp) -> Result<SmallContent, FieldFault>
+        ensures { Gives (λ c. (said c, self.new)) result (reconnect_at stamp self.old) }
+    {
+        let ends = self.ends(stamp)?;
+        Ok(Content::ToEnds(Some(ends)))
     }
 
     /// Reads a colour, in four bytes. `Short` where it isn't whole, and `Field` at its first byte where it is above

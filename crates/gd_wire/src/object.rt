@@ -1,25 +1,25 @@
 //! Objects: those of snapshots, and those that an operation restores.
-ghost use Rattle.std.specs.Prelude.{◌≡◌, ◌≤◌, ◌<◌, ◌+◌, ◌++◌, ◌∷◌, [], length, option_map};
+ghost use Rattle.std.specs.Prelude.{◌≡◌, ◌≤◌, ◌<◌, ◌+◌, ◌++◌, ◌∷◌, [], IfOk, length, option_map};
 ghost use Rattle.gd_base.specs.Results.{Gives};
 ghost use Rattle.gd_grammar.specs.FieldBytes.{signed_bytes};
-ghost use Rattle.gd_grammar.specs.ObjectBytes.{kind_at, thin_at, flag_at, parent_at, some_link_at, link_at};
-ghost use Rattle.gd_grammar.specs.ObjectBytes.{given_at, rank_at, object_at};
-ghost use Rattle.gd_grammar.specs.Spelling.{kind_byte, flag_byte, link_bytes, rank_bytes, object_bytes};
+ghost use Rattle.gd_grammar.specs.ObjectBytes.{ends_or_none_at, joined_at, kind_at, flag_at, parent_at, some_ends_at, some_link_at, link_at};
+ghost use Rattle.gd_grammar.specs.ObjectBytes.{given_at, object_at, of_kind_at, own_ends_at, own_label_at, rank_at};
+ghost use Rattle.gd_grammar.specs.Spelling.{ends_bytes, kind_byte, flag_byte, link_bytes, rank_bytes, object_bytes};
 ghost use Rattle.gd_grammar.specs.declared.sizes.TheConstants.{EVENT_BYTES, OBJECT_BYTES};
 
 use crate::buffer::EventBytes;
 use crate::bytes::Bytes;
 use gd_base::{
-    FieldFault, FieldWhy, Kind, Link, Object, PLACE_LIMIT, Rank, SIZE_LIMIT, Shape, Stamp,
-    WIDTH_LIMIT,
+    Ends, FieldFault, FieldWhy, Kind, Label, Link, Object, PLACE_LIMIT, Rank, SIZE_LIMIT, Shape,
+    Stamp,
 };
 use gd_grammar::Naming;
 
-/// A label of an object has at most this many bytes.
-const MOST_LABEL: u8 = 200;
-
 /// The kind of a group, behind those of shapes.
 const GROUP: u8 = 5;
+
+/// That of a connector, behind it.
+const CONNECTOR: u8 = 6;
 
 impl<'a> Bytes<'a> {
     /// An object of at most `OBJECT_BYTES`, without its id, and the operation that names it, if one does. The first fault is
@@ -30,14 +30,27 @@ impl<'a> Bytes<'a> {
         ensures { Gives (λ object. (object, self.new)) result (object_at naming.now self.old) }
     {
         let kind = self.kind()?;
+        self.of_kind(kind, naming)
+    }
+
+    /// What stands behind the kind of an object.
+    #[tactic(auto, unfolding(gd_grammar::specs::ObjectBytes::of_kind_at, gd_grammar::specs::Readers::steps))]
+    pub(crate) fn of_kind(
+        &mut self,
+        kind: Kind,
+        naming: &Option<Naming>,
+    ) -> Result<Object, FieldFault>
+        ensures read { Gives (λ object. (object, self.new)) result
+            (of_kind_at kind naming.now self.old) }
+        ensures kind { IfOk result (λ object. object.kind ≡ kind) }
+    {
         let x = self.signed(PLACE_LIMIT)?;
         let y = self.signed(PLACE_LIMIT)?;
         let w = self.signed(SIZE_LIMIT)?;
         let h = self.signed(SIZE_LIMIT)?;
-        let stroke = self.colour()?;
-        let fill = self.fill()?;
-        let width = self.thin()?;
-        let label = self.label_within(MOST_LABEL)?;
+        let look = self.whole_look()?;
+        let label = self.own_label(kind)?;
+        let ends = self.own_ends(kind, stamp_of(naming))?;
         let link = self.link(naming)?;
         let dissolved = self.flag()?;
         let rank = self.rank(stamp_of(naming))?;
@@ -47,18 +60,28 @@ impl<'a> Bytes<'a> {
             y,
             w,
             h,
-            stroke,
-            fill,
-            width,
+            look,
             label,
+            ends,
             link,
             dissolved,
             rank,
         })
     }
 
+    /// The label of an object of that kind: the one of a group is a title.
+    #[tactic(auto, unfolding(gd_grammar::specs::ObjectBytes::own_label_at))]
+    fn own_label(&mut self, kind: Kind) -> Result<Label, FieldFault>
+        ensures { Gives (λ x. (x, self.new)) result (own_label_at kind self.old) }
+    {
+        match kind {
+            Kind::Group => self.label_within(200),
+            Kind::Shape(_) | Kind::Connector => self.long_label(),
+        }
+    }
+
     #[tactic(auto, unfolding(gd_grammar::specs::ObjectBytes::kind_at, gd_grammar::specs::Readers::steps))]
-    fn kind(&mut self) -> Result<Kind, FieldFault>
+    pub(crate) fn kind(&mut self) -> Result<Kind, FieldFault>
         ensures { Gives (λ kind. (kind, self.new)) result (kind_at self.old) }
     {
         let fault = self.fault(FieldWhy::Field);
@@ -68,26 +91,14 @@ impl<'a> Bytes<'a> {
             3 => Ok(Kind::Shape(Shape::Line)),
             4 => Ok(Kind::Shape(Shape::Text)),
             5 => Ok(Kind::Group),
+            6 => Ok(Kind::Connector),
             _ => Err(fault),
         }
     }
 
-    /// A width, in one byte.
-    #[tactic(auto, unfolding(gd_grammar::specs::ObjectBytes::thin_at, gd_grammar::specs::Readers::steps))]
-    fn thin(&mut self) -> Result<u8, FieldFault>
-        ensures { Gives (λ width. (width, self.new)) result (thin_at self.old) }
-    {
-        let fault = self.fault(FieldWhy::Field);
-        let width = self.byte()?;
-        if width < 1 || width > WIDTH_LIMIT {
-            return Err(fault);
-        }
-        Ok(width)
-    }
-
     /// 0 or 1.
     #[tactic(auto, unfolding(gd_grammar::specs::ObjectBytes::flag_at, gd_grammar::specs::Readers::steps))]
-    fn flag(&mut self) -> Result<bool, FieldFault>
+    pub(crate) fn flag(&mut self) -> Result<bool, FieldFault>
         ensures { Gives (λ flag. (flag, self.new)) result (flag_at self.old) }
     {
         let fault = self.fault(FieldWhy::Field);
@@ -137,6 +148,51 @@ impl<'a> Bytes<'a> {
         Ok(parent)
     }
 
+    /// The ends of an object of that kind: a connector has some.
+    #[tactic(auto, unfolding(gd_grammar::specs::ObjectBytes::own_ends_at))]
+    fn own_ends(&mut self, kind: Kind, stamp: Option<Stamp>) -> Result<Option<Ends>, FieldFault>
+        ensures { Gives (λ ends. (ends, self.new)) result (own_ends_at kind stamp self.old) }
+    {
+        match kind {
+            Kind::Connector => self.joined(stamp),
+            Kind::Shape(_) | Kind::Group => self.ends_or_none(stamp),
+        }
+    }
+
+    /// Ends behind a 1.
+    #[tactic(auto, unfolding(gd_grammar::specs::ObjectBytes::joined_at, gd_grammar::specs::Readers::steps))]
+    fn joined(&mut self, stamp: Option<Stamp>) -> Result<Option<Ends>, FieldFault>
+        ensures { Gives (λ ends. (ends, self.new)) result (joined_at stamp self.old) }
+    {
+        let fault = self.fault(FieldWhy::Field);
+        match self.byte()? {
+            1 => self.some_ends(stamp),
+            _ => Err(fault),
+        }
+    }
+
+    /// Ends behind a 1, or none behind a 0. They are before that stamp, if there is one.
+    #[tactic(auto, unfolding(gd_grammar::specs::ObjectBytes::ends_or_none_at, gd_grammar::specs::Readers::steps))]
+    fn ends_or_none(&mut self, stamp: Option<Stamp>) -> Result<Option<Ends>, FieldFault>
+        ensures { Gives (λ ends. (ends, self.new)) result (ends_or_none_at stamp self.old) }
+    {
+        let fault = self.fault(FieldWhy::Field);
+        match self.byte()? {
+            0 => Ok(None),
+            1 => self.some_ends(stamp),
+            _ => Err(fault),
+        }
+    }
+
+    #[tactic(auto, unfolding(gd_grammar::specs::ObjectBytes::some_ends_at, gd_grammar::specs::Readers::steps))]
+    fn some_ends(&mut self, stamp: Option<Stamp>) -> Result<Option<Ends>, FieldFault>
+        ensures { Gives (λ ends. (ends, self.new)) result (some_ends_at stamp self.old) }
+    {
+        let from = self.given(&stamp)?;
+        let to = self.given(&stamp)?;
+        Ok(Some(Ends { from, to }))
+    }
+
     /// The stamp behind a 1 where it is high, and behind a 0 where it is low. It is before that one, if there is one.
     #[tactic(auto, unfolding(gd_grammar::specs::ObjectBytes::rank_at, gd_grammar::specs::Readers::steps))]
     pub(crate) fn rank(&mut self, stamp: Option<Stamp>) -> Result<Rank, FieldFault>
@@ -145,11 +201,11 @@ impl<'a> Bytes<'a> {
         let fault = self.fault(FieldWhy::Field);
         match self.byte()? {
             0 => {
-                let given = self.given(stamp)?;
+                let given = self.given(&stamp)?;
                 Ok(Rank::Low(given))
             }
             1 => {
-                let given = self.given(stamp)?;
+                let given = self.given(&stamp)?;
                 Ok(Rank::High(given))
             }
             _ => Err(fault),
@@ -157,12 +213,12 @@ impl<'a> Bytes<'a> {
     }
 
     #[tactic(auto, unfolding(gd_grammar::specs::ObjectBytes::given_at))]
-    fn given(&mut self, stamp: Option<Stamp>) -> Result<Stamp, FieldFault>
-        ensures { Gives (λ given. (given, self.new)) result (given_at stamp self.old) }
+    fn given(&mut self, stamp: &Option<Stamp>) -> Result<Stamp, FieldFault>
+        ensures { Gives (λ given. (given, self.new)) result (given_at stamp.now self.old) }
     {
         match stamp {
             None => self.stamp(),
-            Some(stamp) => self.id(stamp),
+            Some(stamp) => self.id(*stamp),
         }
     }
 }
@@ -185,10 +241,9 @@ impl EventBytes {
         ensures grown { length self.new ≤ length self.old + OBJECT_BYTES }
     {
         self.put_form(object);
-        self.put_word(object.stroke);
-        self.put_fill(object.fill);
-        self.put_byte(object.width);
-        self.put_text(object.label.as_str());
+        self.put_look(&object.look);
+        self.put_label(object.label.as_str());
+        self.put_ends(object.ends);
         self.put_link(object.link);
         self.put_flag(object.dissolved);
         self.put_rank(object.rank);
@@ -216,10 +271,11 @@ impl EventBytes {
         match kind {
             Kind::Shape(shape) => self.put_shape(shape),
             Kind::Group => self.put_byte(GROUP),
+            Kind::Connector => self.put_byte(CONNECTOR),
         }
     }
 
-    fn put_flag(&mut self, flag: bool)
+    pub(crate) fn put_flag(&mut self, flag: bool)
         requires { length self.old < EVENT_BYTES }
         ensures bytes { self.new ≡ self.old ++ flag_byte flag ∷ [] }
         ensures grown { length self.new ≡ length self.old + 1 }
@@ -243,6 +299,22 @@ impl EventBytes {
                 self.put_stamp(link.parent);
                 self.put_signed(link.dx);
                 self.put_signed(link.dy);
+            }
+            None => self.put_byte(0),
+        }
+    }
+
+    /// Whether there are ends, and both.
+    fn put_ends(&mut self, ends: Option<Ends>)
+        requires { length self.old + 15 ≤ EVENT_BYTES }
+        ensures bytes { self.new ≡ self.old ++ ends_bytes ends }
+        ensures grown { length self.new ≤ length self.old + 15 }
+    {
+        match ends {
+            Some(ends) => {
+                self.put_byte(1);
+                self.put_stamp(ends.from);
+                self.put_stamp(ends.to);
             }
             None => self.put_byte(0),
         }

@@ -1,6 +1,6 @@
 -- What is read is in its ranges: word by word, and then row by row.
-use Rattle.std.proofs.Common.{◌≡◌, ℕ, zero, suc, ℤ, pos, negsuc, neg_ℤ, nat_abs, ◌+◌, ◌-◌, ◌^◌, ◌<◌, ◌≤◌, Bool, true, false, ◌&&◌, List, [], ◌∷◌, ◌++◌, length, take, drop, Option, Some, None, Ok, Err, nat_lt, nat_le, ◌==◌, if◌then◌else◌, subst, refl, arith}
-use Rattle.std.specs.Prelude.{IfSome, All, Result}
+use Rattle.std.proofs.Common.{◌≡◌, ℕ, zero, suc, ℤ, pos, negsuc, neg_ℤ, nat_abs, ◌+◌, ◌-◌, ◌^◌, ◌<◌, ◌≤◌, Bool, true, false, ◌&&◌, ◌||◌, ◌/◌, List, [], ◌∷◌, ◌++◌, length, take, drop, Option, Some, None, Ok, Err, nat_lt, nat_le, ◌==◌, if◌then◌else◌, subst, refl, arith}
+use Rattle.std.specs.Prelude.{IfSome, All, Result, is_some, unwrap_or}
 use Rattle.std.specs.Bool.{then_some}
 use Rattle.std.specs.List.{fold, list_all, position_or_len}
 use Rattle.std.specs.Option.{option_map, option_and_then}
@@ -9,11 +9,18 @@ use Rattle.std.proofs.lemmas.Bool.Decides.{nat_tests}
 use Rattle.std.proofs.lemmas.List.{length_push}
 use Rattle.std.proofs.lemmas.List.Elements.{All-nil, All-push, recursion_from_All}
 use Rattle.gd_base.specs.Contents.{Said, IsSaid}
-use Rattle.gd_base.specs.Labels.{IsLabel, is_name, is_plain, most_label}
-use Rattle.gd_base.specs.Ranges.{place_limit, size_limit, is_within, is_colour, is_fill, is_width}
+use Rattle.gd_base.specs.Labels.{IsLabel, is_name, is_text, most_label}
+use Rattle.gd_base.specs.Looks.{are_looks, are_numbers, has_look, no_looks}
+use Rattle.gd_base.specs.Ranges.{place_limit, size_limit, is_within, is_colour, is_fill, is_letters, is_opacity, is_round, is_width}
+use Rattle.gd_base.specs.declared.look.Align.{Align}
+use Rattle.gd_base.specs.declared.look.Dash.{Dash}
+use Rattle.gd_base.specs.declared.look.Heads.{Heads}
+use Rattle.gd_base.specs.declared.look.Looks.{Looks}
+use Rattle.gd_base.specs.declared.object.Ends.{Ends}
+use Rattle.gd_base.specs.Typed.{AreEnds}
 use Rattle.gd_base.specs.Sites.{is_site, IsSite}
 use Rattle.gd_base.specs.Stamps.{Stamp, IsStamp}
-use Rattle.gd_base.specs.declared.ranges.TheConstants.{CLOCK_LIMIT, SITES, MOST_MEMBERS, WIDTH_LIMIT}
+use Rattle.gd_base.specs.declared.ranges.TheConstants.{CLOCK_LIMIT, LETTERS_LIMIT, MOST_MEMBERS, OPACITY_LIMIT, ROUND_LIMIT, SITES, WIDTH_LIMIT}
 use Rattle.gd_base.specs.declared.refusal.LineFault.{LineFault}
 use Rattle.gd_base.specs.declared.refusal.LineFault.TheVariants.{BadNumber}
 use Rattle.gd_base.proofs.SiteLemmas.{is_site-bounds}
@@ -21,14 +28,16 @@ use Rattle.gd_lines.specs.declared.command.Command.{Command}
 use Rattle.gd_lines.specs.declared.command.Command.TheVariants as command
 use Rattle.gd_lines.specs.declared.command.ScriptLine.{ScriptLine}
 use Rattle.gd_lines.specs.declared.command.ScriptLine.TheVariants as script
-use Rattle.gd_lines.specs.Edits.{kind_at, place_at, size_at, natural_at, width_at, id_at, colour_at, fill_at, label_at, ids_at, create_words, delete_words, group_words, set_words, place_words, size_words, stroke_words, fill_words, width_words, text_words, edit_rows}
+use Rattle.gd_lines.specs.Edits.{kind_at, place_at, size_at, natural_at, width_at, id_at, colour_at, fill_at, label_at, ids_at, create_words, delete_words, group_words, set_words, place_words, size_words, value_at, look_words, named_at, looks_at, style_words, ends_at, ends_words, connect_words, text_words, pairs, other_rows, look_rows, edit_rows}
 use Rattle.gd_lines.specs.InRange.{IsCommand, IsAsked, IsScriptLine}
 use Rattle.gd_lines.specs.LineWords.{word, behind, without_cr}
 use Rattle.gd_lines.specs.Lines.{focus_at, name_at, focus_words, name_words, asked_rows, command_rows, read}
 use Rattle.gd_lines.specs.Reading.{Reader, next}
 use Rattle.gd_lines.specs.Rows.{by_name, reader_of}
 use Rattle.gd_lines.specs.ScriptLines.{site_at, mail_at, site_words, at_words, send_words, deliver_words, script_rows, read_script}
-use Rattle.gd_lines.specs.WordKinds.{digit, is_digit, push_digit, value, numeral, number, is_between, number_in, natural_in, in_ranges, is_dot, id, colour, fill, focus, label, name}
+use Rattle.gd_lines.specs.declared.look_name.LookName.{LookName}
+use Rattle.gd_lines.specs.declared.look_name.LookName.TheVariants as look
+use Rattle.gd_lines.specs.WordKinds.{unescaped, digit, is_digit, push_digit, value, numeral, number, is_between, number_in, natural_in, in_ranges, is_dot, id, colour, fill, focus, label, name}
 use Rattle.gd_words.proofs.Digits.{push_small}
 use Rattle.gd_words.proofs.Readers.{Yields, Reads, then_reads, pure_reads, fault_reads, any, weaker_yields, by_spelling, AllRead, all_weaker, named_reads, line_reads}
 
@@ -148,14 +157,21 @@ name_in line =
     by_spelling _ _ _ (then_some (is_name (word line)) (word line))
     (then_holds (λ n. is_name n ≡ true) _ (word line) (λ e. e))
 
-label_of : (text : List ℕ) → (nat_le (length text) most_label && is_plain text) ≡ true → IsLabel text
+label_of : (text : List ℕ) → (nat_le (length text) most_label && is_text text) ≡ true → IsLabel text
 label_of text e = grind arith
+
+label_by : (o : Option (List ℕ)) → IfSome (option_and_then (λ t. then_some (nat_le (length t) most_label && is_text t) t) o) IsLabel
+label_by None = tt
+label_by (Some text) = then_holds IsLabel _ text (label_of text)
 
 label_in : (line : List ℕ) → Yields IsLabel (label_at line)
 unfolding label_at label
-label_in line = by_spelling IsLabel _ _ _ (then_holds IsLabel _ (drop 1 line) (label_of (drop 1 line)))
+label_in line = by_spelling IsLabel _ _ _ (label_by (unescaped false (drop 1 line)))
 
 -- ---- readers
+
+natural_read : (low high : ℕ) → Reads (InRange low high) (natural_at low high)
+natural_read low high = record { at = natural_in_range low high }
 
 place_read : Reads (InLimit place_limit) place_at
 unfolding place_at
@@ -205,21 +221,158 @@ size_said : Reads IsSaid size_words
 unfolding size_words
 size_said = then_reads size_read (λ w in_w. then_reads size_read (λ h in_h. pure_reads _ (tt, and_from _ _ in_w in_h)))
 
-stroke_said : Reads IsSaid stroke_words
-unfolding stroke_words
-stroke_said = then_reads colour_read (λ colour is. pure_reads _ (tt, is))
-
-fill_said : Reads IsSaid fill_words
-unfolding fill_words
-fill_said = then_reads fill_read (λ fill is. pure_reads _ (tt, is))
-
-width_said : Reads IsSaid width_words
-unfolding width_words
-width_said = then_reads width_read (λ width is. pure_reads _ (tt, is))
-
 text_said : Reads IsSaid text_words
 unfolding text_words
 text_said = then_reads label_read (λ label is. pure_reads _ (is, refl))
+
+-- ---- looks
+
+-- the parts of looks that are numbers are in their ranges
+abbrev AreNumbers : Looks → Type 0
+AreNumbers l = are_numbers l ≡ true
+
+-- and one is set
+abbrev AreLooks : Looks → Type 0
+AreLooks l = are_looks l ≡ true
+
+or_second : (s t : Bool) → t ≡ true → (s || t) ≡ true
+or_second true t h = refl
+or_second false t h = h
+
+-- a part is set behind two, five, six and seven others
+or_third : (a b t : Bool) → t ≡ true → (a || (b || t)) ≡ true
+or_third a b t h = or_second a _ (or_second b t h)
+
+or_sixth : (a b c d e t : Bool) → t ≡ true → (a || (b || (c || (d || (e || t))))) ≡ true
+or_sixth a b c d e t h = or_third a b _ (or_third c d _ (or_second e t h))
+
+numbers_of : (l : Looks) → AreLooks l → AreNumbers l
+numbers_of l h = (and_parts _ _ h).1
+
+-- six tests that all hold, one by one
+each_six : (a b c d e f : Bool) → (a && (b && (c && (d && (e && f))))) ≡ true
+    → (a ≡ true) × (b ≡ true) × (c ≡ true) × (d ≡ true) × (e ≡ true) × (f ≡ true)
+each_six a b c d e f h =
+    let p = and_parts a (b && (c && (d && (e && f)))) h in
+    let q = and_parts b (c && (d && (e && f))) p.1 in
+    let r = and_parts c (d && (e && f)) q.1 in
+    let s = and_parts d (e && f) r.1 in
+    let t = and_parts e f s.1 in
+    (p.0, q.0, r.0, s.0, t.0, t.1)
+
+all_six : (a b c d e f : Bool) → a ≡ true → b ≡ true → c ≡ true → d ≡ true → e ≡ true → f ≡ true → (a && (b && (c && (d && (e && f))))) ≡ true
+all_six a b c d e f p q r s t u = and_from a _ p (and_from b _ q (and_from c _ r (and_from d _ s (and_from e f t u))))
+
+abbrev SixHold : Looks → Type 0
+SixHold l =
+    (is_colour (unwrap_or l.stroke 0) ≡ true) × (is_fill (unwrap_or l.fill None) ≡ true) × (is_width (unwrap_or l.width 1) ≡ true)
+    × (is_round (unwrap_or l.round None) ≡ true) × (is_opacity (unwrap_or l.opacity 1) ≡ true) × (is_letters (unwrap_or l.letters None) ≡ true)
+
+numbers : (l : Looks) → AreNumbers l → SixHold l
+numbers l h =
+    each_six (is_colour (unwrap_or l.stroke 0)) (is_fill (unwrap_or l.fill None)) (is_width (unwrap_or l.width 1))
+    (is_round (unwrap_or l.round None)) (is_opacity (unwrap_or l.opacity 1)) (is_letters (unwrap_or l.letters None)) h
+
+looks_by : (l : Looks) → has_look l ≡ true → SixHold l → AreLooks l
+looks_by l has h =
+    and_from (has_look l) (are_numbers l) has
+    (all_six (is_colour (unwrap_or l.stroke 0)) (is_fill (unwrap_or l.fill None)) (is_width (unwrap_or l.width 1))
+    (is_round (unwrap_or l.round None)) (is_opacity (unwrap_or l.opacity 1)) (is_letters (unwrap_or l.letters None)) h.0 h.1 h.2 h.3 h.4 h.5)
+
+stroke_put : (l : Looks) (c : ℕ) → AreNumbers l → is_colour c ≡ true → AreLooks (record l { stroke = Some c })
+stroke_put l c h is =
+    let p = numbers l h in
+    looks_by (record l { stroke = Some c }) refl (is, p.1, p.2, p.3, p.4, p.5)
+
+fill_put : (l : Looks) (f : Option ℕ) → AreNumbers l → is_fill f ≡ true → AreLooks (record l { fill = Some f })
+fill_put l f h is =
+    let p = numbers l h in
+    looks_by (record l { fill = Some f }) (or_second (is_some l.stroke) _ refl) (p.0, is, p.2, p.3, p.4, p.5)
+
+width_put : (l : Looks) (n : ℕ) → AreNumbers l → is_width n ≡ true → AreLooks (record l { width = Some n })
+width_put l n h is =
+    let p = numbers l h in
+    looks_by (record l { width = Some n }) (or_third (is_some l.stroke) (is_some l.fill) _ refl) (p.0, p.1, is, p.3, p.4, p.5)
+
+dash_put : (l : Looks) (d : Dash) → AreNumbers l → AreLooks (record l { dash = Some d })
+dash_put l d h = and_from _ _ (or_third (is_some l.stroke) (is_some l.fill) _ (or_second (is_some l.width) _ refl)) h
+
+heads_put : (l : Looks) (d : Heads) → AreNumbers l → AreLooks (record l { heads = Some d })
+heads_put l d h = and_from _ _ (or_third (is_some l.stroke) (is_some l.fill) _ (or_third (is_some l.width) (is_some l.dash) _ refl)) h
+
+round_put : (l : Looks) (n : ℕ) → AreNumbers l → nat_le n ROUND_LIMIT ≡ true → AreLooks (record l { round = Some (Some n) })
+round_put l n h is =
+    let p = numbers l h in
+    looks_by (record l { round = Some (Some n) })
+    (or_sixth (is_some l.stroke) (is_some l.fill) (is_some l.width) (is_some l.dash) (is_some l.heads) _ refl) (p.0, p.1, p.2, is, p.4, p.5)
+
+opacity_put : (l : Looks) (n : ℕ) → AreNumbers l → is_opacity n ≡ true → AreLooks (record l { opacity = Some n })
+opacity_put l n h is =
+    let p = numbers l h in
+    looks_by (record l { opacity = Some n })
+    (or_sixth (is_some l.stroke) (is_some l.fill) (is_some l.width) (is_some l.dash) (is_some l.heads) _ (or_second (is_some l.round) _ refl))
+    (p.0, p.1, p.2, p.3, is, p.5)
+
+letters_put : (l : Looks) (n : ℕ) → AreNumbers l → is_letters (Some n) ≡ true → AreLooks (record l { letters = Some (Some n) })
+letters_put l n h is =
+    let p = numbers l h in
+    looks_by (record l { letters = Some (Some n) })
+    (or_sixth (is_some l.stroke) (is_some l.fill) (is_some l.width) (is_some l.dash) (is_some l.heads) _ (or_third (is_some l.round) (is_some l.opacity) _ refl))
+    (p.0, p.1, p.2, p.3, p.4, is)
+
+align_put : (l : Looks) (a : Option Align) → AreNumbers l → AreLooks (record l { align = Some a })
+align_put l a h =
+    and_from _ _ (or_sixth (is_some l.stroke) (is_some l.fill) (is_some l.width) (is_some l.dash) (is_some l.heads) _
+    (or_third (is_some l.round) (is_some l.opacity) _ (or_second (is_some l.letters) _ refl))) h
+
+value_read : (name : LookName) (l : Looks) → AreNumbers l → Reads AreLooks (value_at name l)
+unfolding value_at
+value_read look.Stroke l h = then_reads colour_read (λ c is. pure_reads _ (stroke_put l c h is))
+value_read look.Fill l h = then_reads fill_read (λ f is. pure_reads _ (fill_put l f h is))
+value_read look.Width l h = then_reads width_read (λ n is. pure_reads _ (width_put l n h is))
+value_read look.Dash l h = then_reads (any _) (λ d is. pure_reads _ (dash_put l d h))
+value_read look.Heads l h = then_reads (any _) (λ d is. pure_reads _ (heads_put l d h))
+value_read look.Round l h = then_reads (natural_read 0 ROUND_LIMIT) (λ n is. pure_reads _ (round_put l n h (and_parts _ _ is).1))
+value_read look.Opacity l h = then_reads (natural_read 1 OPACITY_LIMIT) (λ n is. pure_reads _ (opacity_put l n h is))
+value_read look.Size l h = then_reads (natural_read 1 LETTERS_LIMIT) (λ n is. pure_reads _ (letters_put l n h is))
+value_read look.Align l h = then_reads (any _) (λ a is. pure_reads _ (align_put l (Some a) h))
+
+named_read : (l : Looks) → AreNumbers l → Reads AreLooks (named_at l)
+unfolding named_at
+named_read l h = then_reads (any _) (λ name a. value_read name l h)
+
+more_read : (count : ℕ) (l : Looks) → AreLooks l → Reads AreLooks (looks_at count l)
+unfolding looks_at
+more_read zero l h = pure_reads _ h
+more_read (suc count) l h = then_reads (named_read l (numbers_of l h)) (λ m is. more_read count m is)
+
+looks_read : (count : ℕ) → 0 < count → Reads AreLooks (looks_at count no_looks)
+unfolding looks_at
+looks_read zero some = absurd (omega (arith, some))
+looks_read (suc count) some = then_reads (named_read no_looks refl) (λ m is. more_read count m is)
+
+look_said : (name : LookName) → Reads IsSaid (look_words name)
+unfolding look_words
+look_said name = then_reads (value_read name no_looks refl) (λ l is. pure_reads _ (tt, is))
+
+style_said : (n : ℕ) → pairs n ≡ true → Reads IsSaid (style_words ((n - 1) / 2))
+unfolding style_words
+style_said n fit =
+    let least : 3 ≤ n = grind arith in
+    then_reads (looks_read ((n - 1) / 2) (omega (arith, least))) (λ l is. pure_reads _ (tt, is))
+
+-- ---- ends
+
+BothStamps : Ends → Type 0
+BothStamps ends = AreEnds (Some ends)
+
+ends_read : Reads BothStamps ends_at
+unfolding ends_at BothStamps
+ends_read = then_reads id_read (λ first is_first. then_reads id_read (λ second is_second. pure_reads _ (is_first, is_second)))
+
+ends_said : Reads IsSaid ends_words
+unfolding ends_words BothStamps
+ends_said = then_reads ends_read (λ ends are. pure_reads _ (are, refl))
 
 -- ---- edits
 
@@ -246,9 +399,74 @@ group_read n fit =
     then_reads (ids_read n n [] (omega arith) (All-nil IsStamp)) (λ ids are.
     pure_reads _ ((omega (arith, are.0, least), omega (arith, are.0, most), recursion_from_All IsStamp ids are.1), tt))
 
+connect_read : Reads IsFit connect_words
+unfolding connect_words
+connect_read =
+    then_reads id_read (λ first is_first. then_reads id_read (λ second is_second. then_reads label_read (λ label is.
+    pure_reads _ (((is_first, is_second), is), tt))))
+
 set_read : {content : Reader Said} → Reads IsSaid content → Reads IsFit (set_words content)
 unfolding set_words
 set_read said = then_reads id_read (λ id is. then_reads said (λ c in_range. pure_reads _ ((is, in_range), tt)))
+
+others_read : AllRead IsFit other_rows
+unfolding AllRead other_rows
+others_read = (
+  λ n fit. set_read text_said,
+  (
+    λ n fit. connect_read,
+    (
+      λ n fit. set_read ends_said,
+      (
+        λ n fit. group_read n fit,
+        (
+          λ n fit. set_read (pure_reads _ (tt, refl)),
+          (
+            λ n fit. set_read (pure_reads _ (tt, refl)),
+            (
+              λ n fit. set_read (pure_reads _ (tt, refl)),
+              tt,
+            ),
+          ),
+        ),
+      ),
+    ),
+  ),
+)
+
+styles_read : AllRead IsFit look_rows
+unfolding AllRead look_rows
+styles_read = (
+  λ n fit. set_read (look_said look.Stroke),
+  (
+    λ n fit. set_read (look_said look.Fill),
+    (
+      λ n fit. set_read (look_said look.Width),
+      (
+        λ n fit. set_read (look_said look.Dash),
+        (
+          λ n fit. set_read (look_said look.Heads),
+          (
+            λ n fit. set_read (look_said look.Round),
+            (
+              λ n fit. set_read (look_said look.Opacity),
+              (
+                λ n fit. set_read (look_said look.Size),
+                (
+                  λ n fit. set_read (look_said look.Align),
+                  (
+                    λ n fit. set_read (style_said n fit),
+                    others_read,
+                  ),
+                ),
+              ),
+            ),
+          ),
+        ),
+      ),
+    ),
+  ),
+)
 
 edits_read : AllRead IsFit edit_rows
 unfolding AllRead edit_rows
@@ -260,31 +478,7 @@ edits_read = (
       λ n fit. set_read place_said,
       (
         λ n fit. set_read size_said,
-        (
-          λ n fit. set_read stroke_said,
-          (
-            λ n fit. set_read fill_said,
-            (
-              λ n fit. set_read width_said,
-              (
-                λ n fit. set_read text_said,
-                (
-                  λ n fit. group_read n fit,
-                  (
-                    λ n fit. set_read (pure_reads _ (tt, refl)),
-                    (
-                      λ n fit. set_read (pure_reads _ (tt, refl)),
-                      (
-                        λ n fit. set_read (pure_reads _ (tt, refl)),
-                        tt,
-                      ),
-                    ),
-                  ),
-                ),
-              ),
-            ),
-          ),
-        ),
+        styles_read,
       ),
     ),
   ),

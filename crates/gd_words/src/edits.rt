@@ -2,17 +2,22 @@
 #![tactic(auto, unfolding(crate::proofs::Opened::reading))]
 
 ghost use Rattle.std.specs.Prelude.{◌≡◌, ◌≤◌};
+ghost use Rattle.gd_base.specs.Looks.{no_looks};
 ghost use Rattle.gd_base.specs.Results.{Gives};
 ghost use Rattle.gd_base.specs.declared.ranges.TheConstants.{MOST_MEMBERS};
-ghost use Rattle.gd_lines.specs.Edits.{create_words, delete_words, edit_rows, fill_words, group_words, place_words, set_words, size_words, stroke_words, text_words, width_words};
+ghost use Rattle.gd_lines.specs.Edits.{connect_words, create_words, delete_words, edit_rows, ends_at, ends_words, group_words, look_rows, look_words, looks_at, named_at, other_rows, pairs};
+ghost use Rattle.gd_lines.specs.Edits.{place_words, set_words, size_words, style_words, text_words, value_at};
 ghost use Rattle.gd_lines.specs.Reading.{pure};
 ghost use Rattle.gd_lines.specs.Rows.{by_name};
 ghost use Rattle.gd_words.specs.Asked.{Asks};
 
 use crate::rows::{Asked, by_name};
 use crate::words::Words;
-use gd_base::{Content, Edit, Label, LineFault, MOST_MEMBERS, Side};
-use gd_lines::Command;
+use gd_base::{
+    Content, Edit, Ends, LETTERS_LIMIT, Label, LineFault, Looks, MOST_MEMBERS, OPACITY_LIMIT,
+    ROUND_LIMIT, Side,
+};
+use gd_lines::{Command, LookName};
 
 /// The edit of that name, with the `count` words behind it.
 #[tactic(auto, unfolding(gd_lines::specs::Rows::by_name, gd_lines::specs::Edits::edit_rows))]
@@ -24,10 +29,39 @@ pub(crate) fn edit(words: &mut Words<'_>, name: &[u8], count: usize) -> Asked<Co
         b"delete", count == 1 => delete(words),
         b"move", count == 3 => set_place(words),
         b"resize", count == 3 => set_size(words),
-        b"stroke", count == 2 => set_stroke(words),
-        b"fill", count == 2 => set_fill(words),
-        b"width", count == 2 => set_width(words),
+        _ => look_edit(words, name, count)
+    }
+}
+
+/// Of looks, and then the others.
+#[tactic(auto, unfolding(gd_lines::specs::Rows::by_name, gd_lines::specs::Edits::look_rows))]
+fn look_edit(words: &mut Words<'_>, name: &[u8], count: usize) -> Asked<Command>
+    ensures { Asks (λ c. (c, words.new)) result (by_name look_rows name.now count) words.old }
+{
+    by_name! { name;
+        b"stroke", count == 2 => set_look(words, LookName::Stroke),
+        b"fill", count == 2 => set_look(words, LookName::Fill),
+        b"width", count == 2 => set_look(words, LookName::Width),
+        b"dash", count == 2 => set_look(words, LookName::Dash),
+        b"heads", count == 2 => set_look(words, LookName::Heads),
+        b"round", count == 2 => set_look(words, LookName::Round),
+        b"opacity", count == 2 => set_look(words, LookName::Opacity),
+        b"size", count == 2 => set_look(words, LookName::Size),
+        b"align", count == 2 => set_look(words, LookName::Align),
+        b"style", are_pairs(count) => set_style(words, (count - 1) / 2),
+        _ => other_edit(words, name, count)
+    }
+}
+
+/// Of texts, connectors, groups and the stack.
+#[tactic(auto, unfolding(gd_lines::specs::Rows::by_name, gd_lines::specs::Edits::other_rows))]
+fn other_edit(words: &mut Words<'_>, name: &[u8], count: usize) -> Asked<Command>
+    ensures { Asks (λ c. (c, words.new)) result (by_name other_rows name.now count) words.old }
+{
+    by_name! { name;
         b"text", count >= 1 => set_text(words),
+        b"connect", count >= 2 => connect(words),
+        b"reconnect", count == 3 => set_ends(words),
         b"group", count >= 2 && count <= MOST_MEMBERS => group(words, count),
         b"ungroup", count == 1 => set(words, Content::ToFlag(true)),
         b"raise", count == 1 => set(words, Content::ToRank(Side::Top)),
@@ -65,7 +99,7 @@ fn group(words: &mut Words<'_>, count: usize) -> Result<Command, LineFault>
 }
 
 /// An id, and what is set without further words.
-fn set(words: &mut Words<'_>, content: Content<Label, Side>) -> Result<Command, LineFault>
+fn set(words: &mut Words<'_>, content: Content<Label, Looks, Side>) -> Result<Command, LineFault>
     ensures { Gives (λ c. (c, words.new)) result (set_words (pure content) words.old) }
 {
     Ok(Command::Edit(Edit::Set {
@@ -98,31 +132,123 @@ fn set_size(words: &mut Words<'_>) -> Result<Command, LineFault>
     }))
 }
 
-fn set_stroke(words: &mut Words<'_>) -> Result<Command, LineFault>
-    ensures { Gives (λ c. (c, words.new)) result (set_words stroke_words words.old) }
+/// Whether so many words are an id and 1 to 9 pairs of a name and a value.
+fn are_pairs(count: usize) -> bool
+    ensures { result ≡ pairs count }
 {
-    Ok(Command::Edit(Edit::Set {
-        id: words.id()?,
-        content: Content::ToStroke(words.colour()?),
-    }))
+    count % 2 == 1 && 3 <= count && count <= 19
 }
 
-fn set_fill(words: &mut Words<'_>) -> Result<Command, LineFault>
-    ensures { Gives (λ c. (c, words.new)) result (set_words fill_words words.old) }
+/// One part of a look.
+fn set_look(words: &mut Words<'_>, name: LookName) -> Result<Command, LineFault>
+    ensures { Gives (λ c. (c, words.new)) result (set_words (look_words name) words.old) }
 {
-    Ok(Command::Edit(Edit::Set {
-        id: words.id()?,
-        content: Content::ToFill(words.fill()?),
-    }))
+    let id = words.id()?;
+    let looks = value(words, name, Looks::none())?;
+    let content = Content::ToLooks(looks);
+    Ok(Command::Edit(Edit::Set { id, content }))
 }
 
-fn set_width(words: &mut Words<'_>) -> Result<Command, LineFault>
-    ensures { Gives (λ c. (c, words.new)) result (set_words width_words words.old) }
+/// So many parts of a look.
+fn set_style(words: &mut Words<'_>, count: usize) -> Result<Command, LineFault>
+    ensures { Gives (λ c. (c, words.new)) result (set_words (style_words count) words.old) }
 {
-    Ok(Command::Edit(Edit::Set {
-        id: words.id()?,
-        content: Content::ToWidth(words.width()?),
-    }))
+    let id = words.id()?;
+    let looks = looks(words, count)?;
+    let content = Content::ToLooks(looks);
+    Ok(Command::Edit(Edit::Set { id, content }))
+}
+
+fn looks(words: &mut Words<'_>, count: usize) -> Result<Looks, LineFault>
+    ensures { Gives (λ l. (l, words.new)) result (looks_at count no_looks words.old) }
+{
+    let mut looks = Looks::none();
+    for _ in 0..count {
+        let more = named(words, looks)?;
+        looks = more;
+    }
+    Ok(looks)
+}
+
+/// A name that wasn't named yet, and its value.
+fn named(words: &mut Words<'_>, looks: Looks) -> Result<Looks, LineFault>
+    ensures { Gives (λ l. (l, words.new)) result (named_at looks words.old) }
+{
+    let name = words.new_name(&looks)?;
+    value(words, name, looks)
+}
+
+/// The value of a part of a look, with those that were read.
+#[tactic(auto, unfolding(crate::proofs::Opened::reading, gd_lines::specs::Edits::value_at))]
+fn value(words: &mut Words<'_>, name: LookName, looks: Looks) -> Result<Looks, LineFault>
+    ensures { Gives (λ l. (l, words.new)) result (value_at name looks words.old) }
+{
+    match name {
+        LookName::Stroke => {
+            let stroke = Some(words.colour()?);
+            Ok(Looks { stroke, ..looks })
+        }
+        LookName::Fill => {
+            let fill = Some(words.fill()?);
+            Ok(Looks { fill, ..looks })
+        }
+        LookName::Width => {
+            let width = Some(words.width()?);
+            Ok(Looks { width, ..looks })
+        }
+        LookName::Dash => {
+            let dash = Some(words.dash()?);
+            Ok(Looks { dash, ..looks })
+        }
+        LookName::Heads => {
+            let heads = Some(words.heads()?);
+            Ok(Looks { heads, ..looks })
+        }
+        LookName::Round => {
+            let round = Some(Some(words.natural(0, ROUND_LIMIT)?));
+            Ok(Looks { round, ..looks })
+        }
+        LookName::Opacity => {
+            let opacity = Some(words.natural(1, u32::from(OPACITY_LIMIT))? as u8);
+            Ok(Looks { opacity, ..looks })
+        }
+        LookName::Size => {
+            let letters = Some(Some(words.natural(1, u32::from(LETTERS_LIMIT))? as u16));
+            Ok(Looks { letters, ..looks })
+        }
+        LookName::Align => {
+            let align = Some(Some(words.alignment()?));
+            Ok(Looks { align, ..looks })
+        }
+    }
+}
+
+fn connect(words: &mut Words<'_>) -> Result<Command, LineFault>
+    ensures { Gives (λ c. (c, words.new)) result (connect_words words.old) }
+{
+    let from = words.id()?;
+    let to = words.id()?;
+    let label = words.label()?;
+    let ends = Ends { from, to };
+    Ok(Command::Edit(Edit::Connect { ends, label }))
+}
+
+#[tactic(auto, unfolding(crate::proofs::Opened::reading, gd_lines::specs::Edits::ends_at))]
+fn ends(words: &mut Words<'_>) -> Result<Ends, LineFault>
+    ensures { Gives (λ e. (e, words.new)) result (ends_at words.old) }
+{
+    let from = words.id()?;
+    let to = words.id()?;
+    Ok(Ends { from, to })
+}
+
+fn set_ends(words: &mut Words<'_>) -> Result<Command, LineFault>
+    ensures { Gives (λ c. (c, words.new)) result (set_words ends_words words.old) }
+{
+    let id = words.id()?;
+    let ends = ends(words)?;
+    let content = Content::ToEnds(Some(ends));
+    Ok(Command::Edit(Edit::Set { id, content }))
 }
 
 fn set_text(words: &mut Words<'_>) -> Result<Command, LineFault>

@@ -1,22 +1,28 @@
 //! Operations, as they are printed.
 
 ghost use Rattle.std.specs.List.{flat_map};
-ghost use Rattle.std.specs.Prelude.{◌≡◌, ◌≤◌, ◌+◌, ◌*◌, ◌++◌, decimal, length};
-ghost use Rattle.gd_lines.specs.OpText.{behind_text, command_text, content_text, dissolved_text, kind_text, link_text, member_text, op_text, rank_text, spaced, state_text, tie_text, two_text, whole_text};
+ghost use Rattle.std.specs.Prelude.{◌≡◌, ◌≤◌, ◌+◌, ◌*◌, ◌++◌, codes, decimal, is_some, length};
+ghost use Rattle.std.specs.Int.{from_bool};
+ghost use Rattle.gd_lines.specs.OpText.{align_or_none, behind_text, both_text, command_text, content_text, dash_word, dissolved_text, ends_text, heads_word, looks_text};
+ghost use Rattle.gd_lines.specs.OpText.{kind_text, number_or_none, parts_of, link_text, member_text, op_text, rank_text, spaced, state_text, tie_text, two_text, whole_text};
 ghost use Rattle.gd_lines.specs.Text.{colour_text, fill_text, shape_word};
+ghost use Rattle.gd_words.specs.Told.{led_text, named_text, part_text};
 ghost use Rattle.gd_words.specs.declared.reply_text.TheConstants.{LONGEST_REPLY};
 
 use crate::colours::push_colour;
-use crate::items::{push_fill, push_label, shape_word};
+use crate::items::{align_word, push_escaped, push_fill, push_label, push_marks, shape_word};
 use crate::reply_text::ReplyText;
-use gd_base::{Content, Height, Kind, Label, Link, Member, Object, Rank, Shape, Side, Stamp, Tie};
+use gd_base::{
+    Align, Content, Dash, Ends, Heads, Height, Kind, Label, Link, Looks, Member, Object, Rank,
+    Shape, Side, Stamp, Tie,
+};
 use gd_events::Op;
 
-/// Appends the operation, of at most 4,800 bytes.
+/// Appends the operation, of at most 6,400 bytes.
 pub(crate) fn push_op(text: &mut ReplyText, op: &Op)
-    requires room { length text.old + 4800 ≤ LONGEST_REPLY }
+    requires room { length text.old + 6400 ≤ LONGEST_REPLY }
     ensures value { text.new ≡ text.old ++ op_text op.now }
-    ensures grown { length text.new ≤ length text.old + 4800 }
+    ensures grown { length text.new ≤ length text.old + 6400 }
 {
     match op {
         Op::Create {
@@ -38,12 +44,17 @@ pub(crate) fn push_op(text: &mut ReplyText, op: &Op)
             text.word(b"group");
             push_members(text, members.as_slice());
         }
+        Op::Connect { ends, label } => {
+            text.word(b"connect");
+            push_both(text, *ends);
+            push_behind(text, label);
+        }
         Op::Restore { id, object, ties } => {
             push_command(text, b"restore", *id);
             push_whole(text, object);
             push_state(text, object);
             push_ties(text, ties.as_slice());
-            push_label(text, &object.label);
+            push_label(text, object.label.as_str());
         }
         Op::Disband { id, ties } => {
             push_command(text, b"disband", *id);
@@ -53,10 +64,10 @@ pub(crate) fn push_op(text: &mut ReplyText, op: &Op)
 }
 
 /// Appends what sets a content of the object of that id.
-fn push_content(text: &mut ReplyText, id: Stamp, content: &Content<Label, Height>)
-    requires room { length text.old + 300 ≤ LONGEST_REPLY }
+fn push_content(text: &mut ReplyText, id: Stamp, content: &Content<Label, Looks, Height>)
+    requires room { length text.old + 1100 ≤ LONGEST_REPLY }
     ensures value { text.new ≡ text.old ++ content_text id content.now }
-    ensures grown { length text.new ≤ length text.old + 300 }
+    ensures grown { length text.new ≤ length text.old + 1100 }
 {
     match content {
         Content::ToPlace { x, y } => {
@@ -67,33 +78,273 @@ fn push_content(text: &mut ReplyText, id: Stamp, content: &Content<Label, Height
             push_command(text, b"resize", id);
             push_two(text, *w, *h);
         }
-        Content::ToStroke(colour) => {
-            push_command(text, b"stroke", id);
-            text.word(b" ");
-            push_colour(text, *colour);
-        }
-        Content::ToFill(fill) => {
-            push_command(text, b"fill", id);
-            text.word(b" ");
-            push_fill(text, *fill);
-        }
-        Content::ToWidth(width) => {
-            push_command(text, b"width", id);
-            text.word(b" ");
-            text.number(u64::from(*width));
-        }
+        Content::ToLooks(looks) => push_looks(text, id, looks),
         Content::ToText(label) => {
             push_command(text, b"text", id);
             push_behind(text, label);
         }
         Content::ToFlag(true) => push_command(text, b"ungroup", id),
         Content::ToFlag(false) => push_command(text, b"reopen", id),
+        Content::ToEnds(ends) => {
+            push_command(text, b"reconnect", id);
+            push_ends(text, *ends);
+        }
         Content::ToRank(Height::To(Side::Top)) => push_command(text, b"raise", id),
         Content::ToRank(Height::To(Side::Bottom)) => push_command(text, b"lower", id),
         Content::ToRank(Height::At(rank)) => {
             push_command(text, b"rerank", id);
             push_rank(text, *rank);
         }
+    }
+}
+
+/// Appends what sets looks: a lone part in the words of its line, and others in those of a style.
+fn push_looks(text: &mut ReplyText, id: Stamp, looks: &Looks)
+    requires room { length text.old + 652 ≤ LONGEST_REPLY }
+    ensures value { text.new ≡ text.old ++ looks_text id (parts_of looks.now) }
+    ensures grown { length text.new ≤ length text.old + 652 }
+{
+    let count = count_of(looks);
+    if count == 1 {
+        push_pairs(text, &Some(id), looks);
+        return;
+    }
+    push_command(text, b"style", id);
+    push_pairs(text, &None, looks);
+}
+
+/// How many parts are set.
+fn count_of(looks: &Looks) -> usize
+    ensures { result ≡ length (parts_of looks.now) }
+{
+    one_of(&looks.stroke)
+        + one_of(&looks.fill)
+        + one_of(&looks.width)
+        + one_of(&looks.dash)
+        + one_of(&looks.heads)
+        + one_of(&looks.round)
+        + one_of(&looks.opacity)
+        + one_of(&looks.letters)
+        + one_of(&looks.align)
+}
+
+/// One where it is set, else zero.
+fn one_of<T>(part: &Option<T>) -> usize
+    ensures count { result ≡ from_bool (is_some part.now) }
+    ensures bound { result ≤ 1 }
+{
+    if part.is_some() { 1 } else { 0 }
+}
+
+/// Appends each part that is set: its name, and the id behind that where there is one, and its value.
+fn push_pairs(text: &mut ReplyText, id: &Option<Stamp>, looks: &Looks)
+    requires room { length text.old + 600 ≤ LONGEST_REPLY }
+    ensures value { text.new ≡ text.old ++ flat_map (led_text id.now) (parts_of looks.now) }
+    ensures grown { length text.new ≤ length text.old + 600 }
+{
+    push_stroke_part(text, id, looks.stroke);
+    push_fill_part(text, id, looks.fill);
+    push_number_part(text, id, b"width", looks.width);
+    push_dash_part(text, id, looks.dash);
+    push_heads_part(text, id, looks.heads);
+    push_round_part(text, id, looks.round);
+    push_number_part(text, id, b"opacity", looks.opacity);
+    push_size_part(text, id, looks.letters);
+    push_align_part(text, id, looks.align);
+}
+
+fn push_stroke_part(text: &mut ReplyText, id: &Option<Stamp>, stroke: Option<u32>)
+    requires room { length text.old + 62 ≤ LONGEST_REPLY }
+    ensures value { text.new ≡ text.old ++ part_text id.now (codes "stroke") colour_text stroke }
+    ensures grown { length text.new ≤ length text.old + 62 }
+{
+    if let Some(stroke) = stroke {
+        push_name(text, b"stroke", id);
+        push_colour(text, stroke);
+    }
+}
+
+fn push_fill_part(text: &mut ReplyText, id: &Option<Stamp>, fill: Option<Option<u32>>)
+    requires room { length text.old + 62 ≤ LONGEST_REPLY }
+    ensures value { text.new ≡ text.old ++ part_text id.now (codes "fill") fill_text fill }
+    ensures grown { length text.new ≤ length text.old + 62 }
+{
+    if let Some(fill) = fill {
+        push_name(text, b"fill", id);
+        push_fill(text, fill);
+    }
+}
+
+/// Appends a part whose value is a byte.
+fn push_number_part(text: &mut ReplyText, id: &Option<Stamp>, name: &[u8], number: Option<u8>)
+    requires room { length text.old + 74 ≤ LONGEST_REPLY }
+    requires short { length name.now ≤ 10 }
+    ensures value { text.new ≡ text.old ++ part_text id.now name.now decimal number }
+    ensures grown { length text.new ≤ length text.old + 74 }
+{
+    if let Some(number) = number {
+        push_name(text, name, id);
+        text.number(u64::from(number));
+    }
+}
+
+fn push_dash_part(text: &mut ReplyText, id: &Option<Stamp>, dash: Option<Dash>)
+    requires room { length text.old + 60 ≤ LONGEST_REPLY }
+    ensures value { text.new ≡ text.old ++ part_text id.now (codes "dash") dash_word dash }
+    ensures grown { length text.new ≤ length text.old + 60 }
+{
+    if let Some(dash) = dash {
+        push_name(text, b"dash", id);
+        text.word(dash_word(dash));
+    }
+}
+
+fn push_heads_part(text: &mut ReplyText, id: &Option<Stamp>, heads: Option<Heads>)
+    requires room { length text.old + 60 ≤ LONGEST_REPLY }
+    ensures value { text.new ≡ text.old ++ part_text id.now (codes "heads") heads_word heads }
+    ensures grown { length text.new ≤ length text.old + 60 }
+{
+    if let Some(heads) = heads {
+        push_name(text, b"heads", id);
+        text.word(heads_word(heads));
+    }
+}
+
+fn push_round_part(text: &mut ReplyText, id: &Option<Stamp>, round: Option<Option<u32>>)
+    requires room { length text.old + 74 ≤ LONGEST_REPLY }
+    ensures value { text.new ≡ text.old ++ part_text id.now (codes "round") number_or_none round }
+    ensures grown { length text.new ≤ length text.old + 74 }
+{
+    if let Some(round) = round {
+        push_name(text, b"round", id);
+        push_round(text, round);
+    }
+}
+
+fn push_size_part(text: &mut ReplyText, id: &Option<Stamp>, letters: Option<Option<u16>>)
+    requires room { length text.old + 74 ≤ LONGEST_REPLY }
+    ensures value { text.new ≡ text.old ++ part_text id.now (codes "size") number_or_none letters }
+    ensures grown { length text.new ≤ length text.old + 74 }
+{
+    if let Some(letters) = letters {
+        push_name(text, b"size", id);
+        push_letters(text, letters);
+    }
+}
+
+fn push_align_part(text: &mut ReplyText, id: &Option<Stamp>, align: Option<Option<Align>>)
+    requires room { length text.old + 60 ≤ LONGEST_REPLY }
+    ensures value { text.new ≡ text.old ++ part_text id.now (codes "align") align_or_none align }
+    ensures grown { length text.new ≤ length text.old + 60 }
+{
+    if let Some(align) = align {
+        push_name(text, b"align", id);
+        text.word(align_or_none(align));
+    }
+}
+
+/// Appends the name of a part in front of its value: that of a line with its id, or behind a space.
+fn push_name(text: &mut ReplyText, name: &[u8], id: &Option<Stamp>)
+    requires room { length text.old + 54 ≤ LONGEST_REPLY }
+    requires short { length name.now ≤ 10 }
+    ensures value { text.new ≡ text.old ++ named_text id.now name.now ++ codes " " }
+    ensures grown { length text.new ≤ length text.old + 54 }
+{
+    push_called(text, name, id);
+    text.word(b" ");
+}
+
+fn push_called(text: &mut ReplyText, name: &[u8], id: &Option<Stamp>)
+    requires room { length text.old + 53 ≤ LONGEST_REPLY }
+    requires short { length name.now ≤ 10 }
+    ensures value { text.new ≡ text.old ++ named_text id.now name.now }
+    ensures grown { length text.new ≤ length text.old + 53 }
+{
+    match id {
+        Some(id) => push_command(text, name, *id),
+        None => {
+            text.word(b" ");
+            text.word(name);
+        }
+    }
+}
+
+/// Appends how round corners are, or that it is as the kind has it.
+fn push_round(text: &mut ReplyText, round: Option<u32>)
+    requires room { length text.old + 20 ≤ LONGEST_REPLY }
+    ensures value { text.new ≡ text.old ++ number_or_none round }
+    ensures grown { length text.new ≤ length text.old + 20 }
+{
+    match round {
+        Some(round) => text.number(u64::from(round)),
+        None => text.word(b"none"),
+    }
+}
+
+/// Appends how large letters are, or that it is as the kind has it.
+fn push_letters(text: &mut ReplyText, letters: Option<u16>)
+    requires room { length text.old + 20 ≤ LONGEST_REPLY }
+    ensures value { text.new ≡ text.old ++ number_or_none letters }
+    ensures grown { length text.new ≤ length text.old + 20 }
+{
+    match letters {
+        Some(letters) => text.number(u64::from(letters)),
+        None => text.word(b"none"),
+    }
+}
+
+fn align_or_none(align: Option<Align>) -> &'static [u8]
+    ensures word { result.now ≡ align_or_none align }
+    ensures short { length result.now ≤ 6 }
+{
+    match align {
+        Some(align) => align_word(align),
+        None => b"none",
+    }
+}
+
+fn dash_word(dash: Dash) -> &'static [u8]
+    ensures word { result.now ≡ dash_word dash }
+    ensures short { length result.now ≤ 6 }
+{
+    match dash {
+        Dash::Solid => b"solid",
+        Dash::Dashed => b"dashed",
+        Dash::Dotted => b"dotted",
+    }
+}
+
+fn heads_word(heads: Heads) -> &'static [u8]
+    ensures word { result.now ≡ heads_word heads }
+    ensures short { length result.now ≤ 5 }
+{
+    match heads {
+        Heads::Bare => b"none",
+        Heads::AtEnd => b"end",
+        Heads::AtStart => b"start",
+        Heads::AtBoth => b"both",
+    }
+}
+
+/// Appends the ends of a connector, each behind a space.
+fn push_both(text: &mut ReplyText, ends: Ends)
+    requires room { length text.old + 84 ≤ LONGEST_REPLY }
+    ensures value { text.new ≡ text.old ++ both_text ends }
+    ensures grown { length text.new ≤ length text.old + 84 }
+{
+    text.word(b" ");
+    text.id(ends.from);
+    text.word(b" ");
+    text.id(ends.to);
+}
+
+fn push_ends(text: &mut ReplyText, ends: Option<Ends>)
+    requires room { length text.old + 84 ≤ LONGEST_REPLY }
+    ensures value { text.new ≡ text.old ++ ends_text ends }
+    ensures grown { length text.new ≤ length text.old + 84 }
+{
+    if let Some(ends) = ends {
+        push_both(text, ends);
     }
 }
 
@@ -134,16 +385,16 @@ fn push_box(text: &mut ReplyText, x: i32, y: i32, w: i32, h: i32)
 
 /// Appends a label as a line that asks for it has it.
 fn push_behind(text: &mut ReplyText, label: &Label)
-    requires room { length text.old + 201 ≤ LONGEST_REPLY }
+    requires room { length text.old + 1001 ≤ LONGEST_REPLY }
     ensures value { text.new ≡ text.old ++ behind_text label.now }
-    ensures grown { length text.new ≤ length text.old + 201 }
+    ensures grown { length text.new ≤ length text.old + 1001 }
 {
     let label = label.as_str();
     if label.is_empty() {
         return;
     }
     text.word(b" ");
-    text.word(label.as_bytes());
+    push_escaped(text, label);
 }
 
 fn push_members(text: &mut ReplyText, members: &[Member])
@@ -224,13 +475,20 @@ fn push_rank(text: &mut ReplyText, rank: Rank)
 /// Appends what an object is, where it stands, and how it looks.
 #[tactic(auto, unfolding(gd_lines::specs::OpText::whole_text))]
 fn push_whole(text: &mut ReplyText, object: &Object)
-    requires room { length text.old + 131 ≤ LONGEST_REPLY }
+    requires room { length text.old + 360 ≤ LONGEST_REPLY }
     ensures value { text.new ≡ text.old ++ whole_text object.now }
-    ensures grown { length text.new ≤ length text.old + 131 }
+    ensures grown { length text.new ≤ length text.old + 360 }
 {
     push_kind(text, object.kind);
+    push_ends(text, object.ends);
     push_box(text, object.x, object.y, object.w, object.h);
-    push_look(text, object.stroke, object.fill, object.width);
+    push_look(
+        text,
+        object.look.stroke,
+        object.look.fill,
+        object.look.width,
+    );
+    push_marks(text, &object.look);
 }
 
 /// Appends the colours and the width, each behind a space.
@@ -249,12 +507,13 @@ fn push_look(text: &mut ReplyText, stroke: u32, fill: Option<u32>, width: u8)
 }
 
 fn push_kind(text: &mut ReplyText, kind: Kind)
-    requires room { length text.old + 8 ≤ LONGEST_REPLY }
+    requires room { length text.old + 10 ≤ LONGEST_REPLY }
     ensures value { text.new ≡ text.old ++ kind_text kind }
-    ensures grown { length text.new ≤ length text.old + 8 }
+    ensures grown { length text.new ≤ length text.old + 10 }
 {
     match kind {
         Kind::Group => text.word(b" group"),
+        Kind::Connector => text.word(b" connector"),
         Kind::Shape(shape) => push_shape(text, shape),
     }
 }

@@ -1,5 +1,5 @@
 -- The line of a churn's step by the number that was drawn for it.
-use Rattle.std.proofs.Common.{◌≡◌, ◌≢◌, ℕ, ◌<◌, ◌≤◌, List, [], ◌∷◌, length, sym, ◌∙◌, ap, arith}
+use Rattle.std.proofs.Common.{◌≡◌, ◌⊎◌, inl, inr, ℕ, ◌<◌, ◌≤◌, List, [], ◌∷◌, length, sym, ◌∙◌, ap, arith}
 use Rattle.std.proofs.lemmas.Bool.Decides.{nat_tests}
 use Rattle.std.specs.Prelude.{None, true}
 use Rattle.rand_pcg.specs.Lcg.{Lcg}
@@ -9,7 +9,7 @@ use Rattle.gd_base.specs.declared.content.Side.TheVariants.{Top}
 use Rattle.gd_base.specs.declared.op.Op.TheVariants as wish
 use Rattle.gd_lines.specs.Edits.{Edit}
 use Rattle.gd_lines.specs.declared.command.Turn.TheVariants.{Undo, Redo}
-use Rattle.gd_worlds.specs.Churn.{Draws, asks, asks_of, change, create, deliver, group, known, line_for, move, send, stroke, turns}
+use Rattle.gd_worlds.specs.Churn.{Draws, asks, asks_of, change, connect, create, deliver, group, known, line_for, move, reconnect, send, stroke, style, turns, write}
 use Rattle.gd_world.specs.Drawn.{IsOfOne, edit_at}
 
 -- ---- what number stands for what
@@ -55,17 +55,35 @@ module _ (made : List Stamp) (mails site number : ℕ) where
   unfolding line_for
   line_undoes e = rw e
 
-  pub line_redoes : 16 ≤ number → number ≢ 16 → line_for made mails site number ≡ turns site Redo
+  pub line_redoes : number ≡ 17 → line_for made mails site number ≡ turns site Redo
   unfolding line_for
-  line_redoes h other = grind (arith, nat_tests)
+  line_redoes e = rw e
 
-pub line_idles : (mails site number : ℕ) → 4 ≤ number → number < 12 → line_for [] mails site number ≡ known None
+  pub line_connects : number ≡ 18 → line_for made mails site number ≡ asks_of made site connect
+  unfolding line_for
+  line_connects e = rw e
+
+  pub line_reconnects : number ≡ 19 → line_for made mails site number ≡ asks_of made site reconnect
+  unfolding line_for
+  line_reconnects e = rw e
+
+  pub line_styles : number ≡ 20 → line_for made mails site number ≡ asks_of made site style
+  unfolding line_for
+  line_styles e = rw e
+
+  pub line_writes : 21 ≤ number → line_for made mails site number ≡ asks_of made site write
+  unfolding line_for
+  line_writes h = grind (arith, nat_tests)
+
+pub line_idles : (mails site number : ℕ) → 4 ≤ number → (number < 12) ⊎ (18 ≤ number) → line_for [] mails site number ≡ known None
 unfolding line_for
-line_idles mails site number h k = grind (arith, nat_tests)
+line_idles mails site number h (inl k) = grind (arith, nat_tests)
+line_idles mails site number h (inr k) = grind (arith, nat_tests)
 
 -- ---- edits of what was picked
 
-pub line_idles_at : (made : List Stamp) (mails site number : ℕ) (g : Lcg) → length made ≡ 0 → 4 ≤ number → number < 12 → (None, g) ≡ line_for made mails site number g
+pub line_idles_at : (made : List Stamp) (mails site number : ℕ) (g : Lcg) → length made ≡ 0 → 4 ≤ number → (number < 12) ⊎ (18 ≤ number)
+    → (None, g) ≡ line_for made mails site number g
 line_idles_at [] mails site number g none h k = sym (ap (λ d. d g) (line_idles mails site number h k))
 line_idles_at (first ∷ rest) mails site number g none h k = absurd (omega arith)
 

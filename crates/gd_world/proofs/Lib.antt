@@ -3,6 +3,7 @@ pub mod ChurnLines
 pub mod ChurnWork
 pub mod Counting
 mod Deliveries
+mod DrawnLabels
 pub mod DrawnLines
 mod Echoed
 pub mod Following

@@ -104,7 +104,8 @@ fn show(alloc: Global, site: &Site) -> Result<Replies, WorldFault>
     let items = picture.as_slice();
     let mut replies = Replies::new(alloc);
     for item in items {
-        replies.push(Reply::Item { item: item.copy() })?;
+        let shared = item.share()?;
+        replies.push(Reply::Item { item: shared })?;
     }
     replies.push(Reply::End {
         count: items.len() as u64,

@@ -2,7 +2,7 @@
 --
 -- Churn is a rehearsal whose lines are drawn, and of which only numbers are printed, at its end. Each draw is the next word of
 -- 32 bits that the generator PCG32 (XSH RR) gives from the seed, modulo how many values there are. A step draws a site, and
--- then a number below 18 that says what is done: the site makes an object or changes one, it takes an edit back or does one
+-- then a number below 22 that says what is done: the site makes an object or changes one, it takes an edit back or does one
 -- again, it sends a frame, or some mail is delivered (`line_for`). What is changed is one of the objects that were made in the
 -- session so far, shown or not, in the order in which they were made. Where none was made yet the step is idle, and draws no
 -- more; so it is where there is no mail to deliver.
@@ -11,15 +11,19 @@
 -- round. In a round each site sends a frame to each other one, and that mail is delivered at once. Then seven lines say where each site stands, how often an edit, an undo or a
 -- redo was accepted or refused, a mail sent or delivered, and a step idle, how the events went that were delivered, and whether
 -- all sites show the same.
-use Rattle.std.specs.Prelude.{ℕ, zero, suc, pos, ◌+◌, ◌%◌, Bool, true, false, List, [], ◌∷◌, ◌++◌, length, map, fold, flat_map, Option, Some, None, Ok, slice_index_or, ◌==◌, nat_lt, bytes_eq, if◌then◌else◌}
+use Rattle.std.specs.Prelude.{ℕ, zero, suc, pos, ◌+◌, ◌%◌, Bool, true, false, List, [], ◌∷◌, ◌++◌, length, map, fold, flat_map, Option, Some, None, Ok, slice_index_or, codes, ◌==◌, nat_lt, bytes_eq, if◌then◌else◌}
 use Rattle.std.specs.List.{concat, list_all}
 use Rattle.rand_core.specs.Pcg32Seed.{pcg32_seed}
 use Rattle.rand_pcg.specs.Lcg.{Lcg}
 use Rattle.rand_pcg.specs.Pcg.{pcg32, pcg32_of_seed}
 use Rattle.gd_base.specs.Stamps.{Stamp}
-use Rattle.gd_base.specs.declared.content.Content.TheVariants.{ToPlace, ToStroke, ToFlag, ToRank}
+use Rattle.gd_base.specs.declared.content.Content.TheVariants.{ToPlace, ToLooks, ToText, ToFlag, ToEnds, ToRank}
+use Rattle.gd_base.specs.Looks.{no_looks}
+use Rattle.gd_base.specs.declared.look.Dash.{Dash}
+use Rattle.gd_base.specs.declared.look.Dash.TheVariants.{Solid, Dashed, Dotted}
+use Rattle.gd_base.specs.declared.object.Ends.{Ends}
 use Rattle.gd_base.specs.declared.content.Side.TheVariants.{Top}
-use Rattle.gd_base.specs.declared.op.Op.TheVariants.{Create, Delete, Set, Group}
+use Rattle.gd_base.specs.declared.op.Op.TheVariants.{Create, Delete, Set, Group, Connect}
 use Rattle.gd_base.specs.declared.shape.Shape.TheVariants.{Rect}
 use Rattle.gd_effects.specs.Effects.{Effect}
 use Rattle.gd_lines.specs.Edits.{Edit}
@@ -94,7 +98,44 @@ abbrev pub stroke : Draws Stamp → Draws Edit
 stroke picked = do
   id ← picked
   colour ← below 16777216
-  known (Set id (ToStroke colour))
+  known (Set id (ToLooks (record no_looks { stroke = Some colour })))
+
+-- the ends of a connector, perhaps the same
+abbrev pub ends : Draws Stamp → Draws Ends
+ends picked = do
+  from ← picked
+  to ← picked
+  known (record { from = from; to = to })
+
+abbrev pub connect : Draws Stamp → Draws Edit
+connect picked = do
+  between ← ends picked
+  known (Connect between [])
+
+abbrev pub reconnect : Draws Stamp → Draws Edit
+reconnect picked = do
+  id ← picked
+  between ← ends picked
+  known (Set id (ToEnds (Some between)))
+
+abbrev pub dash_of : ℕ → Dash
+dash_of n = if n == 0 then Solid else if n == 1 then Dashed else Dotted
+
+-- three parts of a look at once
+abbrev pub style : Draws Stamp → Draws Edit
+style picked = do
+  id ← picked
+  colour ← below 16777216
+  dash ← below 3
+  opacity ← below 100
+  known (Set id (ToLooks (record no_looks { stroke = Some colour; dash = Some (dash_of dash); opacity = Some (1 + opacity) })))
+
+-- a label of two lines, the second one of a letter
+abbrev pub write : Draws Stamp → Draws Edit
+write picked = do
+  id ← picked
+  letter ← below 26
+  known (Set id (ToText (codes "churn\n" ++ (97 + letter) ∷ [])))
 
 -- a site is asked for an edit
 abbrev pub asks : ℕ → Draws Edit → Draws (Option ScriptLine)
@@ -124,7 +165,7 @@ deliver (suc mails) = do
   k ← below (suc mails)
   known (Some (script.Deliver (1 + k)))
 
--- the line of a site by a number below 18, where these ids were made and so many mails sent; none where the step is idle
+-- the line of a site by a number below 22, where these ids were made and so many mails sent; none where the step is idle
 unfoldable pub line_for : List Stamp → ℕ → ℕ → ℕ → Draws (Option ScriptLine)
 line_for made mails site number =
     if nat_lt number 4 then asks site create
@@ -137,12 +178,16 @@ line_for made mails site number =
     else if nat_lt number 14 then send site
     else if nat_lt number 16 then deliver mails
     else if number == 16 then turns site Undo
-    else turns site Redo
+    else if number == 17 then turns site Redo
+    else if number == 18 then asks_of made site connect
+    else if number == 19 then asks_of made site reconnect
+    else if number == 20 then asks_of made site style
+    else asks_of made site write
 
 abbrev pub step : List Stamp → ℕ → Draws (Option ScriptLine)
 step made mails = do
   site ← below 4
-  number ← below 18
+  number ← below 22
   line_for made mails (1 + site) number
 
 -- ---- how far a run has come
@@ -195,6 +240,7 @@ with_reply c other = record c { arrivals = with_arrival c.arrivals other }
 abbrev pub is_making : ScriptLine → Bool
 is_making (script.At site (command.Edit (Create kind x y w h label))) = true
 is_making (script.At site (command.Edit (Group ids))) = true
+is_making (script.At site (command.Edit (Connect between label))) = true
 is_making other = false
 
 abbrev pub done_id : Reply → List Stamp

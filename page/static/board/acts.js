@@ -22,12 +22,13 @@ const { round } = Math;
 export const counted = (number) => (number === 1 ? "1 object" : `${number.toLocaleString("en")} objects`);
 
 /**
- * The lines that move objects.
+ * The lines that move objects. Connectors go where their ends go.
  * @param {Item[]} items
  * @param {number} dx
  * @param {number} dy
  */
-export const moveLines = (items, dx, dy) => items.map((item) => `move ${item.id} ${round(item.x + dx)} ${round(item.y + dy)}`);
+export const moveLines = (items, dx, dy) =>
+  items.filter(({ kind }) => kind !== "connector").map((item) => `move ${item.id} ${round(item.x + dx)} ${round(item.y + dy)}`);
 
 /**
  * Whether dragging is to be free of snapping.

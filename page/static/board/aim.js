@@ -68,7 +68,7 @@ export function look(gestures, at, event) {
     const handle = handleAt(ed, at, event);
     const item = handle ? null : objectAt(ed, at, event);
     hover = item?.id ?? null;
-    if (handle) cursor = handle.end ? "end" : CURSORS[handle.handle];
+    if (handle) cursor = handle.end || handle.dot ? "end" : CURSORS[handle.handle];
     else if ((item && !ed.readOnly) || (!item && isInFrame(ed, at))) cursor = "move";
   }
   light(ed, hover);

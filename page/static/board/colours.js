@@ -71,12 +71,12 @@ export function shownColour(hex, dark) {
 
 /**
  * The colour of a label: that of the stroke, and on a fill what can be read there.
- * @param {{stroke: string, fill: string | null, kind: string}} item
+ * @param {{stroke: string, fill: string | null, kind: string, ends?: unknown}} item
  * @param {boolean} dark
  */
 export function inkOn(item, dark) {
   const stroke = shownColour(item.stroke, dark);
-  if (!item.fill || item.kind === "text" || item.kind === "line") return stroke;
+  if (!item.fill || item.kind === "text" || item.ends) return stroke;
   const paper = luma(shownColour(item.fill, dark).slice(1));
   const pen = luma(stroke.slice(1));
   const contrast = (Math.max(paper, pen) + 0.05) / (Math.min(paper, pen) + 0.05);

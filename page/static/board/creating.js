@@ -143,7 +143,7 @@ export function writing(gestures, from, event) {
     },
     click: () => {
       over();
-      if (item && item.kind !== "line") {
+      if (item && !item.ends) {
         ed.selection.set([item.id], item.parent);
         ed.editor.open(item.id);
       } else ed.editor.openNew(round(from.x), round(from.y - (ed.styleFor("text").font * LEADING) / 2));

@@ -1,7 +1,7 @@
 // Gestures become edits: lists of lines that are typed as one batch, and one step of undo. `@3` in a line stands for the id
 // that the batch's third line makes. Until the node has answered, an object that was made has a name, `~` and two numbers.
 
-import { MOST_LINES } from "../core/lines.js";
+import { escaped, MOST_LINES } from "../core/lines.js";
 import { refusalOf, whyOf } from "../core/node.js";
 import { Foresight, wordsOf } from "./effects.js";
 import { Layer } from "./pending.js";
@@ -107,7 +107,7 @@ export class Edits {
     return lines.map((raw, index) => {
       const line = this.named(raw, (word) => (/^@\d+$/.test(word) ? made(Number(word.slice(1))) : word));
       const { op } = wordsOf(line);
-      return { line, name: op === "create" || op === "group" ? made(index + 1) : null };
+      return { line, name: op === "create" || op === "connect" || op === "group" ? made(index + 1) : null };
     });
   }
 
@@ -120,7 +120,7 @@ export class Edits {
     const { op, words, label } = wordsOf(line);
     if (op === "create") return line;
     const named = words.map((word, index) => (index ? call(word) : word)).join(" ");
-    return op === "text" ? `${named} ${label}` : named;
+    return op === "text" || (op === "connect" && label) ? `${named} ${escaped(label)}` : named;
   }
 
   /** @param {string} name */

@@ -1,5 +1,7 @@
 // What lines will do to the drawing, as far as this page can say, so that it can be shown before the node has.
 
+import { unescaped } from "../core/lines.js";
+
 /** @typedef {import("../core/types.js").Change} Change */
 /** @typedef {import("./model.js").Model} Model */
 /**
@@ -21,6 +23,12 @@
  * @property {string[]} [members]
  */
 
+/** The looks that are no stroke, fill or width, as lines name them and as the page does. */
+const LOOKS = new Map([["dash", "dash"], ["heads", "heads"], ["round", "round"], ["opacity", "opacity"], ["size", "letters"], ["align", "side"]]);
+const NUMBERS = new Set(["round", "opacity", "size"]);
+/** What has no mark of its own. @type {[string, any][]} */
+const USUAL = [["dash", "solid"], ["heads", "none"], ["opacity", 100]];
+
 /** @type {Pick<Plain, "stroke" | "fill" | "width" | "label">} */
 const LOOK = { stroke: "000000", fill: null, width: 1, label: "" };
 
@@ -31,7 +39,7 @@ const LOOK = { stroke: "000000", fill: null, width: 1, label: "" };
  */
 export function wordsOf(text) {
   const op = text.slice(0, text.includes(" ") ? text.indexOf(" ") : text.length);
-  const count = op === "create" ? 6 : op === "text" ? 2 : Infinity;
+  const count = op === "create" ? 6 : op === "connect" ? 3 : op === "text" ? 2 : Infinity;
   const words = [];
   let at = 0;
   while (words.length < count && at <= text.length) {
@@ -40,7 +48,7 @@ export function wordsOf(text) {
     words.push(text.slice(at, end));
     at = end + 1;
   }
-  return { op, words, label: text.slice(at) };
+  return { op, words, label: unescaped(text.slice(at)) };
 }
 
 /** Goes through the lines of a batch, and notes what each does. */
@@ -72,6 +80,7 @@ export class Foresight {
     const { op, words, label } = wordsOf(text);
     const id = words[1];
     if (op === "create") this.create(words, label, name);
+    else if (op === "connect") this.connect(words[1], words[2], label, name);
     else if (op === "group") this.group(words.slice(1), name);
     else if (this.plain(id)) this.change(op, id, words, label);
     this.line += 1;
@@ -86,6 +95,18 @@ export class Foresight {
     const [x, y, w, h] = numbers.map(Number);
     const shape = /** @type {import("../core/types.js").ShapeKind} */ (kind);
     this.make("create", { ...LOOK, id: name, kind: shape, parent: null, x, y, w, h, label });
+  }
+
+  /**
+   * @param {string} from
+   * @param {string} to
+   * @param {string} label
+   * @param {string} name
+   */
+  connect(from, to, label, name) {
+    const parent = /** @type {string | null} */ (null);
+    const made = { ...LOOK, id: name, kind: /** @type {"connector"} */ ("connector"), parent, x: 0, y: 0, w: 0, h: 0, label, looks: { heads: /** @type {"end"} */ ("end") }, from, to };
+    this.make("create", made);
   }
 
   /**
@@ -120,6 +141,9 @@ export class Foresight {
     if (op === "move") this.move(id, first, second);
     else if (op === "resize") this.set(id, { w: first, h: second });
     else if (op === "text") this.set(id, { label });
+    else if (op === "reconnect") this.set(id, { from: words[2], to: words[3] });
+    else if (op === "style") this.style(id, words.slice(2));
+    else if (LOOKS.has(op)) this.style(id, [op, words[2]]);
     else if (op === "width") this.set(id, { width: first });
     else if (op === "stroke") this.set(id, { stroke: words[2].toUpperCase() });
     else if (op === "fill") this.set(id, { fill: words[2] === "none" ? null : words[2].toUpperCase() });
@@ -135,6 +159,25 @@ export class Foresight {
     if (!plain) return;
     this.plains.set(id, { ...plain, ...change });
     this.effects.push({ id, line: this.line, change });
+  }
+
+  /**
+   * @param {string} id
+   * @param {string[]} pairs names and values in turn
+   */
+  style(id, pairs) {
+    /** @type {Change} */
+    const change = {};
+    const looks = /** @type {Record<string, any>} */ ({ ...this.plain(id)?.looks });
+    for (let at = 0; at + 1 < pairs.length; at += 2) {
+      const [name, value] = [pairs[at], pairs[at + 1]];
+      if (name === "stroke") change.stroke = value.toUpperCase();
+      else if (name === "fill") change.fill = value === "none" ? null : value.toUpperCase();
+      else if (name === "width") change.width = Number(value);
+      else looks[LOOKS.get(name) ?? name] = NUMBERS.has(name) ? Number(value) : value;
+    }
+    for (const [name, usual] of USUAL) if (looks[name] === usual) delete looks[name];
+    this.set(id, { ...change, looks });
   }
 
   /**

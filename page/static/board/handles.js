@@ -4,7 +4,7 @@ import { has } from "./boxes.js";
 import { HANDLES } from "./overlay.js";
 
 /** @typedef {import("./overlay.js").Handle} Handle */
-/** @typedef {{handle?: Handle, end?: "start" | "end", item?: Item}} Found */
+/** @typedef {{handle?: Handle, end?: "start" | "end", dot?: boolean, item?: Item}} Found */
 
 const REACH = 8;
 const REACH_TOUCH = 22;
@@ -26,8 +26,22 @@ export function handleAt(ed, at, event) {
   const reach = isTouch ? REACH_TOUCH : REACH;
   const frame = ed.overlay.frame();
   if (!frame) return endAt(ed, at, reach + 2);
-  const handle = knobAt(ed, frame, at, reach) ?? (isTouch ? null : sideAt(ed, frame, at));
+  const knob = knobAt(ed, frame, at, reach);
+  const away = nearestDot(ed, at);
+  if (away <= reach && !(knob && awayFrom(frame, knob, at) <= away)) return { dot: true, item: ed.selection.list()[0] };
+  const handle = knob ?? (isTouch ? null : sideAt(ed, frame, at));
   return handle && { handle };
+}
+
+/**
+ * How far a handle is from a place.
+ * @param {Box} frame
+ * @param {Handle} handle
+ * @param {Place} at
+ */
+function awayFrom({ x0, y0, x1, y1 }, handle, { px, py }) {
+  const [atX, atY] = HANDLES[handle];
+  return Math.hypot(px - x0 - (x1 - x0) * atX, py - y0 - (y1 - y0) * atY);
 }
 
 /**
@@ -36,16 +50,19 @@ export function handleAt(ed, at, event) {
  * @param {Place} at
  * @param {number} reach
  */
-function knobAt(ed, frame, { px, py }, reach) {
+function knobAt(ed, frame, at, reach) {
   const [w, h] = [frame.x1 - frame.x0, frame.y1 - frame.y0];
   // Inside the frame a handle reaches less, so that small shapes can still be dragged.
-  const near = has(frame, px, py) ? Math.min(reach, Math.min(w, h) / 4) : reach;
-  const isNear = (/** @type {Handle} */ each) => {
-    const [atX, atY] = HANDLES[each];
-    return Math.hypot(px - frame.x0 - w * atX, py - frame.y0 - h * atY) <= near;
-  };
-  return ed.overlay.handlesOf(w, h).find(isNear) ?? null;
+  const near = has(frame, at.px, at.py) ? Math.min(reach, Math.min(w, h) / 4) : reach;
+  return ed.overlay.handlesOf(w, h).find((each) => awayFrom(frame, each, at) <= near) ?? null;
 }
+
+/**
+ * How far the nearest of the dots is from which a connector is drawn.
+ * @param {Ed} ed
+ * @param {Place} at
+ */
+const nearestDot = (ed, { px, py }) => Math.min(...ed.overlay.dots().map(([x, y]) => Math.hypot(px - x, py - y)));
 
 /**
  * The frame's sides are handles as a whole.

@@ -30,7 +30,7 @@ export function hits(item, x, y, near) {
  * @param {number} edge
  */
 function isOnShape(item, x, y, edge) {
-  if (item.kind === "line") return farFrom(x, y, item.ends) <= edge;
+  if (item.ends) return farFrom(x, y, item.ends) <= edge;
   if (item.kind === "rect") return has(grown(item.box, edge), x, y) && (Boolean(item.fill) || !has(grown(item.box, -edge), x, y));
   return isInEllipse(item, x, y, edge) && (Boolean(item.fill) || !isInEllipse(item, x, y, -edge));
 }

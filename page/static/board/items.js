@@ -1,7 +1,14 @@
 // Items: what the board shows of an object, made of what the node says of it.
 
-import { around, boxOf } from "./boxes.js";
+import { around, boxOf, grown } from "./boxes.js";
+import { boxOfEnds } from "./joins.js";
 import { mostOf, sizeOf } from "./text.js";
+
+/** @typedef {import("../core/types.js").Ends} Ends */
+
+const SIDES = /** @type {Record<string, "left" | "center" | "right">} */ ({ start: "left", middle: "center", end: "right" });
+/** So far a head reaches beside a line. */
+const HEAD = 16;
 
 /** Items by id. An object that has got its id by now is found by its former name too. */
 export class Ids extends Map {
@@ -26,16 +33,17 @@ export class Ids extends Map {
  * An item of what the node says of an object.
  * @param {Plain} plain
  * @param {number} z
+ * @param {Ends | null} [joined] the ends of a connector, as they are now
  * @returns {Item}
  */
-export function itemOf(plain, z) {
-  const { id, kind, x, y, w, h } = plain;
-  const box = boxOf(x, y, w, h);
-  const font = sizeOf(plain);
-  return {
-    ...plain, z, font, align: kind === "text" ? "left" : "center", by: siteOf(id), box, ink: inkOf(plain, box, font),
-    ends: kind === "line" ? [x, y, x + w, y + h] : null,
-  };
+export function itemOf(plain, z, joined = null) {
+  const { id, kind, x, y, w, h, looks } = plain;
+  const ends = kind === "line" ? /** @type {Ends} */ ([x, y, x + w, y + h]) : joined;
+  const box = joined ? boxOfEnds(joined) : boxOf(x, y, w, h);
+  const font = looks?.letters ?? sizeOf(plain);
+  const usual = kind === "text" ? "left" : "center";
+  const align = looks?.side ? SIDES[looks.side] : usual;
+  return { ...plain, z, font, align, by: siteOf(id), box, ink: grown(inkOf(plain, box, font), looks?.heads ? HEAD : 0), ends };
 }
 
 /**
@@ -62,5 +70,6 @@ const siteOf = (id) => Number(id.slice(id.indexOf(".") + 1)) || 0;
 export function isSame(a, b) {
   if (a === b) return true;
   const isThere = a.x === b.x && a.y === b.y && a.w === b.w && a.h === b.h && a.parent === b.parent && a.kind === b.kind;
-  return isThere && a.stroke === b.stroke && a.fill === b.fill && a.width === b.width && a.label === b.label;
+  const isLike = a.stroke === b.stroke && a.fill === b.fill && a.width === b.width && a.label === b.label;
+  return isThere && isLike && a.from === b.from && a.to === b.to && JSON.stringify(a.looks ?? {}) === JSON.stringify(b.looks ?? {});
 }

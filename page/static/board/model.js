@@ -4,6 +4,7 @@ import { around, grown, inside } from "./boxes.js";
 import { Grid } from "./grid.js";
 import { arrange, boxGroups } from "./groups.js";
 import { Ids, isSame, itemOf } from "./items.js";
+import { endsOf } from "./joins.js";
 
 /** @typedef {import("../core/types.js").Change} Change */
 
@@ -28,6 +29,8 @@ export class Model {
     this.bounds = null;
     /** @type {Map<string, Plain>} what each item was made of */
     this.plains = new Map();
+    /** @type {Set<string>} the connectors */
+    this.joined = new Set();
     /** @type {(boxes: Box[]) => void} told where the board looks different */
     this.hear = () => {};
   }
@@ -93,7 +96,8 @@ export class Model {
       }
       return was;
     }
-    const item = itemOf(plain, z);
+    const item = itemOf(plain, z, plain.kind === "connector" ? endsOf(this, plain) : null);
+    if (item.kind === "connector") this.joined.add(item.id);
     this.bound(was, item);
     this.byId.set(item.id, item);
     this.plains.set(item.id, plain);
@@ -128,6 +132,7 @@ export class Model {
     this.grid.take(id);
     this.byId.delete(id);
     this.plains.delete(id);
+    this.joined.delete(id);
     return true;
   }
 
@@ -157,9 +162,31 @@ export class Model {
 
   /** @param {Box[]} boxes */
   told(boxes) {
+    this.join(boxes);
     for (const id of this.over.keys()) if (!this.byId.has(id)) this.over.delete(id);
     this.placeOver();
     this.hear(boxes);
+  }
+
+  /**
+   * Puts connectors where their ends are now.
+   * @param {Box[]} boxes
+   */
+  join(boxes) {
+    if (!this.joined.size) return;
+    this.shadow = new Map();
+    for (const id of this.joined) {
+      const was = this.byId.get(id);
+      const plain = this.plains.get(id);
+      const ends = endsOf(this, plain);
+      if (was.ends?.every((place, index) => place === ends[index])) continue;
+      const item = itemOf(plain, was.z, ends);
+      this.bound(was, item);
+      this.byId.set(id, item);
+      this.items[was.z] = item;
+      boxes.push(was.ink, item.ink);
+      this.grid.put(item);
+    }
   }
 
   /**
@@ -176,8 +203,15 @@ export class Model {
     this.shadow = new Map();
     for (const [id, change] of this.over) {
       const item = this.byId.get(id);
-      if (!item || item.kind === "group") continue;
+      if (!item || item.kind === "group" || item.kind === "connector") continue;
       this.shadow.set(item.id, itemOf({ ...this.plains.get(item.id), ...change }, item.z));
+    }
+    if (!this.shadow.size) return;
+    for (const id of this.joined) {
+      const item = this.byId.get(id);
+      const plain = { ...this.plains.get(id), ...this.over.get(id) };
+      const ends = endsOf(this, plain);
+      if (this.over.has(id) || !item.ends?.every((place, index) => place === ends[index])) this.shadow.set(id, itemOf(plain, item.z, ends));
     }
   }
 

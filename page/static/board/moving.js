@@ -18,7 +18,8 @@ const { abs, round } = Math;
  * @param {number} dy
  * @returns {Map<string, Change>}
  */
-const movedBy = (leaves, dx, dy) => new Map(leaves.map((leaf) => [leaf.id, { x: leaf.x + dx, y: leaf.y + dy }]));
+const movedBy = (leaves, dx, dy) =>
+  new Map(leaves.filter(({ kind }) => kind !== "connector").map((leaf) => [leaf.id, { x: leaf.x + dx, y: leaf.y + dy }]));
 
 /**
  * @param {Item} item

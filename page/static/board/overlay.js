@@ -3,6 +3,7 @@
 import { grown } from "./boxes.js";
 import { personColour } from "./colours.js";
 import { Flashes } from "./flashes.js";
+import { dotsOf } from "./joins.js";
 import { paint } from "./paint.js";
 import { Pen } from "./pen.js";
 
@@ -12,6 +13,9 @@ import { Pen } from "./pen.js";
 /** Where each handle is, as parts of the frame's width and height. @type {Record<Handle, [number, number]>} */
 export const HANDLES = { nw: [0, 0], n: [0.5, 0], ne: [1, 0], e: [1, 0.5], se: [1, 1], s: [0.5, 1], sw: [0, 1], w: [0, 0.5] };
 const PADDING = 5;
+/** So far outside of the frame are the dots from which connectors are drawn, and where fingers draw. */
+const DOT_GAP = 16;
+const DOT_GAP_TOUCH = 36;
 const SMALL = 22;
 const LEAST_SIDE = 64;
 const MOST_OUTLINES = 400;
@@ -96,11 +100,22 @@ export class Overlay {
     return Boolean(id && !other && this.ed.model.byId.get(id)?.kind === "text");
   }
 
-  /** The window's box around the selection, with its padding; null where one line is selected, or nothing. */
+  /** The places of the window from which a connector of the one selected object is drawn: outside of its frame, so that no handle is there. @returns {[number, number][]} */
+  dots() {
+    const [id, other] = this.ed.selection.ids;
+    const item = id && !other ? this.ed.model.byId.get(id) : null;
+    if (!item || item.ends || this.ed.readOnly || this.ed.editing || this.ed.tool !== "select") return [];
+    const frame = this.frame();
+    if (!frame) return [];
+    const isTouched = matchMedia("(pointer: coarse)").matches;
+    return dotsOf(grown(frame, isTouched ? DOT_GAP_TOUCH : DOT_GAP));
+  }
+
+  /** The window's box around the selection, with its padding; null where one line or one connector is selected, or nothing. */
   frame() {
     const { selection, model, camera } = this.ed;
     const [id, other] = selection.ids;
-    if (!id || (!other && model.byId.get(id)?.kind === "line")) return null;
+    if (!id || (!other && model.byId.get(id)?.ends)) return null;
     const box = model.boxOf(selection.ids);
     return box && grown(camera.boxToWindow(box), PADDING);
   }
@@ -166,7 +181,7 @@ export class Overlay {
     for (const ghost of ghosts) paint(c, ghost, camera.zoom, this.look);
     c.restore();
     const [only] = ghosts;
-    if (this.ed.busy === "create" && only.kind !== "line") this.paintSize(camera.boxToWindow(only.box), only.box);
+    if (this.ed.busy === "create" && !only.ends) this.paintSize(camera.boxToWindow(only.box), only.box);
   }
 
   paintHover() {
@@ -234,6 +249,7 @@ export class Overlay {
       const [atX, atY] = HANDLES[handle];
       pen.knob(frame.x0 + w * atX, frame.y0 + h * atY, handle.length === 1 ? 3.5 : 4.5);
     }
+    if (isHandled && !ed.busy) for (const [x, y] of this.dots()) pen.knob(x, y, 3);
     if (ed.busy === "resize") this.paintSize(frame, ed.model.boxOf(ed.selection.ids));
   }
 

@@ -52,6 +52,8 @@ export class Layer {
       effect.id = named(effect.id);
       if (effect.made) effect.made = { ...effect.made, id: effect.id };
       if (effect.change?.parent) effect.change = { ...effect.change, parent: named(effect.change.parent) };
+      if (effect.change?.from) effect.change = { ...effect.change, from: named(effect.change.from), to: named(effect.change.to) };
+      if (effect.made?.from) effect.made = { ...effect.made, from: named(effect.made.from), to: named(effect.made.to) };
     }
     for (const turn of this.turns) {
       turn.id = named(turn.id);

@@ -3,6 +3,7 @@
 import { isInFrame, nearOf, objectAt } from "./aim.js";
 import { boxOf, lineMeets, meet, ovalMeets, within } from "./boxes.js";
 import { counted } from "./acts.js";
+import { connecting, reconnecting } from "./connecting.js";
 import { moveEnd } from "./ends.js";
 import { handleAt } from "./handles.js";
 import { itemAt } from "./hit.js";
@@ -22,7 +23,9 @@ import { resizing } from "./resizing.js";
 export function selecting(gestures, at, event) {
   const { ed } = gestures;
   const handle = handleAt(ed, at, event);
-  if (handle) return handle.end ? moveEnd(gestures, handle.end, handle.item) : resizing(gestures, handle.handle);
+  if (handle?.dot) return connecting(gestures, handle.item);
+  if (handle?.end) return (handle.item.kind === "connector" ? reconnecting : moveEnd)(gestures, handle.end, handle.item);
+  if (handle) return resizing(gestures, handle.handle);
   const item = objectAt(ed, at, event);
   if (!item && !isInFrame(ed, at)) return banding(gestures, at, event);
   const was = item !== null && ed.selection.ids.has(item.id);
@@ -84,7 +87,7 @@ function openAt(gestures, target, at, event) {
  * @param {Box} band
  */
 export function isMeant(item, band) {
-  if (item.kind === "line") return lineMeets(item.ends, band);
+  if (item.ends) return lineMeets(item.ends, band);
   if (item.kind === "ellipse") return ovalMeets(item.box, band);
   return meet(item.box, band) && (!within(band, item.box) || within(item.box, band));
 }

@@ -165,7 +165,7 @@ export function snapper(model, camera, moving) {
   const neighbours = [];
   for (const item of model.grid.query(view)) {
     if (neighbours.length === MOST_NEIGHBOURS) break;
-    if (!moving.has(item.id) && item.kind !== "line" && meet(item.box, view)) neighbours.push(item.box);
+    if (!moving.has(item.id) && !item.ends && meet(item.box, view)) neighbours.push(item.box);
   }
   return (/** @type {Box} */ box, linesX = ACROSS.all, linesY = DOWN.all) =>
     snapped(box, neighbours, REACH / camera.zoom, linesX, linesY);

@@ -1,6 +1,6 @@
 // Text: which way it runs, where its lines break, and how large its letters are.
 
-import { BREAK } from "../core/lines.js";
+import { BREAK, BREAKS } from "../core/lines.js";
 
 /** @typedef {import("../core/types.js").Kind} Kind */
 /** @typedef {{lines: string[], w: number, h: number, dir: "ltr" | "rtl"}} Laid */
@@ -47,7 +47,7 @@ export function lay(text, size, most = Infinity) {
   pen.font = fontOf(size);
   /** @type {string[]} */
   const lines = [];
-  for (const part of text.split(BREAK)) lines.push(...wrapped(part, most));
+  for (const part of text.split(BREAKS)) lines.push(...wrapped(part, most));
   /** @type {Laid} */
   const laid = { lines, w: Math.max(1, ...lines.map(wide)), h: lines.length * size * LEADING, dir: dirOf(text) };
   if (kept.size > MOST_KEPT) kept.clear();
@@ -104,7 +104,7 @@ function cutWord(word, most) {
  */
 export function roomOf(kind, w) {
   if (kind === "text") return Math.max(8, Math.abs(w));
-  if (kind === "line") return LINE_ROOM;
+  if (kind === "line" || kind === "connector") return LINE_ROOM;
   return Math.max(8, Math.abs(w) * (kind === "ellipse" ? 0.72 : 1) - 2 * PAD);
 }
 
@@ -118,7 +118,7 @@ export function sizeOf({ kind, label, w, h }) {
   const height = Math.abs(h) + 1;
   const whole = inFonts(height / LEADING);
   // Most texts have one line, whose width goes with the size of its letters.
-  if (!label.includes(BREAK) && wideAt(label, whole) <= roomOf("text", w)) return whole;
+  if (!BREAKS.test(label) && wideAt(label, whole) <= roomOf("text", w)) return whole;
   return wrappedSize(label, w, height);
 }
 
@@ -167,6 +167,6 @@ export function mostOf(kind, label, font, w) {
   const room = roomOf(kind, w);
   const length = label.length * font * WIDEST;
   // A line may be less than half full where the next word had no room in it.
-  const lines = Math.ceil((2 * length) / room) + label.split(BREAK).length - 1;
-  return { w: Math.min(room, length) + font, h: (length <= room ? label.split(BREAK).length : lines) * font * LEADING };
+  const lines = Math.ceil((2 * length) / room) + label.split(BREAKS).length - 1;
+  return { w: Math.min(room, length) + font, h: (length <= room ? label.split(BREAKS).length : lines) * font * LEADING };
 }

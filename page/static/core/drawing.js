@@ -1,6 +1,8 @@
 // The drawing as a fold of events in stamp order, as docs/MODEL.md, section 7, has it: a map from ids to objects, each with
 // a rank. Objects are never changed in place, so what an event found is kept as it was, and a copy of the map is a checkpoint.
 
+import { looksOf } from "./picture.js";
+
 /** @typedef {import("./types.js").Event} Event */
 /** @typedef {import("./types.js").Kind} Kind */
 /** @typedef {{parent: string, dx: number, dy: number}} Link */
@@ -17,6 +19,9 @@
  * @property {string | null} fill
  * @property {number} width
  * @property {string} label
+ * @property {import("./types.js").Looks} looks
+ * @property {string} [from]
+ * @property {string} [to]
  * @property {Link | null} link
  * @property {boolean} isDissolved
  * @property {number} rank
@@ -63,14 +68,29 @@ export const linkOf = (told) => told && { parent: told.id, dx: told.dx, dy: told
  * @param {any} told
  * @returns {Body}
  */
-export function bodyOf({ target, kind, at: [x, y], size: [w, h], stroke, fill, width, label, link, dissolved, rank }) {
+export function bodyOf(told) {
+  const { target, kind, at: [x, y], size: [w, h], stroke, fill, width, label, link, dissolved, rank, from, to } = told;
   // Whatever stands there, a group has neither a size nor a look.
-  const look = kind === "group" ? { ...LOOK, w: 0, h: 0 } : { w, h, stroke, fill, width, label };
-  return { id: target, kind, x, y, ...look, link: linkOf(link), isDissolved: dissolved, rank: rankOf(rank) };
+  const look = kind === "group" ? { ...LOOK, w: 0, h: 0 } : { w, h, stroke, fill, width, label, looks: looksOf(told) };
+  const ends = kind === "connector" ? { from, to } : {};
+  return { id: target, kind, x, y, ...look, ...ends, link: linkOf(link), isDissolved: dissolved, rank: rankOf(rank) };
 }
 
-/** @type {Pick<Body, "stroke" | "fill" | "width" | "label">} */
-const LOOK = { stroke: "000000", fill: null, width: 1, label: "" };
+/** @type {Pick<Body, "stroke" | "fill" | "width" | "label" | "looks">} */
+const LOOK = { stroke: "000000", fill: null, width: 1, label: "", looks: {} };
+/** What has no mark of its own where it is as it is made. */
+const USUAL = /** @type {Record<string, any>} */ ({ dash: "solid", heads: "none", opacity: 100 });
+
+/**
+ * A body with looks that are set. What is as it is made is left out.
+ * @param {Body} body
+ * @param {Record<string, any>} style
+ * @returns {Body}
+ */
+function styled(body, { stroke = body.stroke, fill = body.fill, width = body.width, ...marks }) {
+  const looks = Object.entries({ ...body.looks, ...marks }).filter(([name, value]) => value !== null && value !== USUAL[name]);
+  return { ...body, stroke, fill, width, looks: Object.fromEntries(looks) };
+}
 
 /**
  * What an event makes of one object that is there, or the object as it is.
@@ -80,9 +100,14 @@ const LOOK = { stroke: "000000", fill: null, width: 1, label: "" };
  */
 function changed(body, event) {
   const isGroup = body.kind === "group";
+  const isConnector = body.kind === "connector";
   switch (event.op) {
     case "move":
-      return { ...body, x: event.x, y: event.y };
+      return isConnector ? body : { ...body, x: event.x, y: event.y };
+    case "reconnect":
+      return isConnector ? { ...body, from: event.from, to: event.to } : body;
+    case "style":
+      return isGroup ? body : styled(body, event.style);
     case "raise":
       return { ...body, rank: high(event) };
     case "lower":
@@ -93,7 +118,7 @@ function changed(body, event) {
     case "reopen":
       return isGroup ? { ...body, isDissolved: event.op === "ungroup" } : body;
     case "resize":
-      return isGroup ? body : { ...body, w: event.w, h: event.h };
+      return isGroup || isConnector ? body : { ...body, w: event.w, h: event.h };
     case "text":
       return isGroup ? body : { ...body, label: /** @type {string} */ (event.value) };
     default:
@@ -111,15 +136,20 @@ function made(event) {
   if (op === "restore") return body;
   const rest = { id, link: /** @type {Link | null} */ (null), isDissolved: false, rank: high(event) };
   if (op === "group") return { ...LOOK, ...rest, kind: "group", x: 0, y: 0, w: 0, h: 0 };
+  if (op === "connect") {
+    return { ...LOOK, ...rest, kind: "connector", x: 0, y: 0, w: 0, h: 0, label, looks: { heads: "end" }, from: event.from, to: event.to };
+  }
   return { ...LOOK, ...rest, kind, x, y, w, h, label };
 }
 
 /**
- * The links that an event gives to other objects than the one that it puts or takes.
+ * The links that an event gives to other objects than the one that it puts or takes, which has to be a group.
  * @param {Event} event
+ * @param {Body} body
  * @returns {Tie[]}
  */
-function tiesOf(event) {
+function tiesOf(event, body) {
+  if (body.kind !== "group") return [];
   if (event.op !== "group") return event.ties ?? [];
   const members = event.members.filter(({ id }) => compareStamps(stampParts(id), event) < 0);
   return members.map(({ id, dx, dy }) => ({ id, link: { parent: event.stamp, dx, dy } }));
@@ -143,7 +173,7 @@ function tie(board, ties) {
   return before;
 }
 
-const PUTS = new Set(["create", "group", "restore"]);
+const PUTS = new Set(["create", "connect", "group", "restore"]);
 const TAKES = new Set(["delete", "disband"]);
 
 /**
@@ -159,11 +189,12 @@ export function apply(board, event) {
   /** @type {Before} */
   let before = [[id, found]];
   if (PUTS.has(op)) {
-    before = [...before, ...tie(board, tiesOf(event))];
-    board.set(id, made(event));
+    const body = made(event);
+    before = [...before, ...tie(board, tiesOf(event, body))];
+    board.set(id, body);
   } else if (TAKES.has(op)) {
     board.delete(id);
-    before = [...before, ...tie(board, tiesOf(event))];
+    before = [...before, ...tie(board, tiesOf(event, found))];
   } else board.set(id, changed(found, event));
   return before;
 }
@@ -246,10 +277,13 @@ const kept = new WeakMap();
  */
 function plainOf(body, above) {
   const known = kept.get(body);
-  const [x, y] = [body.x + above.dx, body.y + above.dy];
+  const { id, kind, stroke, fill, width, label, looks, from, to } = body;
+  // A connector has no place and no size, whatever stands there.
+  const isPlaced = kind !== "connector";
+  const [x, y, w, h] = isPlaced ? [body.x + above.dx, body.y + above.dy, body.w, body.h] : [0, 0, 0, 0];
   if (known && known.parent === above.parent && known.x === x && known.y === y) return known;
-  const { id, kind, w, h, stroke, fill, width, label } = body;
-  const plain = { id, kind, parent: above.parent, x, y, w, h, stroke, fill, width, label };
+  const ends = isPlaced ? {} : { from, to };
+  const plain = { id, kind, parent: above.parent, x, y, w, h, stroke, fill, width, label, looks, ...ends };
   kept.set(body, plain);
   return plain;
 }
@@ -261,6 +295,23 @@ function plainOf(body, above) {
 const compareBodies = (a, b) => a.rank - b.rank || compareStamps(stampParts(a.id), stampParts(b.id));
 
 /**
+ * What stands above an object that is shown, but for the ends of a connector.
+ * @param {Chains} chains
+ * @param {Body} body
+ */
+const stands = (chains, body) => (body.kind === "group" && body.isDissolved ? null : chains.above(body));
+
+/**
+ * Whether a shape or a group of that id is shown.
+ * @param {Chains} chains
+ * @param {string} id
+ */
+function isEnd(chains, id) {
+  const body = chains.board.get(id);
+  return body !== undefined && body.kind !== "connector" && stands(chains, body) !== null;
+}
+
+/**
  * The shown objects in printed order: each group before its members, all of them from bottom to top.
  * @param {Board} board
  * @returns {Plain[]}
@@ -270,8 +321,8 @@ export function shownOf(board) {
   /** @type {Map<string | null, Plain[]>} */
   const children = new Map([[null, []]]);
   for (const body of [...board.values()].sort(compareBodies)) {
-    const above = body.kind === "group" && body.isDissolved ? null : chains.above(body);
-    if (!above) continue;
+    const above = stands(chains, body);
+    if (!above || (body.kind === "connector" && !(isEnd(chains, body.from) && isEnd(chains, body.to)))) continue;
     const list = children.get(above.parent);
     if (list) list.push(plainOf(body, above));
     else children.set(above.parent, [plainOf(body, above)]);

@@ -11,6 +11,12 @@ import { closure, covers } from "./relations.js";
 
 const MARK_EVERY = 4096;
 
+/** The parts of a look, as the bridge calls them and as the page does. @type {[string, string][]} */
+const STYLES = [
+  ["stroke", "stroke"], ["fill", "fill"], ["width", "width"], ["dash", "dash"], ["heads", "heads"], ["round", "round"],
+  ["opacity", "opacity"], ["letters", "letters"], ["align", "side"],
+];
+
 /**
  * An event of the bridge, in the words of its line.
  * @param {any} told as `replay --format events` has it, but for the object's id, which is its `target` here
@@ -24,10 +30,15 @@ export function eventOf(told, came) {
   const base = { clock, site, stamp, id: told.target ?? stamp, time: told.seen ?? null, came, late };
   if (told.op === "retext") return { ...base, op: "text", value: told.label };
   if (told.op === "restyle") {
-    const op = /** @type {"stroke" | "fill" | "width"} */ (["stroke", "fill", "width"].find((part) => part in told));
-    return { ...base, op, value: told[op] };
+    const style = Object.fromEntries(STYLES.filter(([part]) => part in told).map(([part, name]) => [name, told[part]]));
+    const names = Object.keys(style);
+    const [only] = names;
+    if (names.length === 1 && (only === "stroke" || only === "fill" || only === "width")) return { ...base, op: only, value: style[only] };
+    return { ...base, op: "style", style };
   }
   const ties = told.ties?.map((/** @type {any} */ tie) => ({ id: tie.id, link: linkOf(tie.link) }));
+  if (told.op === "connect") return { ...base, op: "connect", from: told.from, to: told.to, label: told.label };
+  if (told.op === "reconnect") return { ...base, op: "reconnect", from: told.from, to: told.to };
   if (told.op === "restore") return { ...base, op: "restore", body: bodyOf(told), ties };
   if (told.op === "disband") return { ...base, op: "disband", ties };
   if (told.op === "rerank") return { ...base, op: "rerank", rank: rankOf(told.rank) };

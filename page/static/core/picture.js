@@ -1,6 +1,7 @@
 // The drawing as the node shows it. The bridge tells what is different, and here it is put together.
 
 /** @typedef {import("./types.js").Shown} Shown */
+/** @typedef {import("./types.js").Looks} Looks */
 /** @typedef {{id: string, plain: Plain, under: Place | null, over: Place | null}} Place an object in the stack, and its neighbours */
 /**
  * What a picture has that is different.
@@ -16,11 +17,23 @@
  * @returns {Plain}
  */
 export function plainOf(shown) {
-  const [x, y] = shown.at;
+  const [x, y] = shown.at ?? [0, 0];
   const base = { id: shown.id, kind: shown.kind, parent: shown.in, x, y };
   if (shown.kind === "group") return { ...base, w: 0, h: 0, stroke: "000000", fill: null, width: 1, label: "" };
-  const [w, h] = shown.size;
-  return { ...base, w, h, stroke: shown.stroke, fill: shown.fill, width: shown.width, label: shown.label };
+  const [w, h] = shown.size ?? [0, 0];
+  const ends = shown.kind === "connector" ? { from: shown.from, to: shown.to } : {};
+  return { ...base, w, h, stroke: shown.stroke, fill: shown.fill, width: shown.width, label: shown.label, looks: looksOf(shown), ...ends };
+}
+
+/**
+ * The looks of an object that aren't as they are made.
+ * @param {any} told
+ * @returns {Looks}
+ */
+export function looksOf({ dash, heads, round, opacity, letters, align }) {
+  /** @type {[string, any][]} */
+  const all = [["dash", dash], ["heads", heads], ["round", round], ["opacity", opacity], ["letters", letters], ["side", align]];
+  return Object.fromEntries(all.filter(([, value]) => value !== undefined && value !== null));
 }
 
 export class Picture {

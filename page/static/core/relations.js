@@ -5,7 +5,7 @@
 
 const WHOLE = "*";
 const PARTS = /** @type {Record<string, string>} */ ({
-  move: "place", resize: "size", stroke: "stroke", fill: "fill", width: "width", text: "label", ungroup: "mark", reopen: "mark",
+  move: "place", resize: "size", stroke: "stroke", fill: "fill", width: "width", text: "label", reconnect: "ends", ungroup: "mark", reopen: "mark",
   raise: "rank", lower: "rank", rerank: "rank",
 });
 
@@ -17,12 +17,19 @@ const PARTS = /** @type {Record<string, string>} */ ({
 const tiedBy = (event) => event.members ?? event.ties ?? [];
 
 /**
+ * The parts of its object that an event sets, or null where it puts or takes the whole.
+ * @param {Event} event
+ */
+const partsOf = (event) => (event.op === "style" ? Object.keys(event.style) : PARTS[event.op] ? [PARTS[event.op]] : null);
+
+/**
  * The pairs of an object and a part that an event touches; `*` is the whole object.
  * @param {Event} event
  * @returns {[string, string][]}
  */
 export function touches(event) {
-  if (PARTS[event.op]) return [[event.id, PARTS[event.op]]];
+  const parts = partsOf(event);
+  if (parts) return parts.map((part) => [event.id, part]);
   return [[event.id, WHOLE], ...tiedBy(event).map(({ id }) => /** @type {[string, string]} */ ([id, "link"]))];
 }
 
@@ -76,5 +83,6 @@ export function closure(event, later) {
 export function covers(later, event) {
   if (later.id !== event.id || tiedBy(later).length || tiedBy(event).length) return false;
   if (later.op === "delete" || later.op === "disband") return true;
-  return PARTS[later.op] !== undefined && PARTS[later.op] === PARTS[event.op];
+  const [over, under] = [partsOf(later), partsOf(event)];
+  return over !== null && under !== null && under.every((part) => over.includes(part));
 }

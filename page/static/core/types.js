@@ -2,7 +2,19 @@
 // board's parts of it, ui/islands.js the islands' parts.
 
 /** @typedef {"rect" | "ellipse" | "line" | "text"} ShapeKind */
-/** @typedef {ShapeKind | "group"} Kind */
+/** @typedef {ShapeKind | "group" | "connector"} Kind */
+/** @typedef {"solid" | "dashed" | "dotted"} Dash */
+/** @typedef {"none" | "end" | "start" | "both"} Heads */
+/**
+ * The looks beside stroke, fill and width, as a new shape has them where they are missing or null.
+ * @typedef {object} Looks
+ * @property {Dash} [dash]
+ * @property {Heads} [heads]
+ * @property {number | null} [round]
+ * @property {number} [opacity] 1 to 100
+ * @property {number | null} [letters] how high they are
+ * @property {"start" | "middle" | "end" | null} [side] to which a label goes
+ */
 /** @typedef {{x0: number, y0: number, x1: number, y1: number}} Box */
 /** @typedef {[number, number, number, number]} Ends the two ends of a line: x, y, x, y */
 
@@ -19,18 +31,21 @@
  * @property {string} stroke RRGGBB
  * @property {string | null} fill RRGGBB, or null for none
  * @property {number} width 1 to 64
- * @property {string} label at most 200 bytes; a line break is U+2028
+ * @property {string} label at most 500 bytes; a line break is a line feed, in older drawings U+2028
+ * @property {Looks} [looks]
+ * @property {string} [from] the ends of a connector
+ * @property {string} [to]
  * @property {number} font the size of its letters, which goes by its kind
- * @property {"left" | "center"} align which goes by its kind
+ * @property {"left" | "center" | "right"} align which goes by its kind, where nothing is set
  * @property {number} by the site that made it
  * @property {number} z its place in paint order, from 0 at the bottom
  * @property {Box} box
  * @property {Box} [ink] the box with the room that its label may take beyond it; of all that the model has
- * @property {Ends | null} ends of a line
+ * @property {Ends | null} ends of a line or a connector
  */
 
-/** @typedef {Pick<Item, "id" | "kind" | "parent" | "x" | "y" | "w" | "h" | "stroke" | "fill" | "width" | "label">} Plain what the node says of an object */
-/** @typedef {Partial<Pick<Item, "x" | "y" | "w" | "h" | "stroke" | "fill" | "width" | "label" | "parent">>} Change */
+/** @typedef {Pick<Item, "id" | "kind" | "parent" | "x" | "y" | "w" | "h" | "stroke" | "fill" | "width" | "label"> & Partial<Pick<Item, "looks" | "from" | "to">>} Plain what the node says of an object */
+/** @typedef {Partial<Pick<Item, "x" | "y" | "w" | "h" | "stroke" | "fill" | "width" | "label" | "parent" | "looks" | "from" | "to">>} Change */
 
 /**
  * What the bridge says of an object of the drawing.
@@ -38,8 +53,16 @@
  * @property {Kind} kind
  * @property {string} id
  * @property {string | null} in
- * @property {[number, number]} at
+ * @property {[number, number]} [at]
  * @property {[number, number]} [size]
+ * @property {string} [from]
+ * @property {string} [to]
+ * @property {Dash} [dash]
+ * @property {Heads} [heads]
+ * @property {number} [round]
+ * @property {number} [opacity]
+ * @property {number} [letters]
+ * @property {"start" | "middle" | "end"} [align]
  * @property {string} [stroke]
  * @property {string | null} [fill]
  * @property {number} [width]
@@ -49,7 +72,7 @@
 /**
  * The last four are made by an undo or a redo alone.
  * @typedef {"create" | "delete" | "move" | "resize" | "stroke" | "fill" | "width" | "text" | "group" | "ungroup" | "raise" | "lower" |
- *   "restore" | "disband" | "rerank" | "reopen"} Op
+ *   "connect" | "reconnect" | "style" | "restore" | "disband" | "rerank" | "reopen"} Op
  */
 /** @typedef {{id: string, dx: number, dy: number}} Member */
 
@@ -68,6 +91,9 @@
  * @property {number} [h]
  * @property {string} [label]
  * @property {string | number | null} [value] of stroke, fill, width and text
+ * @property {Record<string, any>} [style] the looks that a style sets
+ * @property {string} [from]
+ * @property {string} [to]
  * @property {Member[]} [members]
  * @property {import("./drawing.js").Body} [body] what a restore puts back
  * @property {import("./drawing.js").Tie[]} [ties] the links that a restore or a disband gives to others

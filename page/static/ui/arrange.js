@@ -1,6 +1,8 @@
 // What is done with several objects at once, each as one batch of lines: align, spread, group, ungroup, duplicate.
 
+import { styleOf } from "../board/connecting.js";
 import { copyLines } from "../board/edits.js";
+import { connectLines } from "../board/making.js";
 import { objectName } from "./deeds.js";
 import { count } from "./words.js";
 
@@ -108,6 +110,15 @@ export function ungroup(ed) {
 }
 
 /**
+ * A connector from the object that was selected first to the other one.
+ * @param {Ed} ed
+ */
+export function connect(ed) {
+  const [from, to] = ed.selection.ids;
+  ed.edits.do("Connected two objects", connectLines(1, from, to, styleOf(ed)), (made) => [made[0]]);
+}
+
+/**
  * The selected objects and all in them, in painted order.
  * @param {Ed} ed
  */
@@ -117,7 +128,10 @@ export function withMembers({ model, selection }) {
     for (let at = item; at; at = model.byId.get(at.parent ?? "")) if (selection.ids.has(at.id)) return true;
     return false;
   };
-  return model.items.filter(isPicked);
+  const own = new Set(model.items.filter(isPicked).map(({ id }) => id));
+  // A connector goes along where both its ends do.
+  const isJoined = (/** @type {Item} */ item) => item.kind === "connector" && own.has(item.from ?? "") && own.has(item.to ?? "");
+  return model.items.filter((item) => own.has(item.id) || isJoined(item));
 }
 
 /** @param {Ed} ed */

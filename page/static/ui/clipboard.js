@@ -35,10 +35,11 @@ export class Clipboard {
     document.addEventListener("mouseup", (event) => event.button === 1 && isFree(event) && event.preventDefault());
   }
 
-  /** What is selected, as printed lines. A group that isn't copied whole isn't named by its members. */
+  /** What is selected, as printed lines. A group that isn't copied whole isn't named by its members, and a connector goes along with both its ends alone. */
   text() {
-    const items = withMembers(this.ed);
-    const own = new Set(items.map((item) => item.id));
+    const all = withMembers(this.ed);
+    const own = new Set(all.map((item) => item.id));
+    const items = all.filter(({ kind, from, to }) => kind !== "connector" || (own.has(from ?? "") && own.has(to ?? "")));
     const lines = items.map((item) => printed({ ...item, parent: item.parent && own.has(item.parent) ? item.parent : null }));
     return `${lines.join("\n")}\nend ${items.length}\n`;
   }
@@ -137,7 +138,7 @@ export class Clipboard {
    * @param {{x: number, y: number}} at
    */
   putItems(items, name, at) {
-    const shapes = items.filter((item) => item.kind !== "group");
+    const shapes = items.filter(({ kind }) => kind !== "group" && kind !== "connector");
     const box = around(shapes.map((item) => ({
       x0: Math.min(item.x, item.x + item.w), y0: Math.min(item.y, item.y + item.h),
       x1: Math.max(item.x, item.x + item.w), y1: Math.max(item.y, item.y + item.h),

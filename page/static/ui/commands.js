@@ -1,7 +1,7 @@
 // Every command once: its name, keys, icon, when it can be done, and how. The palette, the menus, the help and the keys
 // are made of this list.
 
-import { align, duplicate, enter, group, remove, selectAll, spread, ungroup } from "./arrange.js";
+import { align, connect, duplicate, enter, group, remove, selectAll, spread, ungroup } from "./arrange.js";
 
 /**
  * @typedef {object} Command
@@ -86,6 +86,8 @@ const EDIT = commandsOf("Edit", [
 const canGroup = (ed) => withAtLeast(2)(ed) && chosen(ed).every((item) => item?.parent === null);
 /** @type {When} */
 const canUngroup = (ed) => withSome(ed) && chosen(ed).some((item) => item?.kind === "group");
+/** @type {When} */
+const canConnect = (ed) => withAtLeast(2)(ed) && ed.selection.ids.size === 2 && chosen(ed).every((item) => item && item.kind !== "connector");
 /** @param {string} way */
 const aligning = (way) => (/** @type {Ed} */ ed) => align(ed, way);
 /** @type {Run} */
@@ -97,6 +99,7 @@ const toBack = (ed) => ed.edits.do("Sent to back", ed.selection.list().reverse()
 const ARRANGE = commandsOf("Arrange", [
   ["group", "Group", "group", ["Mod+G"], canGroup, group],
   ["ungroup", "Ungroup", "ungroup", ["Mod+Shift+G"], canUngroup, ungroup],
+  ["connect", "Connect", "connector", ["C"], canConnect, connect],
   ["front", "Bring to front", "front", ["]", "Shift+]"], withSome, toFront],
   ["back", "Send to back", "back", ["[", "Shift+["], withSome, toBack],
   ["alignL", "Align left", "alignL", ["Alt+A"], withAtLeast(2), aligning("alignL")],

@@ -7,10 +7,10 @@ import { count, oneLine, shortened } from "./words.js";
 const DEEDS = /** @type {Record<string, string>} */ ({
   create: "made", delete: "deleted", move: "moved", resize: "resized", stroke: "coloured", fill: "filled",
   width: "set the width of", text: "wrote", group: "grouped", ungroup: "dissolved", raise: "brought to the front",
-  lower: "sent to the back", restore: "put back", disband: "took apart", rerank: "put back in its place", reopen: "made whole again",
+  connect: "connected", reconnect: "connected anew", style: "styled", lower: "sent to the back", restore: "put back", disband: "took apart", rerank: "put back in its place", reopen: "made whole again",
 });
 const KINDS = /** @type {Record<string, string>} */ ({
-  rect: "a rectangle", ellipse: "an ellipse", line: "a line", text: "a text", group: "a group",
+  rect: "a rectangle", ellipse: "an ellipse", line: "a line", text: "a text", group: "a group", connector: "a connector",
 });
 const LONGEST = 24;
 
@@ -42,7 +42,7 @@ export function objectName(ed, id) {
   const item = ed.model.byId.get(id);
   const label = item ? item.label : lastLabel(ed, id) ?? made?.label;
   if (label) return `“${shortened(oneLine(label), LONGEST)}”`;
-  const kind = item ? item.kind : made?.op === "group" ? "group" : made?.kind;
+  const kind = item ? item.kind : made?.op === "group" ? "group" : made?.op === "connect" ? "connector" : made?.kind;
   return KINDS[kind ?? ""] ?? "an object";
 }
 
@@ -96,7 +96,7 @@ export function stepDeedOf(ed, events) {
   const who = ed.people.name(first.site);
   /** @param {string} op */
   const of = (op) => events.filter((event) => event.op === op);
-  const told = ["create", "group", "restore", "delete", "text", "resize"].map(of).find((list) => list.length) ?? events;
+  const told = ["create", "connect", "group", "restore", "delete", "text", "resize"].map(of).find((list) => list.length) ?? events;
   const { op } = told[0];
   const ids = new Set(told.map((event) => event.id));
   if (ids.size === 1) return deedOf(ed, told[0]);
@@ -106,7 +106,7 @@ export function stepDeedOf(ed, events) {
 
 const NOUNS = /** @type {Record<string, string>} */ ({
   move: "move", resize: "new size", stroke: "colour", fill: "fill", width: "width", text: "text", group: "group", ungroup: "end of the group",
-  raise: "new order", lower: "new order", delete: "delete", disband: "end of the group", rerank: "old order", reopen: "old group",
+  connect: "connector", reconnect: "new end", style: "look", raise: "new order", lower: "new order", delete: "delete", disband: "end of the group", rerank: "old order", reopen: "old group",
 });
 
 const WITH_IT = /** @type {Record<string, string>} */ ({

@@ -12,10 +12,10 @@ import { h } from "./h.js";
 import { count } from "./words.js";
 import { changeText, makeText } from "./writing.js";
 
-const CONTROLS = /[\u0000-\u001f\u007f-\u009f]/g;
+const CONTROLS = /[\u0000-\u0009\u000b-\u001f\u007f-\u009f]/g;
 
 /**
- * A text as a label: its line feeds are U+2028, and other control characters are spaces.
+ * A text as a label: control characters but line feeds are spaces.
  * @param {string} text
  */
 export const labelOf = (text) => text.replace(/\r\n?|\n/g, BREAK).replace(CONTROLS, " ");
@@ -141,7 +141,7 @@ export class Editor {
   /** @param {string} label */
   fill(label) {
     this.began = label;
-    this.field.value = label.replaceAll(BREAK, "\n");
+    this.field.value = label.replaceAll("\u2028", "\n");
   }
 
   /** Looks what became of the item since it was looked at, and goes along. */
@@ -208,7 +208,7 @@ export class Editor {
     const { ed, item } = this;
     const box = this.fitted();
     const [w, height] = [box.x1 - box.x0, box.y1 - box.y0];
-    if (!this.isNew && item.kind !== "line") {
+    if (!this.isNew && !item.ends) {
       const isOther = height !== Math.abs(item.h) || w !== Math.abs(item.w);
       ed.model.preview(new Map(isOther ? [[item.id, { x: box.x0, y: box.y0, w, h: height }]] : []));
     }
@@ -234,7 +234,7 @@ export class Editor {
     const isText = item.kind === "text";
     const room = roomIn(item, box);
     const laid = lay(this.text || " ", item.font, isText && this.isAuto ? WIDEST : room);
-    const wide = item.kind === "line" ? Math.max(60, laid.w + 8) : Math.max(isText ? 24 : 8, room + (isText ? 4 : 0));
+    const wide = item.ends ? Math.max(60, laid.w + 8) : Math.max(isText ? 24 : 8, room + (isText ? 4 : 0));
     const x = isText ? box.x0 : (box.x0 + box.x1 - wide) / 2;
     const y = isText ? box.y0 : (box.y0 + box.y1 - laid.h) / 2;
     const [left, top] = ed.camera.toWindow(x, y);

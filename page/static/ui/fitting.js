@@ -15,7 +15,7 @@ const ELLIPSE_ROOM = 0.72;
  * @returns {Box}
  */
 export function fittedBox(item, text, isAuto) {
-  if (item.kind === "line") return item.box;
+  if (item.ends) return item.box;
   if (item.kind === "text") {
     const laid = lay(text, item.font, isAuto ? WIDEST : Math.max(8, item.w));
     const width = isAuto ? Math.ceil(laid.w) + 1 : item.w;
@@ -34,7 +34,7 @@ export function fittedBox(item, text, isAuto) {
  * @param {Box} box
  */
 export function roomIn(item, box) {
-  if (item.kind === "line") return LINE_ROOM;
+  if (item.ends) return LINE_ROOM;
   return item.kind === "text" ? box.x1 - box.x0 : roomOf(item.kind, box.x1 - box.x0);
 }
 

@@ -9,6 +9,7 @@ const GESTURES = [
   ["Write", "Double click, tap twice"],
   ["Add to the selection", "Shift + click, Shift + drag"],
   ["Enter a group", "Double click"],
+  ["Connect", "Drag from a dot of what is selected to another object"],
   ["Copy", "Alt + drag"],
   ["Keep proportions, straight lines", "Shift while dragging"],
   ["From the middle", "Alt while resizing"],

@@ -10,7 +10,7 @@ const DEAF_BEHIND = 100;
 
 const ON_SELECTION = [
   ["cut", "copy", "paste", "duplicate", "delete"],
-  ["edit", "group", "ungroup"],
+  ["edit", "group", "ungroup", "connect"],
   ["front", "back"],
   ["zoomSel", "copySvg", "copyPng"],
 ];

@@ -3,7 +3,7 @@
 import { count, oneLine } from "./words.js";
 
 const KINDS = /** @type {Record<string, string>} */ ({
-  rect: "Rectangle", ellipse: "Ellipse", line: "Line", text: "Text", group: "Group",
+  rect: "Rectangle", ellipse: "Ellipse", line: "Line", text: "Text", group: "Group", connector: "Connector",
 });
 
 /**

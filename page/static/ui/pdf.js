@@ -2,13 +2,13 @@
 // that Helvetica doesn't have is a picture.
 
 import { inkOn, shownColour } from "../board/colours.js";
-import { radiusOf, textBox } from "../board/paint.js";
+import { dashesOf, headsOf, roundOf, textBox } from "../board/paint.js";
 import { fontOf, LEADING } from "../board/text.js";
 import { numberText, PdfFile, textObject } from "./pdf_file.js";
 import { encoded, fontObject } from "./pdf_text.js";
 import { pictureBox } from "./svg.js";
 
-/** @typedef {{out: string[], file: PdfFile, pictures: string[]}} Sheet */
+/** @typedef {{out: string[], file: PdfFile, pictures: string[], opacities: Set<number>}} Sheet */
 
 const POINTS = 0.75;
 /** How far the control points of a quarter of a circle are, and where the line that letters stand on is. */
@@ -30,13 +30,14 @@ export async function pdfOf(items, title) {
   const [catalogue, pages, page] = [file.reserve(), file.reserve(), file.reserve()];
   const font = file.add(fontObject());
   /** @type {Sheet} */
-  const sheet = { out: [], file, pictures: [] };
+  const sheet = { out: [], file, pictures: [], opacities: new Set() };
   // The board's axis goes down.
   sheet.out.push(operation("cm", POINTS, 0, 0, -POINTS, -box.x0 * POINTS, box.y1 * POINTS));
   for (const item of items) if (item.kind !== "group") await putItem(sheet, item);
   const content = await file.stream("", new TextEncoder().encode(sheet.out.join("\n")));
   const info = file.add(`/Title ${textObject(title)} /Producer (groupdesign)`);
-  const resources = `/Font << /F1 ${font} 0 R >> /XObject << ${sheet.pictures.join(" ")} >>`;
+  const states = [...sheet.opacities].map((each) => `/O${each} << /CA ${numberText(each / 100)} /ca ${numberText(each / 100)} >>`);
+  const resources = `/Font << /F1 ${font} 0 R >> /XObject << ${sheet.pictures.join(" ")} >> /ExtGState << ${states.join(" ")} >>`;
   const media = [0, 0, width, height].map(numberText).join(" ");
   file.fill(catalogue, `/Type /Catalog /Pages ${pages} 0 R`);
   file.fill(pages, `/Type /Pages /Kids [${page} 0 R] /Count 1`);
@@ -65,21 +66,36 @@ function colourOf(name, colour) {
 async function putItem(sheet, item) {
   const { out } = sheet;
   const { kind, box, fill, width, ends } = item;
+  const opacity = item.looks?.opacity ?? 100;
+  if (opacity < 100) {
+    sheet.opacities.add(opacity);
+    out.push(`q /O${opacity} gs`);
+  }
+  const dashes = dashesOf(item);
+  if (dashes) out.push(`[${dashes.map(numberText).join(" ")}] 0 d`);
   out.push(colourOf("RG", shownColour(item.stroke, false)), operation("w", width));
   if (fill) out.push(colourOf("rg", shownColour(fill, false)));
-  if (kind === "rect") out.push(...roundedRect(box), fill ? "B" : "S");
+  if (kind === "rect") out.push(...roundedRect(box, roundOf(item)), fill ? "B" : "S");
   else if (kind === "ellipse") out.push(...ellipse(box), fill ? "B" : "S");
-  else if (kind === "line" && ends) out.push(...roundLine(ends));
+  else if (ends) out.push(...roundLine(ends));
   else if (fill) out.push(operation("re", box.x0, box.y0, box.x1 - box.x0, box.y1 - box.y0), "f");
+  if (dashes) out.push("[] 0 d");
+  for (const head of headsOf(item)) out.push(...headLine(head));
   if (item.label) await putText(sheet, item);
+  if (opacity < 100) out.push("Q");
 }
+
+/** @param {[number, number][]} head */
+const headLine = ([first, tip, second]) => ["1 J", operation("m", ...first), operation("l", ...tip), operation("l", ...second), "S 0 J"];
 
 /** @param {import("../core/types.js").Ends} ends */
 const roundLine = (ends) => ["1 J", operation("m", ends[0], ends[1]), operation("l", ends[2], ends[3]), "S 0 J"];
 
-/** @param {Box} box */
-function roundedRect({ x0, y0, x1, y1 }) {
-  const radius = radiusOf(x1 - x0, y1 - y0);
+/**
+ * @param {Box} box
+ * @param {number} radius
+ */
+function roundedRect({ x0, y0, x1, y1 }, radius) {
   const near = radius * (1 - ROUND);
   return [
     operation("m", x0 + radius, y0), operation("l", x1 - radius, y0),
@@ -108,7 +124,7 @@ async function putText(sheet, item) {
   const text = textBox(item);
   const ink = inkOn(item, false);
   const { font, align } = item;
-  if (item.kind === "line") {
+  if (item.ends) {
     sheet.out.push("1 1 1 rg", operation("re", text.x0 - 5, text.y - 1, text.x1 - text.x0 + 10, text.h + 2), "f");
   }
   sheet.out.push(colourOf("rg", ink));

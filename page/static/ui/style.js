@@ -6,6 +6,7 @@ import { commandButton } from "./aid.js";
 import { commandOf } from "./commands.js";
 import { button, h } from "./h.js";
 import { icon } from "./icons.js";
+import { Marks } from "./marks.js";
 import { Recent } from "./recent.js";
 import { count } from "./words.js";
 
@@ -61,6 +62,7 @@ export class StylePanel {
       fill: this.colourRow("fill", FILLS),
       width: this.widthRow(),
     };
+    this.marks = new Marks(ed, this.body);
     this.arrange = this.arrangeRow();
     this.shown = "";
   }
@@ -167,6 +169,7 @@ export class StylePanel {
     }
     const values = this.values(shapes, kinds);
     const title = this.titleText();
+    this.marks.update(shapes);
     const shown = JSON.stringify([title, [...kinds].sort(), values, ed.scene.dark]);
     if (shown === this.shown && !isAnew) return;
     this.shown = shown;

@@ -2,7 +2,7 @@
 
 import { around, boxOf, grown } from "../board/boxes.js";
 import { inkOn, shownColour } from "../board/colours.js";
-import { radiusOf, textBox } from "../board/paint.js";
+import { dashesOf, headsOf, roundOf, textBox } from "../board/paint.js";
 import { FAMILY, LEADING } from "../board/text.js";
 
 const SPACE = "http://www.w3.org/2000/svg";
@@ -63,20 +63,34 @@ export function svgOf(items, title) {
 /** @param {Item} item */
 function shapeOf(item) {
   const shape = bareShape(item);
-  const made = element("g", { "data-id": item.id, "data-kind": item.kind }, ...(shape ? [shape] : []));
+  const opacity = (item.looks?.opacity ?? 100) / 100;
+  const attributes = { "data-id": item.id, "data-kind": item.kind, opacity: opacity < 1 ? opacity : null };
+  const made = element("g", attributes, ...(shape ? [shape, ...headsOf(item).map((head) => headShape(item, head))] : []));
   if (item.label) made.append(...textOf(item));
   return made;
 }
 
+/**
+ * @param {Item} item
+ * @param {[number, number][]} head
+ */
+function headShape({ stroke, width }, head) {
+  const points = head.map(([x, y]) => `${short(x)},${short(y)}`).join(" ");
+  const look = { stroke: shownColour(stroke, false), "stroke-width": width, fill: "none", "stroke-linecap": "round" };
+  return element("polyline", { class: "head", points, ...look });
+}
+
 /** @param {Item} item */
-function bareShape({ kind, box, ends, stroke, fill, width }) {
+function bareShape(item) {
+  const { kind, box, ends, stroke, fill, width } = item;
   const [w, h] = [box.x1 - box.x0, box.y1 - box.y0];
   const look = {
     stroke: shownColour(stroke, false), "stroke-width": width, fill: fill ? shownColour(fill, false) : "none",
+    "stroke-dasharray": dashesOf(item)?.map(short).join(" ") ?? null,
   };
-  if (kind === "rect") return element("rect", { x: box.x0, y: box.y0, width: w, height: h, rx: short(radiusOf(w, h)), ...look });
+  if (kind === "rect") return element("rect", { x: box.x0, y: box.y0, width: w, height: h, rx: short(roundOf(item)), ...look });
   if (kind === "ellipse") return element("ellipse", { cx: box.x0 + w / 2, cy: box.y0 + h / 2, rx: w / 2, ry: h / 2, ...look });
-  if (kind !== "line" || !ends) return null;
+  if (!ends) return null;
   return element("line", { x1: ends[0], y1: ends[1], x2: ends[2], y2: ends[3], ...look, fill: null, "stroke-linecap": "round" });
 }
 
@@ -95,7 +109,7 @@ function textOf(item) {
   };
   const lines = text.lines.map((line, at) => element("tspan", { x: short(x), y: short(text.y + (at + 0.5) * item.font * LEADING) }, line));
   const made = element("text", attributes, ...lines);
-  if (item.kind !== "line") return [made];
+  if (!item.ends) return [made];
   const paper = { x: short(text.x0 - 5), y: short(text.y - 1), width: short(text.x1 - text.x0 + 10), height: short(text.h + 2) };
   return [element("rect", { class: "paper", ...paper, fill: "#FFFFFF" }), made];
 }

@@ -2,9 +2,10 @@
 
 const REFUSALS = /** @type {Record<string, string>} */ ({
   NoObject: "it is gone, someone deleted it",
-  BadLabel: "a text has at most 200 bytes",
+  BadLabel: "a text has at most 500 bytes",
   BadNumber: "that number is out of range",
   BadColour: "that is no colour",
+  BadLook: "there is no such look",
   LongLine: "that is too long",
   TooFar: "that is too far out",
   WrongCount: "a group takes 2 to 32 objects",
@@ -12,6 +13,8 @@ const REFUSALS = /** @type {Record<string, string>} */ ({
   NotTop: "one of these is in a group",
   NotShape: "a group has no style of its own",
   NotGroup: "that is no group",
+  NotPlaced: "a connector has no place of its own, and is no end of another one",
+  NotConnector: "that is no connector",
   NothingBack: "nothing is left to take back, or to do again",
   SessionFull: "you have made all 65,535 edits that a drawing takes from one person",
   ClockEnd: "this drawing has no room for more edits",

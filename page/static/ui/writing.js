@@ -1,6 +1,7 @@
 // What was written in a field becomes edits. Where these aren't done, the words are offered as a text of their own.
 
 import { createLines } from "../board/edits.js";
+import { escaped } from "../core/lines.js";
 import { asTextBox } from "./fitting.js";
 import { oneLine, shortened } from "./words.js";
 
@@ -24,9 +25,9 @@ export async function makeText(ed, label, box) {
  * @param {Box} box
  */
 export async function changeText(ed, item, label, box) {
-  const lines = [`text ${item.id} ${label}`];
+  const lines = [`text ${item.id} ${escaped(label)}`];
   const [w, height] = [Math.round(box.x1 - box.x0), Math.round(box.y1 - box.y0)];
-  const isSized = item.kind !== "line" && (w !== Math.abs(item.w) || height !== Math.abs(item.h));
+  const isSized = !item.ends && (w !== Math.abs(item.w) || height !== Math.abs(item.h));
   if (isSized) lines.push(`resize ${item.id} ${w} ${height}`);
   const [x, y] = [Math.round(box.x0), Math.round(box.y0)];
   if (isSized && (x !== item.x || y !== item.y)) lines.push(`move ${item.id} ${x} ${y}`);

@@ -13,9 +13,10 @@ const EXAMPLES = new URL("../../../examples/", import.meta.url);
 const skip = PROGRAM ? false : "there is no built program: set PAGE_PROGRAM";
 
 /** An object of the drawing's JSON in the page's words. */
-const plainOf = ({ id, kind, in: parent, at: [x, y], size: [w, h] = [0, 0], stroke = "000000", fill = null, width = 1, label = "" }) => ({
-  id, kind, parent, x, y, w, h, stroke, fill, width, label,
-});
+function plainOf({ id, kind, in: parent, at: [x, y] = [0, 0], size: [w, h] = [0, 0], stroke = "000000", fill = null, width = 1, label = "", from, to, ...rest }) {
+  const { align, ...looks } = rest;
+  return { id, kind, parent, x, y, w, h, stroke, fill, width, label, looks: align ? { ...looks, side: align } : looks, ...(from && { from, to }) };
+}
 const drawingOf = (log) => JSON.parse(replayed(log, "--format", "json")).map(plainOf);
 
 function historyOf(told) {
@@ -119,15 +120,22 @@ const hexOf = (value) => (value === null ? null : value.toString(16).toUpperCase
 const toldLink = (link) => link && { id: nameOf(link), dx: link.dx, dy: link.dy };
 const toldRank = (rank) => ({ [rank.height]: nameOf(rank) });
 
-/** The object of a random restore as the bridge tells it. */
-const toldWhole = ({ x, y, w, h, stroke, fill, link, rank, ...rest }) => ({
-  ...rest, at: [x, y], size: [w, h], stroke: hexOf(stroke), fill: hexOf(fill), link: toldLink(link), rank: toldRank(rank),
-});
+/** Looks with colours as the bridge tells them. */
+const toldLooks = (looks) => Object.fromEntries(Object.entries(looks).map(([part, value]) => [part, part === "stroke" || part === "fill" ? hexOf(value) : value]));
+const NEW = { dash: "solid", heads: "none", opacity: 100 };
+
+/** The object of a random restore as the bridge tells it: what is as it is made is left out. */
+function toldWhole({ x, y, w, h, stroke, fill, link, rank, from, to, ...rest }) {
+  const told = Object.entries(rest).filter(([part, value]) => value !== null && NEW[part] !== value);
+  const ends = from && { from: nameOf(from), to: nameOf(to) };
+  return { ...Object.fromEntries(told), ...ends, at: [x, y], size: [w, h], stroke: hexOf(stroke), fill: hexOf(fill), link: toldLink(link), rank: toldRank(rank) };
+}
 
 /** An event of a random log as the bridge tells it. */
-function told({ on, style, value, members, whole, ties, rank, ...rest }) {
+function told({ op, on, style, value, members, whole, ties, rank, looks, from, to, ...rest }) {
   return {
-    ...rest, ...(on && { target: nameOf(on) }), ...(style && { [style]: style === "width" ? value : hexOf(value) }),
+    ...rest, op: op === "style" ? "restyle" : op, ...(on && { target: nameOf(on) }), ...(style && toldLooks({ [style]: value })),
+    ...(looks && toldLooks(looks)), ...(from && { from: nameOf(from), to: nameOf(to) }),
     ...(members && { members: members.map(({ dx, dy, ...id }) => ({ id: nameOf(id), dx, dy })) }), ...(whole && toldWhole(whole)),
     ...(ties && { ties: ties.map((tie) => ({ id: nameOf(tie), link: toldLink(tie.link) })) }), ...(rank && { rank: toldRank(rank) }),
   };

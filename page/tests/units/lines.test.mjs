@@ -25,26 +25,26 @@ test("what is no drawing isn't read", () => {
   const good = "rect 1.1 in - at 0 0 size 1 1 stroke 000000 fill none width 1";
   const rows = [
     "", "end 0", "hello", `${good}\nhello`, good.replace("width 1", "width 65"), good.replace("width 1", "width 0"), good.replace("000000", "00000"),
-    good.replace("rect", "circle"), `${good} text ${"x".repeat(201)}`, `${good} text a\u0007b`, good.replace("1.1", "1"),
+    good.replace("rect", "circle"), `${good} text ${"x".repeat(501)}`, `${good} text a\u0007b`, good.replace("1.1", "1"),
   ];
   for (const text of rows) assert.equal(readPrinted(text), null, text);
 });
 
-test("a label has at most 200 bytes, is cut between letters, and has no control characters", () => {
+test("a label has at most 500 bytes, is cut between letters, and has no control characters", () => {
   const rows = [
-    ["a\nb\r\nc", "a\u2028b\u2028c"], ["a\tb\u0085c", "a b c"], ["x".repeat(201), "x".repeat(200)], ["é".repeat(101), "é".repeat(100)],
-    [`${"x".repeat(199)}é`, "x".repeat(199)], [`${"x".repeat(190)}👩‍👩‍👧`, "x".repeat(190)],
+    ["a\nb\r\nc", "a\nb\nc"], ["a\tb\u0085c", "a b c"], ["x".repeat(501), "x".repeat(500)], ["é".repeat(251), "é".repeat(250)],
+    [`${"x".repeat(499)}é`, "x".repeat(499)], [`${"x".repeat(490)}👩‍👩‍👧`, "x".repeat(490)],
   ];
   for (const [text, wanted] of rows) {
     assert.equal(fitLabel(text), wanted);
-    assert.ok(isLabel(fitLabel(text)) && bytesOf(fitLabel(text)) <= 200);
+    assert.ok(isLabel(fitLabel(text)) && bytesOf(fitLabel(text)) <= 500);
   }
 });
 
 test("a shape is made with the styles that aren't the first ones", () => {
   const rows = [
     [{}, ["create rect 1 2 3 4"]], [{ label: "a b" }, ["create rect 1 2 3 4 a b"]],
-    [{ stroke: "FF0000", fill: "00FF00", width: 2 }, ["create rect 1 2 3 4", "stroke @7 FF0000", "fill @7 00FF00", "width @7 2"]],
+    [{ stroke: "FF0000", fill: "00FF00", width: 2 }, ["create rect 1 2 3 4", "style @7 stroke FF0000 fill 00FF00 width 2"]],
   ];
   for (const [more, lines] of rows) assert.deepEqual(createLines(7, plain("1.1", "rect", 1, 2, 3, 4, more)), lines);
 });
@@ -59,6 +59,17 @@ test("copies have their groups, and lie over each other as the items do", () => 
     "create rect 10 20 1 1", "width @1 2", "create rect 10 20 1 1", "group @1 @3", "create line 10 20 1 1", "group @4 @5", "create rect 15 25 1 1",
   ]);
   assert.deepEqual([...made], [["1.1", 1], ["2.1", 3], ["8.1", 4], ["3.1", 5], ["9.1", 6], ["4.1", 7]]);
+});
+
+test("a connector is read, printed, and copied with both its ends", () => {
+  const line = "connector 3.1 in - from 1.1 to 2.1 stroke 000000 fill none width 2 dash dashed heads both size 9 text a\\nb\\\\";
+  const [joined] = readPrinted(line) ?? [];
+  assert.deepEqual([joined.from, joined.to, joined.label, joined.looks], ["1.1", "2.1", "a\nb\\", { dash: "dashed", heads: "both", letters: 9 }]);
+  assert.equal(printed(joined), line);
+  const [one, two] = [plain("1.1", "rect", 0, 0, 1, 1), plain("2.1", "rect", 5, 0, 1, 1)];
+  const style = "style @3 width 2 dash dashed heads both size 9";
+  assert.deepEqual(copyLines([one, two, joined], 10, 0).lines, ["create rect 10 0 1 1", "create rect 15 0 1 1", "connect @1 @2 a\\nb\\\\", style]);
+  assert.deepEqual(copyLines([one, joined], 0, 0).lines, ["create rect 0 0 1 1"]);
 });
 
 test("a group of which one member is copied is no group", () => {

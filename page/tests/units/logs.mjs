@@ -6,9 +6,19 @@ import { existsSync } from "node:fs";
 const BUILT = new URL("../../../crates/groupdesign/out/groupdesign", import.meta.url).pathname;
 export const PROGRAM = process.env.PAGE_PROGRAM || (existsSync(BUILT) ? BUILT : null);
 const KINDS = { rect: 1, ellipse: 2, line: 3, text: 4 };
-const OBJECT_KINDS = { ...KINDS, group: 5 };
+const OBJECT_KINDS = { ...KINDS, group: 5, connector: 6 };
 const STYLES = { stroke: 1, fill: 2, width: 3 };
 const NO_FILL = 0xffffffff;
+const LONGEST_IN_ONE = 200;
+const DASHES = ["solid", "dashed", "dotted"];
+const HEADS = ["none", "end", "start", "both"];
+const SIDES = [null, "start", "middle", "end"];
+/** The parts of a look: how many bytes each has, and its value as a number. */
+const LOOKS = [
+  ["stroke", 4, (value) => value], ["fill", 4, (value) => value ?? NO_FILL], ["width", 1, (value) => value],
+  ["dash", 1, (value) => DASHES.indexOf(value)], ["heads", 1, (value) => HEADS.indexOf(value)], ["round", 4, (value) => value ?? NO_FILL],
+  ["opacity", 1, (value) => value], ["letters", 2, (value) => value ?? 0], ["align", 1, (value) => SIDES.indexOf(value)],
+];
 
 /** What `replay` prints of a log in one of its formats. */
 export function replayed(log, ...words) {
@@ -45,7 +55,8 @@ class Bytes {
 
   label(text) {
     const bytes = new TextEncoder().encode(text);
-    this.number(bytes.length, 1).list.push(...bytes);
+    const more = bytes.length - LONGEST_IN_ONE - 1;
+    (more < 0 ? this.number(bytes.length, 1) : this.number(0xc9 * 256 + more, 2)).list.push(...bytes);
     return this;
   }
 
@@ -61,9 +72,18 @@ class Bytes {
     return ties.reduce((all, tie) => all.stamp(tie).link(tie.link), this.number(ties.length, 1));
   }
 
-  whole({ kind, x, y, w, h, stroke, fill, width, label, link, dissolved, rank }) {
-    const front = [x, y, w, h, stroke, fill ?? NO_FILL].reduce((all, each) => all.number(each, 4), this.number(OBJECT_KINDS[kind], 1));
-    return front.number(width, 1).label(label).link(link).number(dissolved ? 1 : 0, 1).rank(rank);
+  looks(set) {
+    return LOOKS.reduce((all, [part, size, of]) => (part in set ? all.number(1, 1).number(of(set[part]), size) : all.number(0, 1)), this);
+  }
+
+  ends({ from, to }) {
+    return from ? this.number(1, 1).stamp(from).stamp(to) : this.number(0, 1);
+  }
+
+  whole({ kind, x, y, w, h, label, link, dissolved, rank, ...rest }) {
+    const front = [x, y, w, h].reduce((all, each) => all.number(each, 4), this.number(OBJECT_KINDS[kind], 1));
+    const look = LOOKS.reduce((all, [part, size, of]) => all.number(of(rest[part]), size), front);
+    return look.label(label).ends(rest).link(link).number(dissolved ? 1 : 0, 1).rank(rank);
   }
 }
 
@@ -82,6 +102,9 @@ const WRITERS = {
   disband: (bytes, e) => bytes.number(12, 1).stamp(e.on).ties(e.ties),
   rerank: (bytes, e) => bytes.number(13, 1).stamp(e.on).rank(e.rank),
   reopen: (bytes, e) => bytes.number(14, 1).stamp(e.on),
+  style: (bytes, e) => bytes.number(15, 1).stamp(e.on).looks(e.looks),
+  connect: (bytes, e) => bytes.number(16, 1).stamp(e.from).stamp(e.to).label(e.label),
+  reconnect: (bytes, e) => bytes.number(17, 1).stamp(e.on).stamp(e.from).stamp(e.to),
 };
 
 /** The CRC-32C of what has that check, with these bytes behind it. */
@@ -125,6 +148,19 @@ export function drawer(seed) {
 
 const compare = (a, b) => a.clock - b.clock || a.site - b.site;
 
+/** A value of each part of a look. */
+const wholeLook = (draw) => ({
+  stroke: draw(1 << 24), fill: draw(2) ? null : draw(1 << 24), width: 1 + draw(64), dash: DASHES[draw(3)], heads: HEADS[draw(4)],
+  round: draw(2) ? null : draw(1_000_001), opacity: 1 + draw(100), letters: draw(2) ? null : 1 + draw(1000), align: SIDES[draw(4)],
+});
+
+/** Some parts of a look, not a stroke, a fill or a width alone. */
+function someLooks(draw) {
+  const all = Object.entries(wholeLook(draw));
+  const set = all.filter(() => draw(3) === 0);
+  return Object.fromEntries(set.length && (set.length > 1 || !(set[0][0] in STYLES)) ? set : all.slice(2, 5));
+}
+
 /** What an undo makes of one of these objects: each link leads to a later one of them, if not to none. */
 function turned(draw, op, on, before, place, size) {
   const link = (from) => {
@@ -136,9 +172,11 @@ function turned(draw, op, on, before, place, size) {
   if (op === "reopen") return { op, on };
   if (op === "rerank") return { op, on, rank: rank() };
   if (op === "disband") return { op, on, ties: ties(1) };
-  const look = { stroke: draw(1 << 24), fill: draw(2) ? null : draw(1 << 24), width: 1 + draw(64), label: ["", "put"][draw(2)] };
-  const kind = Object.keys(OBJECT_KINDS)[draw(5)];
-  return { op, on, whole: { kind, ...place(), ...size(), ...look, link: link(on), dissolved: kind === "group" && draw(4) === 0, rank: rank() }, ties: ties(0) };
+  const look = { ...wholeLook(draw), label: ["", "put"][draw(2)] };
+  const kind = Object.keys(OBJECT_KINDS)[draw(6)];
+  const ends = kind === "connector" ? { from: before[draw(before.length)], to: before[draw(before.length)] } : {};
+  const whole = { kind, ...place(), ...size(), ...look, ...ends, link: link(on), dissolved: kind === "group" && draw(4) === 0, rank: rank() };
+  return { op, on, whole, ties: kind === "group" ? ties(0) : [] };
 }
 
 /** An operation on one of the objects that were made before a stamp; none of them need be there any more. */
@@ -146,9 +184,13 @@ function operation(draw, stamp, made) {
   const place = () => ({ x: draw(2001) - 1000, y: draw(2001) - 1000 });
   const size = () => ({ w: draw(401) - 200, h: draw(401) - 200 });
   const before = made.filter((each) => compare(each, stamp) < 0);
-  const pick = draw(25);
-  if (pick < 4 || before.length < 2) return { op: "create", kind: Object.keys(KINDS)[draw(4)], ...place(), ...size(), label: ["", "a", "é \"q\\", "שלום"][draw(4)] };
-  const on = before[draw(before.length)];
+  const pick = draw(30);
+  const label = ["", "a", "é \"q\\", "שלום", "two\nlines", "x".repeat(300)][draw(6)];
+  if (pick < 4 || before.length < 2) return { op: "create", kind: Object.keys(KINDS)[draw(4)], ...place(), ...size(), label };
+  const [on, from, to] = Array.from({ length: 3 }, () => before[draw(before.length)]);
+  if (pick > 27) return { op: "connect", from, to, label };
+  if (pick > 26) return { op: "reconnect", on, from, to };
+  if (pick > 24) return { op: "style", on, looks: someLooks(draw) };
   if (pick < 8) return { op: "move", on, ...place() };
   if (pick < 9) return { op: "resize", on, ...size() };
   if (pick < 12) return { op: "restyle", on, ...[{ style: "stroke", value: draw(1 << 24) }, { style: "fill", value: draw(2) ? null : draw(1 << 24) }, { style: "width", value: 1 + draw(64) }][draw(3)] };
@@ -172,7 +214,7 @@ export function randomEvents(seed, count, sites) {
     clocks[site - 1] += 1 + draw(3);
     const stamp = { clock: clocks[site - 1], site };
     const event = { ...stamp, ...operation(draw, stamp, made) };
-    if (event.op === "create" || event.op === "group") made.push(stamp);
+    if (["create", "group", "connect"].includes(event.op)) made.push(stamp);
     lists[site - 1].push(event);
   }
   const events = [];

@@ -15,7 +15,7 @@ const { asHex, chain, moved, parseTransform, IDENTITY } = await import("../../st
 const { encoded } = await import("../../static/ui/pdf_text.js");
 const { PdfFile, numberText, textObject } = await import("../../static/ui/pdf_file.js");
 
-const BREAK = "\u2028";
+const BREAK = "\n";
 
 test("many objects are grouped as groups of at most 32", () => {
   const ids = (number) => Array.from({ length: number }, (_, at) => `${at + 1}.1`);
@@ -34,16 +34,16 @@ test("many objects are grouped as groups of at most 32", () => {
 
 test("a long text is cut into labels, and no letter is lost", () => {
   const bytes = (text) => new TextEncoder().encode(text).length;
-  const rows = ["short", "x".repeat(200), "x".repeat(201), "word ".repeat(100), "я".repeat(150), "👩‍👩‍👧".repeat(30), `a${BREAK}b`, `${"line ".repeat(30)}${BREAK}`.repeat(5)];
+  const rows = ["short", "x".repeat(500), "x".repeat(501), "word ".repeat(250), "я".repeat(350), "👩‍👩‍👧".repeat(70), `a${BREAK}b`, `${"line ".repeat(75)}${BREAK}`.repeat(5)];
   const bare = (text) => text.replace(/[\s\u2028]/g, "");
   for (const text of rows) {
     const labels = labelsOf(text);
-    for (const label of labels) assert.ok(bytes(label) <= 200);
+    for (const label of labels) assert.ok(bytes(label) <= 500);
     assert.equal(bare(labels.join("")), bare(text));
   }
   assert.deepEqual(labelsOf(`a${BREAK}b`), [`a${BREAK}b`]);
-  assert.deepEqual(labelsOf("x".repeat(201)), ["x".repeat(200), "x"]);
-  assert.deepEqual(labelsOf("👩‍👩‍👧".repeat(12)), ["👩‍👩‍👧".repeat(11), "👩‍👩‍👧"]);
+  assert.deepEqual(labelsOf("x".repeat(501)), ["x".repeat(500), "x"]);
+  assert.deepEqual(labelsOf("👩‍👩‍👧".repeat(28)), ["👩‍👩‍👧".repeat(27), "👩‍👩‍👧"]);
   assert.deepEqual(labelsOf("  "), []);
   assert.equal(labelOf("a\r\nb\nc\td"), `a${BREAK}b${BREAK}c d`);
 });

@@ -1,15 +1,18 @@
 //! What a churn draws from its generator.
 
-ghost use Rattle.std.specs.Prelude.{◌≡◌, ℕ, ◌<◌, ◌≤◌, ◌^◌, pos, length, IfSome};
+ghost use Rattle.std.specs.Prelude.{◌≡◌, ◌⊎◌, ℕ, ◌<◌, ◌≤◌, ◌+◌, ◌^◌, ◌++◌, [], ◌∷◌, Some, pos, codes, length, IfSome};
+ghost use Rattle.gd_base.specs.Labels.{IsLabel};
 ghost use Rattle.gd_base.specs.Stamps.{IsStamp};
+ghost use Rattle.gd_base.specs.Typed.{AreEnds};
 ghost use Rattle.gd_lines.specs.InRange.{IsEdit};
 ghost use Rattle.gd_world.specs.Drawn.{IsOfOne, IsPlayed, edit_at, turn_at};
-ghost use Rattle.gd_worlds.specs.Churn.{below, create, deliver, group, line_for, move, send, step, stroke};
+ghost use Rattle.gd_worlds.specs.Churn.{below, connect, create, dash_of, deliver, ends, group, line_for, move, reconnect, send, step, stroke, style, write};
 
-use gd_base::{COLOUR_LIMIT, Content, Edit, Ids, Label, Shape, Side, Stamp};
+use gd_base::{COLOUR_LIMIT, Content, Dash, Edit, Ends, Ids, Label, Looks, Shape, Side, Stamp};
 use gd_lines::{Command, ScriptLine, Turn};
 use rand_core::utils::NextWord;
 use rand_pcg::Pcg32;
+use std::str;
 
 /// Objects are put and moved to places from 0 on and below this.
 const PLACES: u32 = 1000;
@@ -24,12 +27,12 @@ pub(crate) fn step(generator: &mut Pcg32, made: &[Stamp], mails: u32) -> Option<
     ensures ranged { IfSome result IsPlayed }
 {
     let site = 1 + below(generator, 4) as u8;
-    let number = below(generator, 18);
+    let number = below(generator, 22);
     line_for(generator, made, mails, site, number)
 }
 
 /// The line of a site by a number: 0 to 3 make an object, 4 to 11 change one that was made, 12 and 13 send, 14 and 15 deliver, 16
-/// takes an edit back, and all above do one again.
+/// takes an edit back, 17 does one again, 18 connects two, and all above change one that was made.
 fn line_for(
     generator: &mut Pcg32,
     made: &[Stamp],
@@ -58,7 +61,10 @@ fn line_for(
     if number == 16 {
         return turns(site, Turn::Undo);
     }
-    turns(site, Turn::Redo)
+    if number == 17 {
+        return turns(site, Turn::Redo);
+    }
+    line_of_one(generator, made, site, number)
 }
 
 /// A site is asked for an edit.
@@ -88,7 +94,7 @@ fn turns(site: u8, which: Turn) -> Option<ScriptLine>
 fn line_of_one(generator: &mut Pcg32, made: &[Stamp], site: u8, number: u32) -> Option<ScriptLine>
     requires few { length made.now < 2 ^ 32 }
     requires from { 4 ≤ number }
-    requires to { number < 12 }
+    requires to { number < 12 ⊎ 18 ≤ number }
     ensures drawn { (mails : ℕ) → (result, generator.new)
         ≡ line_for made.now mails site number generator.old }
     ensures ranged { IfSome result IsPlayed }
@@ -105,7 +111,7 @@ fn edit_of_one(generator: &mut Pcg32, made: &[Stamp], number: u32) -> Edit
     requires some { 0 < length made.now }
     requires few { length made.now < 2 ^ 32 }
     requires from { 4 ≤ number }
-    requires to { number < 12 }
+    requires to { number < 12 ⊎ 18 ≤ number }
     ensures drawn { (mails site : ℕ) → (edit_at site result, generator.new)
         ≡ line_for made.now mails site number generator.old }
     ensures ranged { IsEdit result }
@@ -124,6 +130,10 @@ fn edit_of_one(generator: &mut Pcg32, made: &[Stamp], number: u32) -> Edit
             content: Content::ToFlag(true),
         },
         11 => stroke(generator, made),
+        18 => connect(generator, made),
+        19 => reconnect(generator, made),
+        20 => style(generator, made),
+        21.. => write(generator, made),
         _ => move_to(generator, made),
     }
 }
@@ -185,7 +195,116 @@ fn stroke(generator: &mut Pcg32, made: &[Stamp]) -> Edit
     let colour = below(generator, COLOUR_LIMIT + 1);
     Edit::Set {
         id,
-        content: Content::ToStroke(colour),
+        content: Content::ToLooks(Looks::only_stroke(colour)),
+    }
+}
+
+/// A connector between two of these, perhaps from one to itself.
+fn connect(generator: &mut Pcg32, made: &[Stamp]) -> Edit
+    requires some { 0 < length made.now }
+    requires few { length made.now < 2 ^ 32 }
+    ensures drawn { IsOfOne connect made.now result generator.old generator.new }
+    ensures ranged { IsEdit result }
+{
+    let ends = ends(generator, made);
+    Edit::Connect {
+        ends,
+        label: Label::default(),
+    }
+}
+
+fn reconnect(generator: &mut Pcg32, made: &[Stamp]) -> Edit
+    requires some { 0 < length made.now }
+    requires few { length made.now < 2 ^ 32 }
+    ensures drawn { IsOfOne reconnect made.now result generator.old generator.new }
+    ensures ranged { IsEdit result }
+{
+    let id = pick(generator, made);
+    let ends = ends(generator, made);
+    Edit::Set {
+        id,
+        content: Content::ToEnds(Some(ends)),
+    }
+}
+
+fn ends(generator: &mut Pcg32, made: &[Stamp]) -> Ends
+    requires some { 0 < length made.now }
+    requires few { length made.now < 2 ^ 32 }
+    ensures drawn { IsOfOne ends made.now result generator.old generator.new }
+    ensures stamps { AreEnds (Some result) }
+{
+    let from = pick(generator, made);
+    let to = pick(generator, made);
+    Ends { from, to }
+}
+
+/// Three parts of a look at once.
+fn style(generator: &mut Pcg32, made: &[Stamp]) -> Edit
+    requires some { 0 < length made.now }
+    requires few { length made.now < 2 ^ 32 }
+    ensures drawn { IsOfOne style made.now result generator.old generator.new }
+    ensures ranged { IsEdit result }
+{
+    let id = pick(generator, made);
+    let colour = below(generator, COLOUR_LIMIT + 1);
+    let dash = dash_of(below(generator, 3));
+    let opacity = 1 + below(generator, 100) as u8;
+    let looks = Looks {
+        stroke: Some(colour),
+        dash: Some(dash),
+        opacity: Some(opacity),
+        ..Looks::none()
+    };
+    Edit::Set {
+        id,
+        content: Content::ToLooks(looks),
+    }
+}
+
+fn dash_of(number: u32) -> Dash
+    ensures { result ≡ dash_of number }
+{
+    match number {
+        0 => Dash::Solid,
+        1 => Dash::Dashed,
+        _ => Dash::Dotted,
+    }
+}
+
+/// A label of two lines, the second one of a letter.
+fn write(generator: &mut Pcg32, made: &[Stamp]) -> Edit
+    requires some { 0 < length made.now }
+    requires few { length made.now < 2 ^ 32 }
+    ensures drawn { IsOfOne write made.now result generator.old generator.new }
+    ensures ranged { IsEdit result }
+{
+    let id = pick(generator, made);
+    let letter = below(generator, 26) as u8;
+    Edit::Set {
+        id,
+        content: Content::ToText(lettered(letter)),
+    }
+}
+
+/// A label of two lines, the second one of that letter, from `a` on.
+fn lettered(letter: u8) -> Label
+    requires { letter < 26 }
+    ensures { result ≡ codes "churn\n" ++ (97 + letter) ∷ [] }
+{
+    label_of(&[b'c', b'h', b'u', b'r', b'n', b'\n', b'a' + letter])
+}
+
+/// The label of these bytes.
+fn label_of(bytes: &[u8]) -> Label
+    requires { IsLabel bytes.now }
+    ensures { result ≡ bytes.now }
+{
+    match str::from_utf8(bytes) {
+        Ok(text) => match Label::new(text) {
+            Ok(label) => label,
+            Err(_) => Label::default(),
+        },
+        Err(_) => Label::default(),
     }
 }
 

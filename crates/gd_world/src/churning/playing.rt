@@ -200,7 +200,7 @@ fn is_making(line: &ScriptLine) -> bool
     matches!(
         line,
         ScriptLine::At {
-            command: Command::Edit(Edit::Create { .. } | Edit::Group { .. }),
+            command: Command::Edit(Edit::Create { .. } | Edit::Group { .. } | Edit::Connect { .. }),
             ..
         }
     )

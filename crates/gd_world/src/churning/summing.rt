@@ -91,7 +91,8 @@ fn text_of(alloc: Global, items: &[Item]) -> Result<Vec<u8>, AllocError>
 {
     let mut text = Vec::new(alloc);
     for item in items {
-        put(&mut text, &Reply::Item { item: item.copy() })?;
+        let shared = item.share()?;
+        put(&mut text, &Reply::Item { item: shared })?;
     }
     let count = items.len() as u64;
     put(&mut text, &Reply::End { count })?;

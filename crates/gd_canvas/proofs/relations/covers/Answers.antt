@@ -11,8 +11,8 @@ pub returns-in-Set : goal.returns-in-Set
 returns-in-Set c =
     let f = c.in-Set in
     c.is_set_by.ensures c.args.s
-    ∙ ap (λ p. is_set_by f.id p (form c.args.s (op_of c.args.e.now))) c.part_of.ensures.part
-    ∙ set_covers c.args.s c.args.t c.args.e.now c.args.f.now f.is_found f.id f.before f.content f.is
+    ∙ ap (λ ps. is_set_by f.id ps (form c.args.s (op_of c.args.e.now))) (c.as_slice.ensures.value ∙ c.parts-parts.ensures.parts c.args.t)
+    ∙ set_covers c.args.s c.args.t c.args.e.now c.args.f.now f.is_found f.id f.swap f.is
 
 pub returns-in-Delete : goal.returns-in-Delete
 returns-in-Delete c =

@@ -9,4 +9,4 @@ use Rattle.gd_rows.proofs.churn_rows.eight_steps.Goals as goal
 pub returns : goal.returns
 unfolding computing drawn_compute
 returns c =
-    ap (λ (c : Churning). c.work ++ all_said (summary c.world c.counts)) (all-churned 181960431 8) ∙ refl
+    ap (λ (c : Churning). c.work ++ all_said (summary c.world c.counts)) (all-churned 224141972 8) ∙ refl

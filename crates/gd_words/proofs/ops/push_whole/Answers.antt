@@ -1,7 +1,7 @@
 use Rattle.std.proofs.Common.{FitsSigned, w32, rules}
 use Rattle.std.proofs.lemmas.Int.{to_z-of_z}
 use Rattle.gd_lines.specs.OpText.{whole_text}
-use Rattle.gd_words.proofs.Appended.{six_more}
+use Rattle.gd_words.proofs.Appended.{eight_more}
 use Rattle.gd_words.proofs.ops.push_whole.Goals as goal
 
 pub returns-clause-value : goal.returns-clause-value
@@ -12,5 +12,5 @@ returns-clause-value c =
     let w : FitsSigned w32 c.args.object.now.w = search rules in
     let h : FitsSigned w32 c.args.object.now.h = search rules in
     let boxed = simp to_z-of_z at c.push_box.ensures.value in
-    rw (c.push_look.ensures.value, boxed, c.push_kind.ensures.value)
-    (six_more c.args.text.now _ _ _ _ _ _)
+    rw (c.push_marks.ensures.value, c.push_look.ensures.value, boxed, c.push_ends.ensures.value, c.push_kind.ensures.value)
+    (eight_more c.args.text.now _ _ _ _ _ _ _ _)

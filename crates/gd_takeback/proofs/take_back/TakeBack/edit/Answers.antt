@@ -2,8 +2,13 @@ use Rattle.std.proofs.Common.{[], ◌∷◌, sym, ap, ap₂, ◌∙◌}
 use Rattle.gd_events.specs.Ops.{Op}
 use Rattle.gd_reference.specs.Backs.{kept, with_gesture}
 use Rattle.gd_reference.specs.TakeBack.{back_of}
+use Rattle.gd_takeback.proofs.Deciding.{decided_is_own}
 use Rattle.gd_takeback.proofs.Standing.{edit_stands}
 use Rattle.gd_takeback.proofs.take_back.TakeBack.edit.Goals as goal
+
+pub accept-requires : goal.accept-requires
+accept-requires g c =
+    decided_is_own c.args.site.now c.args.edit.now c.in_ok-event.event (sym c.decide.ensures.decided ∙ c.in_ok-event.was)
 
 pub returns-clause-stands : goal.returns-clause-stands
 returns-clause-stands g c slow stands =

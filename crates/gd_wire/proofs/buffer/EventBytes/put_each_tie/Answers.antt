@@ -1,6 +1,6 @@
 use Rattle.std.proofs.Common.{arith}
 use Rattle.gd_grammar.specs.Spelling.{tie_bytes}
-use Rattle.gd_wire.proofs.Objects.{tie_most}
+use Rattle.gd_grammar.proofs.Lengths.{tie_most}
 use Rattle.gd_wire.proofs.WriteLoop.{written_start, written_more, written_end}
 use Rattle.gd_wire.proofs.buffer.EventBytes.put_each_tie.Goals as goal
 

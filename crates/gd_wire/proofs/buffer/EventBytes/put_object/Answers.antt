@@ -7,11 +7,10 @@ returns-clause-bytes c =
       c.put_rank.ensures.bytes,
       c.put_flag.ensures.bytes,
       c.put_link.ensures.bytes,
-      c.put_text.ensures,
+      c.put_ends.ensures.bytes,
+      c.put_label.ensures.bytes,
       c.as_str.ensures.text,
-      c.put_byte.ensures.bytes,
-      c.put_fill.ensures.bytes,
-      c.put_word.ensures.bytes,
+      c.put_look.ensures.bytes,
       c.put_form.ensures.bytes,
     ) (object_put c.args.object.now c.args.self.now)
 

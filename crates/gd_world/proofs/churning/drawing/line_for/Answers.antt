@@ -26,8 +26,7 @@ returns-then-number-eq16-clause-drawn c =
     ap (λ line. (line, c.args.generator.now)) c.turns.ensures.line
     ∙ sym (ap (λ d. d c.args.generator.now) (line_undoes c.args.made.now c.args.mails c.args.site c.args.number c.if-number-eq16.true))
 
-pub returns-clause-drawn : goal.returns-clause-drawn
-returns-clause-drawn c =
-    ap (λ line. (line, c.args.generator.now)) c.turns-2.ensures.line
-    ∙ sym (ap (λ d. d c.args.generator.now)
-    (line_redoes c.args.made.now c.args.mails c.args.site c.args.number c.if-number-lt16.false c.if-number-eq16.false))
+pub returns-then-number-eq17-clause-drawn : goal.returns-then-number-eq17-clause-drawn
+returns-then-number-eq17-clause-drawn c =
+    ap (λ line. (line, c.args.generator.now)) c.turns-then-number-eq17.ensures.line
+    ∙ sym (ap (λ d. d c.args.generator.now) (line_redoes c.args.made.now c.args.mails c.args.site c.args.number c.if-number-eq17.true))

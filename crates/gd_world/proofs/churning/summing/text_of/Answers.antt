@@ -7,7 +7,7 @@ use Rattle.gd_world.proofs.churning.summing.text_of.Goals as goal
 
 pub loop-item-preserved : goal.loop-item-preserved
 loop-item-preserved c =
-    texts_more c.args.items.now c.loop-item.item-index c.item-item.result c.copy.result c.loop-item.text.items c.put.new.text.items c.loop-item-test.true c.item-item.is c.copy.ensures c.loop-item.invariant c.in_ok-put.ensures
+    texts_more c.args.items.now c.loop-item.item-index c.item-item.result _ c.loop-item.text.items c.put.new.text.items c.loop-item-test.true c.item-item.is c.in_ok-shared.ensures c.loop-item.invariant c.in_ok-put.ensures
 
 pub returns : goal.returns
 returns c =

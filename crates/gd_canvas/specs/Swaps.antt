@@ -1,0 +1,83 @@
+-- What an operation sets, and what it found there, in the memory of both.
+use Rattle.std.specs.Prelude.{ℕ, Bool, true, false, if◌then◌else◌, List, [], Option, None, Some, unwrap_or}
+use Rattle.gd_base.specs.Contents.{content_map}
+use Rattle.gd_base.specs.Looks.{laid, only_fill, only_stroke, only_width}
+use Rattle.gd_base.specs.Stamps.{Stamp}
+use Rattle.gd_base.specs.declared.content.Content.TheVariants.{ToPlace, ToSize, ToLooks, ToText, ToFlag, ToEnds, ToRank}
+use Rattle.gd_base.specs.declared.look.Looks.{Looks}
+use Rattle.gd_events.specs.Ops.{Done}
+use Rattle.gd_model.specs.Contents.{Content}
+use Rattle.gd_model.specs.Forms.{rank_at}
+use Rattle.gd_canvas.specs.declared.looks_swap.LooksSwap.{LooksSwap}
+use Rattle.gd_canvas.specs.declared.looks_swap.LooksSwap.TheVariants as looks
+use Rattle.gd_canvas.specs.declared.swap.Swap.{Swap}
+use Rattle.gd_canvas.specs.declared.swap.Swap.TheVariants as swap
+
+abbrev pub new_looks : LooksSwap → Looks
+new_looks (looks.Width new old) = only_width new
+new_looks (looks.Stroke new old) = only_stroke new
+new_looks (looks.Fill new old) = only_fill new
+new_looks (looks.Many pair) = pair.value.new
+
+-- what was found of the parts that are set
+abbrev pub old_looks : LooksSwap → Looks
+old_looks (looks.Width new old) = only_width old
+old_looks (looks.Stroke new old) = only_stroke old
+old_looks (looks.Fill new old) = only_fill old
+old_looks (looks.Many pair) = laid pair.value.old pair.value.new
+
+-- the old looks once these are kept: of each part that is set theirs, where they set it
+abbrev pub put_looks : LooksSwap → Looks → Looks
+put_looks (looks.Width new old) l = only_width (unwrap_or l.width old)
+put_looks (looks.Stroke new old) l = only_stroke (unwrap_or l.stroke old)
+put_looks (looks.Fill new old) l = only_fill (unwrap_or l.fill old)
+put_looks (looks.Many pair) l = laid l pair.value.new
+
+-- what the operation says
+abbrev pub of_swap : Swap → Done
+of_swap (swap.ToPlace new old) = ToPlace new.x new.y
+of_swap (swap.ToSize new old) = ToSize new.x new.y
+of_swap (swap.ToLooks looks) = ToLooks (new_looks looks)
+of_swap (swap.ToText texts) = ToText texts.value.new
+of_swap (swap.ToFlag new old) = ToFlag new
+of_swap (swap.ToEnds ends) = ToEnds ends.value.new
+of_swap (swap.ToRank new old) = ToRank new
+
+-- what it sets at that stamp
+abbrev pub sets : Stamp → Swap → Content
+sets stamp s = content_map (λ label. label) (λ looks. looks) (rank_at stamp) (of_swap s)
+
+-- what it found
+abbrev pub old_of : Swap → Content
+old_of (swap.ToPlace new old) = ToPlace old.x old.y
+old_of (swap.ToSize new old) = ToSize old.x old.y
+old_of (swap.ToLooks looks) = ToLooks (old_looks looks)
+old_of (swap.ToText texts) = ToText texts.value.old
+old_of (swap.ToFlag new old) = ToFlag old
+old_of (swap.ToEnds ends) = ToEnds ends.value.old
+old_of (swap.ToRank new old) = ToRank old
+
+-- what it found, where it found something
+abbrev pub found_in : Bool → Swap → Option Content
+found_in false s = None
+found_in true s = Some (old_of s)
+
+-- the label that is set, where one is
+abbrev pub text_in : Done → List ℕ
+text_in (ToText label) = label
+text_in content = []
+
+-- what is kept of what was found: nothing of another part
+abbrev pub stored_one : Swap → Content → Option Content
+stored_one (swap.ToPlace new old) (ToPlace a b) = Some (ToPlace a b)
+stored_one (swap.ToSize new old) (ToSize a b) = Some (ToSize a b)
+stored_one (swap.ToLooks looks) (ToLooks l) = Some (ToLooks (put_looks looks l))
+stored_one (swap.ToText texts) (ToText label) = Some (ToText label)
+stored_one (swap.ToFlag new old) (ToFlag flag) = Some (ToFlag flag)
+stored_one (swap.ToEnds pair) (ToEnds ends) = Some (ToEnds ends)
+stored_one (swap.ToRank new old) (ToRank rank) = Some (ToRank rank)
+stored_one s c = None
+
+abbrev pub stored : Swap → Option Content → Option Content
+stored s None = None
+stored s (Some c) = stored_one s c

@@ -1,0 +1,387 @@
+//! The content that an operation sets, with room for the old one beside it.
+ghost use Rattle.std.specs.Prelude.{◌≡◌, ◌<◌, IfOk, IsTrue, length};
+ghost use Rattle.gd_base.specs.Stamps.{Stamp as StampValue};
+ghost use Rattle.gd_base.specs.declared.content.Content.TheVariants.{ToPlace, ToSize, ToLooks, ToText, ToFlag, ToEnds, ToRank};
+ghost use Rattle.gd_model.specs.Forms.{rank_at};
+ghost use Rattle.gd_model.specs.Objects.{have_parts, laid_over, part_within, parts_of};
+ghost use Rattle.gd_canvas.specs.Swaps.{found_in, of_swap, old_of, sets, stored, stored_one, text_in};
+
+use crate::contents::{LookParts, Stored, one_part, passed};
+use crate::looks_swap::LooksSwap;
+use gd_base::{Content, Ends, Height, Label, Looks, Rank, Side, Stamp, Text};
+use gd_events::PackedLooks;
+use gd_model::Held;
+use std::alloc::{AllocError, Global};
+use std::mem;
+
+/// A new label, and an old one.
+#[derive(Drop)]
+pub struct Texts {
+    pub new: Text,
+    pub old: Text,
+}
+
+/// New ends, and old ones.
+#[derive(Drop)]
+pub struct EndsPair {
+    pub new: Option<Ends>,
+    pub old: Option<Ends>,
+}
+
+/// A place, or a size.
+#[derive(Clone, Copy, Debug)]
+pub struct Two {
+    pub x: i32,
+    pub y: i32,
+}
+
+/// What an operation sets, with room for what it finds there. It has 32 bytes at most, and what is greater lies in a box.
+#[derive(Drop)]
+pub enum Swap {
+    ToFlag { new: bool, old: bool },
+    ToPlace { new: Two, old: Two },
+    ToSize { new: Two, old: Two },
+    ToRank { new: Height, old: Rank },
+    ToLooks(LooksSwap),
+    ToText(Box<Texts>),
+    ToEnds(Box<EndsPair>),
+}
+
+impl Default for Swap {
+    /// Some content that takes no memory.
+    fn default() -> Self {
+        Swap::ToFlag {
+            new: true,
+            old: true,
+        }
+    }
+}
+
+impl Swap {
+    /// The content with room for what it will find. What lies in memory of its own is moved, or made. `AllocError` where that ran out.
+    pub fn new(
+        alloc: Global,
+        content: Content<Text, PackedLooks, Height>,
+    ) -> Result<Swap, AllocError>
+        ensures { IfOk result (λ swap. of_swap swap ≡ content) }
+    {
+        Ok(match content {
+            Content::ToPlace { x, y } => Swap::ToPlace {
+                new: Two { x, y },
+                old: Two { x, y },
+            },
+            Content::ToSize { w, h } => Swap::ToSize {
+                new: Two { x: w, y: h },
+                old: Two { x: w, y: h },
+            },
+            Content::ToLooks(looks) => Swap::ToLooks(LooksSwap::new(alloc, &looks)?),
+            Content::ToText(label) => {
+                let texts = Texts {
+                    new: label,
+                    old: Text::default(),
+                };
+                Swap::ToText(Box::new(alloc, texts)?)
+            }
+            Content::ToFlag(flag) => Swap::ToFlag {
+                new: flag,
+                old: flag,
+            },
+            Content::ToEnds(ends) => {
+                let pair = EndsPair {
+                    new: ends,
+                    old: ends,
+                };
+                Swap::ToEnds(Box::new(alloc, pair)?)
+            }
+            Content::ToRank(height) => Swap::ToRank {
+                new: height,
+                old: Rank::Low(Stamp::default()),
+            },
+        })
+    }
+
+    /// A copy in memory of its own. `AllocError` where that ran out.
+    pub fn copied(&self, alloc: Global) -> Result<Swap, AllocError>
+        ensures op { IfOk result (λ swap. of_swap swap ≡ of_swap self.now) }
+        ensures old { IfOk result (λ swap. old_of swap ≡ old_of self.now) }
+    {
+        Ok(match self {
+            Swap::ToPlace { new, old } => Swap::ToPlace {
+                new: *new,
+                old: *old,
+            },
+            Swap::ToSize { new, old } => Swap::ToSize {
+                new: *new,
+                old: *old,
+            },
+            Swap::ToLooks(looks) => Swap::ToLooks(looks.copied(alloc)?),
+            Swap::ToText(texts) => {
+                let new = texts.new.share()?;
+                let old = texts.old.share()?;
+                Swap::ToText(Box::new(alloc, Texts { new, old })?)
+            }
+            Swap::ToFlag { new, old } => Swap::ToFlag {
+                new: *new,
+                old: *old,
+            },
+            Swap::ToEnds(ends) => {
+                let pair = EndsPair {
+                    new: ends.new,
+                    old: ends.old,
+                };
+                Swap::ToEnds(Box::new(alloc, pair)?)
+            }
+            Swap::ToRank { new, old } => Swap::ToRank {
+                new: *new,
+                old: *old,
+            },
+        })
+    }
+
+    /// What the operation says. It takes no memory.
+    pub fn said(&self) -> Content<Label, Looks, Height>
+        ensures { result ≡ of_swap self.now }
+    {
+        match self {
+            Swap::ToPlace { new, .. } => Content::ToPlace { x: new.x, y: new.y },
+            Swap::ToSize { new, .. } => Content::ToSize { w: new.x, h: new.y },
+            Swap::ToLooks(looks) => Content::ToLooks(looks.new_looks()),
+            Swap::ToText(texts) => Content::ToText(texts.new.label()),
+            Swap::ToFlag { new, .. } => Content::ToFlag(*new),
+            Swap::ToEnds(ends) => Content::ToEnds(ends.new),
+            Swap::ToRank { new, .. } => Content::ToRank(*new),
+        }
+    }
+
+    /// A handle to the label that it sets, where it sets one.
+    pub fn spare(&self) -> Result<Text, AllocError>
+        ensures { IfOk result (λ spare. spare ≡ text_in (of_swap self.now)) }
+    {
+        match self {
+            Swap::ToText(texts) => texts.new.share(),
+            _ => Ok(Text::default()),
+        }
+    }
+
+    /// What the operation sets at that stamp, with that handle to its label.
+    pub fn stored(&self, stamp: Stamp, spare: Text) -> Stored
+        requires { spare ≡ text_in (of_swap self.now) }
+        ensures { result ≡ sets stamp self.now }
+    {
+        match self {
+            Swap::ToPlace { new, .. } => Content::ToPlace { x: new.x, y: new.y },
+            Swap::ToSize { new, .. } => Content::ToSize { w: new.x, h: new.y },
+            Swap::ToLooks(looks) => Content::ToLooks(looks.new_looks()),
+            Swap::ToText(_) => Content::ToText(spare),
+            Swap::ToFlag { new, .. } => Content::ToFlag(*new),
+            Swap::ToEnds(ends) => Content::ToEnds(ends.new),
+            Swap::ToRank { new, .. } => Content::ToRank(rank_at(stamp, *new)),
+        }
+    }
+
+    /// A copy of what it found. It takes no memory.
+    pub fn old(&self) -> Held
+        ensures { result ≡ old_of self.now }
+    {
+        match self {
+            Swap::ToPlace { old, .. } => Content::ToPlace { x: old.x, y: old.y },
+            Swap::ToSize { old, .. } => Content::ToSize { w: old.x, h: old.y },
+            Swap::ToLooks(looks) => Content::ToLooks(looks.old_looks()),
+            Swap::ToText(texts) => Content::ToText(texts.old.label()),
+            Swap::ToFlag { old, .. } => Content::ToFlag(*old),
+            Swap::ToEnds(ends) => Content::ToEnds(ends.old),
+            Swap::ToRank { old, .. } => Content::ToRank(*old),
+        }
+    }
+
+    /// What it found, which is moved out where it lies in memory of its own.
+    pub fn take_old(&mut self) -> Stored
+        ensures old { result ≡ old_of self.old }
+        ensures op { of_swap self.new ≡ of_swap self.old }
+    {
+        match self {
+            Swap::ToPlace { old, .. } => Content::ToPlace { x: old.x, y: old.y },
+            Swap::ToSize { old, .. } => Content::ToSize { w: old.x, h: old.y },
+            Swap::ToLooks(looks) => Content::ToLooks(looks.old_looks()),
+            Swap::ToText(texts) => {
+                Content::ToText(mem::replace(&mut texts.old, Text::default()))
+            }
+            Swap::ToFlag { old, .. } => Content::ToFlag(*old),
+            Swap::ToEnds(ends) => Content::ToEnds(ends.old),
+            Swap::ToRank { old, .. } => Content::ToRank(*old),
+        }
+    }
+
+    /// The same, where it found something.
+    pub fn take_found(&mut self, is_found: bool) -> Option<Stored>
+        ensures found { result ≡ found_in is_found self.old }
+        ensures op { of_swap self.new ≡ of_swap self.old }
+    {
+        if is_found {
+            Some(self.take_old())
+        } else {
+            None
+        }
+    }
+
+    /// Keeps what was found, and says whether anything was that is of its parts.
+    pub fn keep(&mut self, found: Option<Stored>) -> bool
+        ensures found { found_in result self.new ≡ stored self.old found }
+        ensures op { of_swap self.new ≡ of_swap self.old }
+    {
+        match found {
+            Some(found) => self.keep_one(found),
+            None => false,
+        }
+    }
+
+    fn keep_one(&mut self, found: Stored) -> bool
+        ensures found { found_in result self.new ≡ stored_one self.old found }
+        ensures op { of_swap self.new ≡ of_swap self.old }
+    {
+        match found {
+            Content::ToPlace { x, y } => self.keep_place(Two { x, y }),
+            Content::ToSize { w, h } => self.keep_size(Two { x: w, y: h }),
+            Content::ToLooks(looks) => self.keep_looks(&looks),
+            Content::ToText(label) => self.keep_text(label),
+            Content::ToFlag(flag) => self.keep_flag(flag),
+            Content::ToEnds(ends) => self.keep_ends(ends),
+            Content::ToRank(rank) => self.keep_rank(rank),
+        }
+    }
+
+    fn keep_place(&mut self, place: Two) -> bool
+        ensures found { found_in result self.new ≡ stored_one self.old (ToPlace place.x place.y) }
+        ensures op { of_swap self.new ≡ of_swap self.old }
+    {
+        match self {
+            Swap::ToPlace { old, .. } => {
+                *old = place;
+                true
+            }
+            _ => false,
+        }
+    }
+
+    fn keep_size(&mut self, size: Two) -> bool
+        ensures found { found_in result self.new ≡ stored_one self.old (ToSize size.x size.y) }
+        ensures op { of_swap self.new ≡ of_swap self.old }
+    {
+        match self {
+            Swap::ToSize { old, .. } => {
+                *old = size;
+                true
+            }
+            _ => false,
+        }
+    }
+
+    fn keep_looks(&mut self, looks: &Looks) -> bool
+        ensures found { found_in result self.new ≡ stored_one self.old (ToLooks looks.now) }
+        ensures op { of_swap self.new ≡ of_swap self.old }
+    {
+        match self {
+            Swap::ToLooks(kept) => {
+                kept.put(looks);
+                true
+            }
+            _ => false,
+        }
+    }
+
+    fn keep_text(&mut self, label: Text) -> bool
+        ensures found { found_in result self.new ≡ stored_one self.old (ToText label) }
+        ensures op { of_swap self.new ≡ of_swap self.old }
+    {
+        match self {
+            Swap::ToText(texts) => {
+                texts.old = label;
+                true
+            }
+            _ => false,
+        }
+    }
+
+    fn keep_flag(&mut self, flag: bool) -> bool
+        ensures found { found_in result self.new ≡ stored_one self.old (ToFlag flag) }
+        ensures op { of_swap self.new ≡ of_swap self.old }
+    {
+        match self {
+            Swap::ToFlag { old, .. } => {
+                *old = flag;
+                true
+            }
+            _ => false,
+        }
+    }
+
+    fn keep_ends(&mut self, ends: Option<Ends>) -> bool
+        ensures found { found_in result self.new ≡ stored_one self.old (ToEnds ends) }
+        ensures op { of_swap self.new ≡ of_swap self.old }
+    {
+        match self {
+            Swap::ToEnds(pair) => {
+                pair.old = ends;
+                true
+            }
+            _ => false,
+        }
+    }
+
+    fn keep_rank(&mut self, rank: Rank) -> bool
+        ensures found { found_in result self.new ≡ stored_one self.old (ToRank rank) }
+        ensures op { of_swap self.new ≡ of_swap self.old }
+    {
+        match self {
+            Swap::ToRank { old, .. } => {
+                *old = rank;
+                true
+            }
+            _ => false,
+        }
+    }
+
+    /// The parts that it sets.
+    pub fn parts(&self) -> LookParts
+        ensures parts { (stamp : StampValue) → result.items ≡ parts_of (sets stamp self.now) }
+        ensures some { 0 < length result.items }
+    {
+        match self {
+            Swap::ToPlace { .. } => one_part(1),
+            Swap::ToSize { .. } => one_part(2),
+            Swap::ToLooks(looks) => looks.parts(),
+            Swap::ToText(_) => one_part(6),
+            Swap::ToFlag { .. } => one_part(8),
+            Swap::ToRank { .. } => one_part(9),
+            Swap::ToEnds(_) => one_part(16),
+        }
+    }
+}
+
+/// The rank that an event at that stamp gives.
+pub fn rank_at(stamp: Stamp, height: Height) -> Rank
+    ensures { result ≡ rank_at stamp height }
+{
+    match height {
+        Height::To(Side::Bottom) => Rank::Low(stamp),
+        Height::To(Side::Top) => Rank::High(stamp),
+        Height::At(rank) => rank,
+    }
+}
+
+/// What the earlier event finds now is what the later one found of its parts, and the later one finds what the earlier one, with
+/// its handle, leaves. It has the parts of the earlier one.
+pub fn pass_on(s: Stamp, earlier: &mut Swap, spare: Text, later: &mut Swap)
+    requires spare { spare ≡ text_in (of_swap earlier.old) }
+    requires parts { IsTrue (have_parts (parts_of (of_swap later.old)) (parts_of (of_swap earlier.old))) }
+    ensures first { old_of earlier.new ≡ part_within (sets s earlier.old) (old_of later.old) }
+    ensures second { old_of later.new ≡ laid_over (sets s earlier.old) (old_of later.old) }
+    ensures first_op { of_swap earlier.new ≡ of_swap earlier.old }
+    ensures second_op { of_swap later.new ≡ of_swap later.old }
+{
+    let found = later.take_old();
+    let new = earlier.stored(s, spare);
+    let both = passed(new, found);
+    earlier.keep_one(both.0);
+    later.keep_one(both.1);
+}
