@@ -107,7 +107,7 @@ class Brokers(WithPeople):
         await ben.draw("create rect 0 0 10 10 by Ben")
         await self.all_see([ana, ben], 2)
         looker = await Looker(self, "looker").begin("--watch", await self.link(ana, "--watch"))
-        await looker.page.next(lambda told: told["is"] == "picture" and len(told["items"]) == 2)
+        await self.same_picture(looker, ana, 2)
 
 
 class Keepers(WithPeople):

@@ -21,16 +21,6 @@ class Looking(WithPeople):
         with socket.socket() as tried:
             return tried.connect_ex(parts_of(self.broker)) == 0
 
-    async def same_picture(self, looker, person, count):
-        """Waits until who looks on sees what a person sees, of so many objects, and gives the labels."""
-        shown = []
-        for _ in range(PATIENCE * 5):
-            shown = await looker.picture()
-            if len(shown) == count and shown == await person.picture():
-                return [each["label"] for each in shown]
-            await asyncio.sleep(0.2)
-        raise AssertionError(f"who looks on sees {shown}")
-
     async def test_who_looks_on_sees_what_all_draw_and_draws_nothing(self):
         ana = await self.found()
         ben = await self.join(ana, "ben.log")

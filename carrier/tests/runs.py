@@ -173,6 +173,16 @@ class WithPeople(WithFolder):
             await asyncio.sleep(0.2)
         raise AssertionError(f"not all see the same {count}: {[await person.labels() for person in people]}")
 
+    async def same_picture(self, looker, person, count):
+        """Waits until who looks on sees what a person sees, of so many objects, and gives the labels."""
+        shown = []
+        for _ in range(PATIENCE * 5):
+            shown = await looker.picture()
+            if len(shown) == count and shown == await person.picture():
+                return [each["label"] for each in shown]
+            await asyncio.sleep(0.2)
+        raise AssertionError(f"who looks on sees {shown}")
+
     def broker_process(self, person):
         """The number of the process of a person's broker, or nothing."""
         words = f"{person.journal}.broker/mosquitto.conf"
