@@ -1,11 +1,11 @@
-use Rattle.std.proofs.Common.{◌≡◌, ◌+◌, ◌∷◌, [], ◌++◌, ◌∙◌, ap, arith, subst}
+use Rattle.std.proofs.Common.{◌≡◌, ◌+◌, ◌∷◌, [], ◌++◌, ◌∙◌, ap, ap₂, arith, subst, sym}
 use Rattle.gd_base.specs.Sites.{IsSite}
 use Rattle.gd_base.specs.Stamps.{Stamp}
 use Rattle.gd_events.specs.Events.{Event}
 use Rattle.gd_events.specs.Sound.{IsOp}
 use Rattle.gd_events.specs.Ops.{Op}
-use Rattle.gd_history.proofs.Reworking.{admitted_as, admitted_here}
-use Rattle.gd_repair.specs.Repair.{Stamped}
+use Rattle.gd_history.proofs.Reworking.{admitted_here}
+use Rattle.gd_repair.specs.Repair.{Stamped, stamped}
 use Rattle.gd_stable.specs.Heard.{of_site, put_at}
 use Rattle.gd_capture.proofs.Numbering.{counting_end, counting_more, counting_room}
 use Rattle.gd_capture.proofs.kept.number_all.Goals as goal
@@ -24,7 +24,8 @@ pub sound-requires-clause-op : goal.sound-requires-clause-op
 sound-requires-clause-op c =
     let x = c.get-entry.result.now in
     let P = λ (e : Stamped Op). IsOp e.stamp e.op in
-    admitted_as P c.stamp-stamp.result x.stamp c.op.result x.op c.stamp-stamp.ensures c.op.ensures (admitted_here P c.args.entries.now c.loop-place.place x c.requires.sound (omega arith) c.get-entry.ensures)
+    subst P (ap₂ stamped (sym c.stamp-stamp.ensures) (sym c.op.ensures))
+    (admitted_here P c.args.entries.now c.loop-place.place x c.requires.sound (omega arith) c.get-entry.ensures)
 
 pub loop-place-preserved : goal.loop-place-preserved
 loop-place-preserved c =
