@@ -7,4 +7,5 @@ mod logs;
 mod resuming;
 
 pub use fault::ResumeFault;
-pub use resuming::resume;
+pub use logs::log_for;
+pub use resuming::{resume, site_of};

@@ -88,7 +88,7 @@ fn is_cut(found: &Result<WholeLog, ResumeFault>) -> bool
 /// The log that begins with these bytes, whatever follows them, where it is of that header and its closing gate is among them.
 ///
 /// Else the fault that is found in them, or `NoMemory` where memory ran out. Where bytes are missing, more may follow.
-fn log_for(alloc: Global, front: Vec<u8>, header: &LogHeader) -> Result<WholeLog, ResumeFault>
+pub fn log_for(alloc: Global, front: Vec<u8>, header: &LogHeader) -> Result<WholeLog, ResumeFault>
     ensures log { IfOk result (λ log. (more : List ℕ)
         → IsLogFor header.now log.events log.place log.chains (Unit {0}) (front.items ++ more)) }
     ensures fault { IfErr result (λ fault. (more : List ℕ) → (IsTrue (is_short fault) → more ≡ [])

@@ -89,8 +89,8 @@ fn synced_log<J: Journal>(
     log_in(alloc, journal, header)
 }
 
-/// The site and the writer that go on with this log, which is of that header.
-fn site_of<L: Ledger>(
+/// The site and the writer that go on with this log, which is of that header. `NoMemory` where memory ran out; no other fault comes.
+pub fn site_of<L: Ledger>(
     alloc: Global,
     log: &WholeLog,
     header: &LogHeader,
