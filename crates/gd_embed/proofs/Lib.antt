@@ -1,0 +1,7 @@
+mod Holding
+mod SayingLaws
+mod Filling
+mod Framed
+mod Opened
+mod Answering
+mod Seal

@@ -1,0 +1,14 @@
+use Rattle.std.proofs.Common.{rules, FitsSigned, w64, ◌∙◌, ◌≡◌}
+use Rattle.std.proofs.lemmas.Int.{to_z-of_z}
+use Rattle.gd_embed.proofs.Answering.{answers_read}
+use Rattle.gd_embed.specs.Telling.{FrameAnswerIs}
+use Rattle.gd_embed.proofs.gd_frame.Goals as goal
+
+pub returns : goal.returns
+returns c =
+    let fits : FitsSigned w64 c.code-2.result = search rules in
+    answers_read ((c.frame-answer.new.out ≡ c.args.out.now) × (c.frame-answer.new.behind ≡ c.args.behind.now))
+    (FrameAnswerIs c.args.to c.args.behind.now c.frame-answer.new.behind
+    (record { old = c.args.out.now; new = c.frame-answer.new.out; needed = c.frame-answer.new.needed }))
+    c.frame-answer.result c.in-Ok.ensures.0 c.in-Ok.ensures.1.0 c.deref.ensures c.frame-answer.ensures c.put.ensures
+    (to_z-of_z w64 c.code-2.result fits ∙ c.code-2.ensures)

@@ -1,0 +1,10 @@
+pub mod Live
+pub mod Codes
+pub mod Buffers
+pub mod Told
+pub mod Records
+pub mod Naming
+pub mod Calls
+pub mod Telling
+pub mod Saying
+pub mod Beginning

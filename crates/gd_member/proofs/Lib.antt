@@ -1,0 +1,12 @@
+mod Pieces
+mod Standing
+mod Edits
+mod Hearing
+mod Frames
+mod Found
+mod Logs
+mod Printed
+mod Texts
+mod Typed
+mod Cuts
+mod Judgings

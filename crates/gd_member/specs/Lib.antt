@@ -1,0 +1,11 @@
+pub mod Unwritten
+pub mod Members
+pub mod Standing
+pub mod Opening
+pub mod Turning
+pub mod Taking
+pub mod Sending
+pub mod Growing
+pub mod Lines
+pub mod Cutting
+pub mod Gestures

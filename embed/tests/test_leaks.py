@@ -1,0 +1,48 @@
+"""A million calls, behind which the process has no more memory than before."""
+
+import unittest
+
+from groupdesign import Member, Refused
+
+CALLS = 1_000_000
+# Pages that come and go.
+ROOM_KB = 2_000
+
+
+def used_kb() -> int:
+    """The memory of this process."""
+    with open("/proc/self/status") as status:
+        return next(int(line.split()[1]) for line in status if line.startswith("VmRSS"))
+
+
+def busy(mine: Member, other: Member, count: int) -> None:
+    """So many calls that leave nothing."""
+    frame = other.frame(1).data
+    for turn in range(count // 10):
+        for line in ("status", "move 9.9 1 1", "who"):
+            try:
+                mine.line(line)
+            except Refused:
+                pass
+        mine.take(frame)
+        mine.frame(2)
+        mine.status()
+        mine.note(2)
+        mine.parted(2)
+        mine.unwritten()
+        mine.text()
+        if turn % 500 == 0:
+            with Member.open(mine.journal_head(), 1, 2, 7) as opened:
+                opened.create("rect", 0, 0, 1, 1, "x" * 500)
+
+
+class Leaks(unittest.TestCase):
+    def test_a_million_calls_leave_nothing(self) -> None:
+        mine, other = Member(1, 2, session=7), Member(2, 2, session=7)
+        mine.create("rect", 0, 0, 1, 1)
+        mine.written(mine.unwritten())
+        other.line("name Ben")
+        busy(mine, other, 20_000)
+        before = used_kb()
+        busy(mine, other, CALLS)
+        self.assertLess(used_kb() - before, ROOM_KB)

@@ -1,0 +1,18 @@
+"""The types of the Python package, by mypy."""
+
+import os
+import subprocess
+import sys
+import unittest
+from pathlib import Path
+
+PACKAGE = Path(__file__).resolve().parents[1] / "python/groupdesign"
+
+
+class Types(unittest.TestCase):
+    def test_mypy_finds_nothing(self) -> None:
+        if subprocess.run([sys.executable, "-c", "import mypy"], capture_output=True).returncode:
+            self.skipTest("mypy isn't installed")
+        words = [sys.executable, "-m", "mypy", "--strict", "--cache-dir", os.devnull, PACKAGE]
+        done = subprocess.run(words, capture_output=True, text=True)
+        self.assertEqual(done.returncode, 0, done.stdout)
