@@ -4,7 +4,7 @@ use Rattle.gd_effects.specs.Outside.{Outside}
 use Rattle.gd_outside.specs.Statuses.{status_number}
 use Rattle.gd_outside.specs.declared.status.Status.{Status}
 use Rattle.gd_outside.specs.declared.status.Status.TheVariants.{NoMemory}
-use Rattle.groupdesign.specs.Headline.{Headline}
+use Rattle.gd_program.specs.Headline.{Headline}
 use Rattle.groupdesign.specs.declared.words.TheConstants.{NO_WORDS}
 use Rattle.groupdesign.specs.declared.words.WordsFault.{WordsFault}
 use Rattle.groupdesign.specs.declared.words.WordsFault.TheVariants.{Memory, Call}

@@ -9,19 +9,15 @@ ghost use Rattle.groupdesign.specs.Exits.{Exits, words_status};
 
 mod advice;
 mod help;
-mod laws;
-mod running;
-#[cfg(test)]
-mod tests;
 mod words;
 
 use advice::{Traces, advice_on, advice_on_words, journal_of};
 use gd_base::Steps;
 use gd_commands::{CommandFault, read_command};
 use gd_outside::{Journal, Link, Sink, Source, Status, WordList};
+use gd_program::run;
 use gd_real::{FileJournal, FileState, SocketLink, StandardInput, StandardOutput, look_at};
 use help::{Question, VERSION, help_on, question_of};
-use running::run;
 use std::alloc::{AllocError, Global};
 use std::io;
 use std::marker::Brand;

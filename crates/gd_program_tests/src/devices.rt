@@ -1,9 +1,9 @@
 //! Each call of each device of a node, failing in turn: how the node ends, what is printed, which frames are tried, and which
 //! log its journal holds.
 
-use super::frames::{BEAT, Entry, FIRST, SECOND, link_with};
-use super::nodes::{Node, answered, answered_failing};
-use super::ran_over;
+use crate::frames::{BEAT, Entry, FIRST, SECOND, link_with};
+use crate::nodes::{Node, answered, answered_failing};
+use crate::over::ran_over;
 use gd_outside::{Call, Fail, Status};
 use std::alloc::{AllocError, Global};
 use std::test;

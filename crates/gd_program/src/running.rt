@@ -4,8 +4,8 @@ ghost use Rattle.std.specs.Prelude.{ℕ, None, Some};
 ghost use Rattle.gd_effects.specs.Outside.{outside};
 ghost use Rattle.gd_asked.specs.InRange.{IsInRange};
 ghost use Rattle.gd_outside.specs.Seen.{SeenSource, SeenJournal, SeenLink};
-ghost use Rattle.groupdesign.specs.Carrying.{Carried};
-ghost use Rattle.groupdesign.specs.Headline.{Headline};
+ghost use Rattle.gd_program.specs.Carrying.{Carried};
+ghost use Rattle.gd_program.specs.Headline.{Headline};
 
 use gd_base::Steps;
 use gd_board::board;

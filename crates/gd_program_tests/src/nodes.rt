@@ -1,6 +1,6 @@
 //! Nodes of session 7 over objects in memory: what is handed to one, and what became of it.
 
-use super::{ran_on, words_of};
+use crate::over::{ran_on, words_of};
 use gd_outside::{
     Fail, MemoryJournal, MemoryLink, MemorySink, MemorySource, Status, Word, WordList,
 };

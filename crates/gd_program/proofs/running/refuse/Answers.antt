@@ -1,6 +1,6 @@
 use Rattle.std.proofs.Common.{◌∙◌}
-use Rattle.groupdesign.proofs.Carried.{carried_refused}
-use Rattle.groupdesign.proofs.running.refuse.Goals as goal
+use Rattle.gd_program.proofs.Carried.{carried_refused}
+use Rattle.gd_program.proofs.running.refuse.Goals as goal
 
 pub returns : goal.returns
 returns g c = λ input journal link steps.

@@ -7,8 +7,8 @@ use Rattle.gd_asked.specs.declared.command.Command.{Command}
 use Rattle.gd_outside.specs.Told.{told}
 use Rattle.gd_outside.specs.declared.status.Status.{Status}
 use Rattle.gd_run.specs.Runs.{cut_of, effects_of, end_of}
-use Rattle.groupdesign.specs.Commands.{HoldsLogOf, IsEnd, IsUnread, Keeps, Named, OpensFirst, Silent, Untouched, left_of}
-use Rattle.groupdesign.specs.Runs.{IsToldFor}
+use Rattle.gd_program.specs.Commands.{HoldsLogOf, IsEnd, IsUnread, Keeps, Named, OpensFirst, Silent, Untouched, left_of}
+use Rattle.gd_program.specs.Runs.{IsToldFor}
 
 pub record Carried (asked : Option Command) (status : Status) (before after : Outside) : Type 0 where
   -- What was done is what is owed, and so is the status, where nothing cuts the run short; a fault has its cause. Or the journal

@@ -39,12 +39,12 @@ use Rattle.gd_watch.specs.Ends.{IsViewEnd}
 use Rattle.gd_world.specs.Rehearsing.{IsChurnEnd, IsRehearsalEnd}
 use Rattle.gd_worlds.specs.Churn.{churn_effects}
 use Rattle.gd_worlds.specs.Rehearsal.{rehearsal_effects, rehearsal_end, rehearsal_lines}
-use Rattle.groupdesign.proofs.Rejoined.{closes_found, is_unread}
-use Rattle.groupdesign.proofs.Sentences.{completes, did_whole, left_at, unopened_at}
-use Rattle.groupdesign.specs.Carrying.{Carried}
-use Rattle.groupdesign.specs.Commands.{HasLogOf, HoldsLogOf, IfBegun, IsEnd, IsSilentEnd, IsUnread, Keeps, Named, OpensFirst, Silent, Untouched, config}
-use Rattle.groupdesign.specs.Headline.{Headline}
-use Rattle.groupdesign.specs.Runs.{IsToldFor, Run, Told, Whole, asked, contents, entries, input, owed, owed_for_part, owed_status}
+use Rattle.gd_program.proofs.Rejoined.{closes_found, is_unread}
+use Rattle.gd_program.proofs.Sentences.{completes, did_whole, left_at, unopened_at}
+use Rattle.gd_program.specs.Carrying.{Carried}
+use Rattle.gd_program.specs.Commands.{HasLogOf, HoldsLogOf, IfBegun, IsEnd, IsSilentEnd, IsUnread, Keeps, Named, OpensFirst, Silent, Untouched, config}
+use Rattle.gd_program.specs.Headline.{Headline}
+use Rattle.gd_program.specs.Runs.{IsToldFor, Run, Told, Whole, asked, contents, entries, input, owed, owed_for_part, owed_status}
 
 -- a node's header begins its journal anew, so nothing counts that stood in it; one that goes on keeps what it has found
 log_of : (run : Run) → Whole run → Carried (asked run) run.status run.before run.after → Journals run.before.journal (owed run) run.after.journal

@@ -2,7 +2,7 @@ use Rattle.std.proofs.Common.{ap}
 use Rattle.gd_commands.proofs.PlainForms.{plain_is_asked}
 use Rattle.gd_commands.specs.Plain.Plain.{Board, Churn, Node, Rehearse, Rejoin, Replay, Snapshot, Upgrade, View}
 use Rattle.gd_run.specs.Runs.{effects_of, end_of}
-use Rattle.groupdesign.proofs.laws.plain_words_are_carried_out.Goals as goal
+use Rattle.gd_program.proofs.laws.plain_words_are_carried_out.Goals as goal
 
 pub returns-clause-effects : goal.returns-clause-effects
 returns-clause-effects c = λ p contents input entries is. ap (λ k. effects_of k contents input entries) (plain_is_asked p is)

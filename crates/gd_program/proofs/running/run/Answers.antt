@@ -1,7 +1,7 @@
 use Rattle.std.proofs.Common.{ap}
 use Rattle.std.specs.Prelude.{Err}
-use Rattle.groupdesign.proofs.Carried.{carried_not, headline, headline_for}
-use Rattle.groupdesign.proofs.running.run.Goals as goal
+use Rattle.gd_program.proofs.Carried.{carried_not, headline, headline_for}
+use Rattle.gd_program.proofs.running.run.Goals as goal
 
 pub returns-in-Ok : goal.returns-in-Ok
 returns-in-Ok g c = headline_for _ c.in-Ok.ensures.asked c.carry_out.ensures

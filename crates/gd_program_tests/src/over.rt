@@ -1,40 +1,31 @@
-//! Each call of each device failing in turn, through `run` over objects in memory: of the commands that read an input, of nodes,
-//! and of nodes that go on from a journal; and standard input and output over readers and writers of their own. What the built
-//! program does of words, logs, lines, frames and journals is tested from outside, in the folder tests/ of the repository.
+//! A run of words over objects in memory.
 
 ghost use Rattle.std.specs.Prelude.{◌≡◌, ◌<◌};
 
-mod devices;
-mod faults;
-mod frames;
-mod nodes;
-mod rejoins;
-mod standard;
-
-use crate::running::run;
 use gd_base::Steps;
 use gd_outside::{
     Journal, Link, Sink, Source, Status, SureJournal, SureLink, SureSink, SureSource, Word,
     WordList,
 };
+use gd_program::run;
 use std::alloc::{AllocError, Global};
 use std::marker::Brand;
 use std::sync::ledger::{Blank, Ledger};
 
 /// More than any of these runs prints.
-const ROOM: usize = 10_000;
+pub(crate) const ROOM: usize = 10_000;
 
 /// A rect of site 2 and an ellipse of site 1, both at clock 1.
-const TIE: [u8; 70] = [
+pub(crate) const TIE: [u8; 70] = [
     b'G', b'D', b'O', b'L', 1, 0, 0, 0, 7, 1, 2, 0xC3, 0, 0, 0, 0, 0, 1, 2, 0, 1, 1, 1, 0, 0, 0, 5,
     0, 0, 0, 5, 0, 0, 0, 10, 0, 0, 0, 10, 0, 0xC3, 0, 0, 0, 0, 0, 1, 1, 0, 1, 1, 2, 0, 0, 0, 0, 0,
     0, 0, 0, 0, 0, 0, 20, 0, 0, 0, 20, 0, 0,
 ];
 
-const TIE_TEXT: &str =
+pub(crate) const TIE_TEXT: &str =
     "ellipse 1.1 in - at 0 0 size 20 20 stroke 000000 fill none width 1\nrect 1.2 in - at 5 5 size 10 10 stroke 000000 fill none width 1\nend 2\n";
 
-fn words_of(alloc: Global, texts: &[&str]) -> Result<WordList, AllocError> {
+pub(crate) fn words_of(alloc: Global, texts: &[&str]) -> Result<WordList, AllocError> {
     let mut words = WordList::new(alloc);
     for text in texts {
         words.push(Word::new(alloc, text)?)?;
@@ -42,7 +33,7 @@ fn words_of(alloc: Global, texts: &[&str]) -> Result<WordList, AllocError> {
     Ok(words)
 }
 
-fn with_ledger<S: Source, K: Sink, J: Journal, N: Link, L: Ledger>(
+pub(crate) fn with_ledger<S: Source, K: Sink, J: Journal, N: Link, L: Ledger>(
     blank: Blank,
     alloc: Global,
     words: &WordList,
@@ -59,7 +50,7 @@ fn with_ledger<S: Source, K: Sink, J: Journal, N: Link, L: Ledger>(
     run(alloc, words, input, output, journal, link, &mut steps)
 }
 
-fn ran_on<S: Source, K: Sink, J: Journal, N: Link>(
+pub(crate) fn ran_on<S: Source, K: Sink, J: Journal, N: Link>(
     alloc: Global,
     words: &WordList,
     input: &mut S,
@@ -71,7 +62,7 @@ fn ran_on<S: Source, K: Sink, J: Journal, N: Link>(
 }
 
 /// The same, with a journal and a link that keep nothing.
-fn ran<S: Source, K: Sink>(
+pub(crate) fn ran<S: Source, K: Sink>(
     alloc: Global,
     words: &WordList,
     input: &mut S,
@@ -83,7 +74,11 @@ fn ran<S: Source, K: Sink>(
 }
 
 /// How a run of these words over these bytes ends, and what it prints.
-fn ran_over(alloc: Global, texts: &[&str], bytes: &[u8]) -> Result<(Status, SureSink), AllocError> {
+pub(crate) fn ran_over(
+    alloc: Global,
+    texts: &[&str],
+    bytes: &[u8],
+) -> Result<(Status, SureSink), AllocError> {
     let words = words_of(alloc, texts)?;
     let mut input = SureSource::new(alloc, bytes)?;
     let mut output = SureSink::new(alloc, ROOM)?;

@@ -7,9 +7,9 @@ use Rattle.gd_effects.specs.Endings.{Causes, DidRead, Unopened}
 use Rattle.gd_outside.specs.Causes.{Rose}
 use Rattle.gd_outside.specs.Told.{told, Grows}
 use Rattle.gd_outside.specs.declared.status.Status.TheVariants.{Usage, ReadFault, WriteFault, JournalFault, LinkFault, NoMemory}
-use Rattle.groupdesign.specs.Commands.{HasLogOf, HoldsLogOf, IsEnd, IsUnread, Keeps, Named, OpensFirst, Silent, Untouched, left_of}
-use Rattle.groupdesign.specs.Runs.{Run, Told, Whole, asked, contents, entries, input}
-use Rattle.groupdesign.specs.Runs.{owed, owed_for_part, owed_status}
+use Rattle.gd_program.specs.Commands.{HasLogOf, HoldsLogOf, IsEnd, IsUnread, Keeps, Named, OpensFirst, Silent, Untouched, left_of}
+use Rattle.gd_program.specs.Runs.{Run, Told, Whole, asked, contents, entries, input}
+use Rattle.gd_program.specs.Runs.{owed, owed_for_part, owed_status}
 
 pub record Headline (run : Run) : Type 0 where
   -- ---- where nothing cut the run short

@@ -20,8 +20,8 @@ use Rattle.gd_protocol.proofs.NodeJournals.{held_of_answers, no_head_of_answers}
 use Rattle.gd_reference.specs.NodeRun.{answers, node_lines, site_after}
 use Rattle.gd_reference.specs.Rejoin.{Found, Events, rejoined_held}
 use Rattle.gd_reference.specs.SlowSite.{SlowSite, resumed}
-use Rattle.groupdesign.proofs.Sentences.{did_whole}
-use Rattle.groupdesign.specs.Commands.{ClosesFound, IsUnread}
+use Rattle.gd_program.proofs.Sentences.{did_whole}
+use Rattle.gd_program.specs.Commands.{ClosesFound, IsUnread}
 
 -- only a node that goes on from its journal can't read it
 pub is_unread : (asked : Option Command) (s : Status) (a b : Outside) → IsUnread asked s a b → Unread s a b

@@ -1,8 +1,8 @@
 //! Nodes that go on from their journals: what a crash left, and each call of each device failing in turn.
 
-use super::frames::ROOM;
-use super::nodes::{Node, answered_failing, gone_on};
-use super::ran_over;
+use crate::frames::ROOM;
+use crate::nodes::{Node, answered_failing, gone_on};
+use crate::over::ran_over;
 use gd_outside::{Call, Fail, MemoryJournal, MemoryLink, Status};
 use std::alloc::{AllocError, Global};
 use std::test;

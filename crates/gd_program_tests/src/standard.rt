@@ -1,6 +1,6 @@
 //! Standard input and output over readers and writers of these tests' own, through the whole run.
 
-use super::{TIE, TIE_TEXT, ran, words_of};
+use crate::over::{TIE, TIE_TEXT, ran, words_of};
 use gd_outside::{Status, SureSink, SureSource};
 use gd_real::{StandardInput, StandardOutput};
 use std::alloc::{AllocError, Global};

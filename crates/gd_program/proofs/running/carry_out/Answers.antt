@@ -1,5 +1,5 @@
-use Rattle.groupdesign.proofs.Carried.{carried_as, carried_board, carried_churn, carried_node, carried_rehearse, carried_rejoin, carried_replay, carried_snapshot, carried_upgrade, carried_view, named_node, named_rejoin}
-use Rattle.groupdesign.proofs.running.carry_out.Goals as goal
+use Rattle.gd_program.proofs.Carried.{carried_as, carried_board, carried_churn, carried_node, carried_rehearse, carried_rejoin, carried_replay, carried_snapshot, carried_upgrade, carried_view, named_node, named_rejoin}
+use Rattle.gd_program.proofs.running.carry_out.Goals as goal
 
 pub returns-in-Replay : goal.returns-in-Replay
 returns-in-Replay g c =
