@@ -16,7 +16,8 @@ use Rattle.gd_site.specs.Answers.{next_note}
 pub next_said : (slow : SlowSite) → noted_reply (next_note (slow.notes slow.me).number) ≡ note_reply slow
 next_said slow = by (nat_le most_notes (slow.notes slow.me).number) (slow.notes slow.me).number
   where
-    by : (full : Bool) (n : ℕ) → noted_reply (cond full (Err record {}) (Ok (n + 1))) ≡ cond full (reply.Refused NoteEnd) (reply.Noted (n + 1))
+    by : (full : Bool) (n : ℕ)
+        → noted_reply (cond full (Err record {}) (Ok (n + 1))) ≡ cond full (reply.Refused NoteEnd) (reply.Noted (n + 1))
     by true n = refl
     by false n = refl
 

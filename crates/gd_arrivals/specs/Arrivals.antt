@@ -1,5 +1,6 @@
--- What comes of an event of any kind that arrives, and what it costs: by the held events behind it in stamp order, and the
--- two relations alone. The first tells whether two events are independent, the second whether its first event covers the other.
+-- What comes of an event of any kind that arrives, and what it costs: by the held events behind it in stamp order, and
+-- the two relations alone. The first tells whether two events are independent, the second whether its first event
+-- covers the other.
 use Rattle.std.specs.Prelude.{ℕ, Bool, List, [], ◌∷◌, ◌++◌, map}
 use Rattle.std.specs.List.{filter}
 use Rattle.gd_base.specs.Stamps.{is_before}

@@ -5,7 +5,8 @@ use Rattle.gd_repair.specs.Repair.{Stamped, Outcome}
 use Rattle.gd_repair.specs.Repair.Outcome.{applied, dropped, reworked}
 use Rattle.gd_arrivals.specs.Arrivals.{outcome_of}
 
--- how many events were applied, dropped and reworked, and how many later events were undone and redone for the last of these
+-- how many events were applied, dropped and reworked, and how many later events were undone and redone for the last of
+-- these
 pub record Tally : Type 0 where
   pub applied : ℕ
   pub dropped : ℕ

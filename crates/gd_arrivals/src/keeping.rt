@@ -11,8 +11,8 @@ pub trait Keeping: Document
 where
     Self::Op: Operation,
 {
-    /// Keeps an operation as it is packed, with room for its before-value, of which nothing is known yet. What is packed is
-    /// moved. `AllocError` where memory ran out.
+    /// Keeps an operation as it is packed, with room for its before-value, of which nothing is known yet. What is
+    /// packed is moved. `AllocError` where memory ran out.
     fn keep_packed(
         alloc: Global,
         op: <Self::Op as Operation>::Packed,

@@ -22,10 +22,12 @@ shorter_closure : {E : Type 0} (t : Bool) (f : E) (xs ys fs : List E) → length
 shorter_closure true f xs ys fs h k = omega arith
 shorter_closure false f xs ys fs h k = omega arith
 
-length-closure : {E : Type 0} (independent : E → E → Bool) (e : E) (cs fs : List E) → length (closure_from independent e cs fs) ≤ length fs
+length-closure : {E : Type 0} (independent : E → E → Bool) (e : E) (cs fs : List E)
+    → length (closure_from independent e cs fs) ≤ length fs
 length-closure independent e cs [] = omega arith
 length-closure independent e cs (f ∷ fs) =
-    shorter_closure (is_free independent (e ∷ cs) f) f (closure_from independent e cs fs) (closure_from independent e (cs ++ f ∷ []) fs) fs
+    shorter_closure (is_free independent (e ∷ cs) f) f (closure_from independent e cs fs)
+    (closure_from independent e (cs ++ f ∷ []) fs) fs
     (length-closure independent e cs fs) (length-closure independent e (cs ++ f ∷ []) fs)
 
 module _ {O : Type 0} (independent covers : Stamped O → Stamped O → Bool) (e : Stamped O) where
@@ -47,9 +49,11 @@ module _ {O : Type 0} (independent covers : Stamped O → Stamped O → Bool) (e
 counted-outcome : {O : Type 0} (t : Tally) (o : Outcome (Stamped O)) → counted t (arrival_of o) ≡ tallied t o
 counted-outcome t applied = refl
 counted-outcome t (dropped c) = refl
-counted-outcome t (reworked cs) = ap (λ (n : ℕ). record t { reworked = t.reworked + 1; undone = t.undone + n }) (length-map cs stamp_of)
+counted-outcome t (reworked cs)
+    = ap (λ (n : ℕ). record t { reworked = t.reworked + 1; undone = t.undone + n }) (length-map cs stamp_of)
 
-counts-one : (t : Tally) (a : Arrival) → (counted t a).applied + (counted t a).dropped + (counted t a).reworked ≡ t.applied + t.dropped + t.reworked + 1
+counts-one : (t : Tally) (a : Arrival)
+    → (counted t a).applied + (counted t a).dropped + (counted t a).reworked ≡ t.applied + t.dropped + t.reworked + 1
 counts-one t Applied = omega arith
 counts-one t (Dropped by) = omega arith
 counts-one t (Reworked undone) = omega arith
@@ -60,32 +64,44 @@ undoes-one t (Dropped by) = omega arith
 undoes-one t (Reworked undone) = refl
 
 -- what came of these events, all of them counted, with no more undone than can be
-pub record Tallied {O : Type 0} (independent covers : Stamped O → Stamped O → Bool) (done : List (EventValue O)) (t : Tally) : Type 0 where
+pub record Tallied {O : Type 0} (independent covers : Stamped O → Stamped O → Bool) (done : List (EventValue O))
+    (t : Tally) : Type 0 where
   pub is : t ≡ tally independent covers done
   pub counted : t.applied + t.dropped + t.reworked ≡ length done
   pub undone : t.undone ≤ SESSION_EVENTS * length done
 
 module _ {O : Type 0} (independent covers : Stamped O → Stamped O → Bool) where
   tally-push : (t : Tally) (held es : List (EventValue O)) (e : EventValue O)
-      → tally_from independent covers t held (es ++ e ∷ []) ≡ tallied (tally_from independent covers t held es) (outcome_of independent covers (held ++ es) e)
+      → tally_from independent covers t held (es ++ e ∷ [])
+      ≡ tallied (tally_from independent covers t held es) (outcome_of independent covers (held ++ es) e)
   unfolding tally_from
   tally-push t held [] e = ap (λ h. tallied t (outcome_of independent covers h e)) (sym (append-nil held))
   tally-push t held (f ∷ fs) e =
       let next = tallied t (outcome_of independent covers held f) in
       tally-push next (held ++ f ∷ []) fs e
-      ∙ ap (λ h. tallied (tally_from independent covers next (held ++ f ∷ []) fs) (outcome_of independent covers h e)) (append_assoc held (f ∷ []) fs)
+      ∙ ap (λ h. tallied (tally_from independent covers next (held ++ f ∷ []) fs) (outcome_of independent covers h e))
+      (append_assoc held (f ∷ []) fs)
 
   pub tallied_none : Tallied independent covers [] no_tally
   unfolding tally_from
   tallied_none = record { is = refl; counted = omega arith; undone = omega arith }
 
-  pub tallied_more : (done : List (EventValue O)) (t new : Tally) (e : EventValue O) (a : Arrival) → Tallied independent covers done t
-      → a ≡ arrival_of (outcome_of independent covers done e) → undone_in a ≤ SESSION_EVENTS → new ≡ counted t a → length (done ++ e ∷ []) ≡ length done + 1
+  pub tallied_more : (done : List (EventValue O)) (t new : Tally) (e : EventValue O) (a : Arrival)
+      → Tallied independent covers done t
+      → a ≡ arrival_of (outcome_of independent covers done e) → undone_in a ≤ SESSION_EVENTS → new ≡ counted t a
+      → length (done ++ e ∷ []) ≡ length done + 1
       → Tallied independent covers (done ++ e ∷ []) new
   tallied_more done t new e a h is most one long = record {
     is =
-        one ∙ (λ i. counted (h.is i) (is i)) ∙ counted-outcome (tally independent covers done) (outcome_of independent covers done e)
+        one ∙ (λ i. counted (h.is i) (is i))
+        ∙ counted-outcome (tally independent covers done) (outcome_of independent covers done e)
         ∙ sym (tally-push no_tally [] done e);
-    counted = omega (arith, ap (λ (x : Tally). x.applied + x.dropped + x.reworked) one, counts-one t a, h.counted, long);
+    counted = omega (
+      arith,
+      ap (λ (x : Tally). x.applied + x.dropped + x.reworked) one,
+      counts-one t a,
+      h.counted,
+      long,
+    );
     undone = omega (arith, ap (λ (x : Tally). x.undone) one, undoes-one t a, h.undone, most, long);
   }

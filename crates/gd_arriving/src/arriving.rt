@@ -16,10 +16,10 @@ use gd_history::History;
 use std::alloc::{AllocError, Global};
 use std::sync::ledger::Ledger;
 
-/// The history that goes on from a document and a line, at which the events arrived, in their order, and what came of them.
-/// Nothing is trimmed: it holds the fold of all events, from what the document means, in the order of their stamps. Their
-/// operations are moved.
-/// `AllocError` where memory runs out: the events before that have taken their steps then.
+/// The history that goes on from a document and a line, at which the events arrived, in their order, and what came of
+/// them. Nothing is trimmed: it holds the fold of all events, from what the document means, in the order of their
+/// stamps. Their operations are moved. `AllocError` where memory runs out: the events before that have taken their
+/// steps then.
 pub fn arrived_from<D: Keeping, L: Ledger>(
     alloc: Global,
     base: D,
@@ -53,8 +53,8 @@ where
     Ok((history, tally))
 }
 
-/// The history of a document that no event has changed, at which the events arrived, in their order, and what came of them,
-/// as `arrived_from` says it of line 0.
+/// The history of a document that no event has changed, at which the events arrived, in their order, and what came of
+/// them, as `arrived_from` says it of line 0.
 pub fn arrived<D: Keeping, L: Ledger>(
     alloc: Global,
     empty: D,

@@ -8,8 +8,8 @@ use gd_history::Arrival;
 use gd_words::Reply;
 use std::marker::Model;
 
-/// What came of events that arrived: how many of them were applied, dropped and reworked, and how many later events were
-/// undone and redone for those that were reworked.
+/// What came of events that arrived: how many of them were applied, dropped and reworked, and how many later events
+/// were undone and redone for those that were reworked.
 #[derive(Drop)]
 pub struct Tally {
     applied: u32,

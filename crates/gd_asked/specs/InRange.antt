@@ -4,7 +4,8 @@ use Rattle.gd_base.specs.Sites.{IsSite}
 use Rattle.gd_base.specs.declared.ranges.TheConstants.{SITES}
 use Rattle.gd_options.specs.declared.churn.TheConstants.{CHURN_STEPS}
 use Rattle.gd_asked.specs.declared.command.Command.{Command}
-use Rattle.gd_asked.specs.declared.command.Command.TheVariants.{Replay, Upgrade, Snapshot, View, Board, Node, Rejoin, Rehearse, Churn}
+use Rattle.gd_asked.specs.declared.command.Command.TheVariants.{Replay, Upgrade, Snapshot, View, Board, Node, Rejoin}
+use Rattle.gd_asked.specs.declared.command.Command.TheVariants.{Rehearse, Churn}
 
 -- the own site is one of 1 to 16, each of which has an address
 abbrev pub IsMember : ℕ → ℕ → List (List ℕ) → Type 0

@@ -1,5 +1,5 @@
--- The newest note of each site, as a list of notes in the order of the sites. Of the notes put for a site, the one of the
--- greatest number is kept, the first of equals.
+-- The newest note of each site, as a list of notes in the order of the sites. Of the notes put for a site, the one of
+-- the greatest number is kept, the first of equals.
 use Rattle.std.specs.Prelude.{◌≡◌, ◌⊎◌, ℕ, ◌-◌, ◌<◌, ◌≤◌, List, ◌∷◌, ◌++◌, All, replicate, set, get_or}
 use Rattle.std.specs.List.{fold}
 use Rattle.gd_base.specs.Notes.{no_note, newer}

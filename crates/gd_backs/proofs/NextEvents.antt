@@ -1,5 +1,7 @@
 -- The next events of a site: what they are, and what is on the board with each.
-use Rattle.std.proofs.Common.{◌≡◌, suc, ◌+◌, ◌<◌, ◌≤◌, max, Bool, true, false, cond, List, [], ◌∷◌, ◌++◌, length, Result, Ok, Err, nat_le, nat_lt, refl, sym, ap, ◌∙◌, subst, arith, append_assoc, append-nil, eq-eqb, length-append}
+use Rattle.std.proofs.Common.{◌≡◌, suc, ◌+◌, ◌<◌, ◌≤◌, max, Bool, true, false, cond, List, [], ◌∷◌, ◌++◌, length}
+use Rattle.std.proofs.Common.{Result, Ok, Err, nat_le, nat_lt, refl, sym, ap, ◌∙◌, subst, arith, append_assoc}
+use Rattle.std.proofs.Common.{append-nil, eq-eqb, length-append}
 use Rattle.std.proofs.lemmas.Bool.{false_from_ne_true, leb-false}
 use Rattle.std.proofs.lemmas.List.Elements.{filter-append}
 use Rattle.std.proofs.lemmas.List.Sums.{fold-append}
@@ -21,9 +23,11 @@ use Rattle.gd_lines.specs.Edits.{Edit}
 use Rattle.gd_lines.specs.declared.command.Turn.{Turn}
 use Rattle.gd_model.specs.Board.{Board, apply, apply_all, board}
 use Rattle.gd_reference.specs.Backs.{due}
-use Rattle.gd_reference.specs.Judging.{edit, edit_by, event_of, greatest_stamp_clock, judged, most_own_events, next_event, with_event}
+use Rattle.gd_reference.specs.Judging.{edit, edit_by, event_of, greatest_stamp_clock, judged, most_own_events}
+use Rattle.gd_reference.specs.Judging.{next_event, with_event}
 use Rattle.gd_reference.specs.SlowSite.{SlowSite, clock, greatest_clock, is_by, made_by, own}
-use Rattle.gd_reference.specs.TakeBack.{Asked, Refused, after_asked, answer, back_of, backs_of, done, events_in, made, or_refusal, turn, turn_by, with_events}
+use Rattle.gd_reference.specs.TakeBack.{Asked, Refused, after_asked, answer, back_of, backs_of, done, events_in, made}
+use Rattle.gd_reference.specs.TakeBack.{or_refusal, turn, turn_by, with_events}
 
 -- ---- what an operation becomes
 
@@ -118,7 +122,8 @@ pub with_events-is : (slow : SlowSite) (es : List Event) → with_events slow es
 unfolding with_events
 with_events-is slow [] = ap (λ (l : List Event). record slow { held = l }) (sym (append-nil slow.held))
 with_events-is slow (e ∷ es) =
-    with_events-is (with_event slow e) es ∙ ap (λ (l : List Event). record slow { held = l }) (append_assoc slow.held (e ∷ []) es)
+    with_events-is (with_event slow e) es
+    ∙ ap (λ (l : List Event). record slow { held = l }) (append_assoc slow.held (e ∷ []) es)
 
 pub with_events-append : (slow : SlowSite) (es fs : List Event)
     → with_events slow (es ++ fs) ≡ with_events (with_events slow es) fs

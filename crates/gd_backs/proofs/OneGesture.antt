@@ -5,7 +5,8 @@ use Rattle.gd_lines.specs.Edits.{Edit}
 use Rattle.gd_reference.specs.Backs.{with_gesture}
 use Rattle.gd_reference.specs.Judging.{edit}
 use Rattle.gd_reference.specs.SlowSite.{SlowSite}
-use Rattle.gd_reference.specs.TakeBack.{Asked, after_edit, after_gesture, backs_of, events_in, made, with_events, with_made}
+use Rattle.gd_reference.specs.TakeBack.{Asked, after_edit, after_gesture, backs_of, events_in, made, with_events}
+use Rattle.gd_reference.specs.TakeBack.{with_made}
 use Rattle.gd_backs.proofs.NextEvents.{events-or_refusal}
 
 pub edit_made : (slow : SlowSite) (wanted : Edit) → events_in (edit slow wanted) ≡ made slow (Ok wanted ∷ [])

@@ -16,10 +16,14 @@ use Rattle.gd_base.specs.declared.object.Kind.TheVariants.{Shape, Group, Connect
 use Rattle.gd_base.specs.declared.ranges.TheConstants.{MOST_MEMBERS}
 use Rattle.gd_base.specs.Whole.{Object}
 use Rattle.gd_base.specs.declared.ties.Tie.{Tie}
-use Rattle.gd_drawing.proofs.SoundObjects.{AreTiesBefore, IsContentBefore, IsEntryBefore, IsFormBefore, IsIdBefore, IsLookupBefore, IsTieBefore, board_before, each_before, form_before, no_ties, object_before}
+use Rattle.gd_drawing.proofs.SoundObjects.{AreTiesBefore, IsContentBefore, IsEntryBefore, IsFormBefore, IsIdBefore}
+use Rattle.gd_drawing.proofs.SoundObjects.{IsLookupBefore, IsTieBefore, board_before, each_before, form_before, no_ties}
+use Rattle.gd_drawing.proofs.SoundObjects.{object_before}
 use Rattle.gd_events.specs.Events.{Event}
 use Rattle.gd_events.specs.Ops.{Op}
-use Rattle.gd_events.specs.Sound.{are_ties_before, are_ties_in_range, has_members, has_rising_ids, is_above, is_in_range, is_tie_before, names_before, rise_above, IsOp, IsSoundBefore, IsWellTyped}
+use Rattle.gd_events.specs.Sound.{are_ties_before, are_ties_in_range, has_members, has_rising_ids, is_above}
+use Rattle.gd_events.specs.Sound.{is_in_range, is_tie_before, names_before, rise_above, IsOp, IsSoundBefore}
+use Rattle.gd_events.specs.Sound.{IsWellTyped}
 use Rattle.gd_model.specs.Backs.{back, op_of}
 use Rattle.gd_model.specs.Board.{board}
 use Rattle.gd_model.specs.Contents.{Content}

@@ -1,5 +1,6 @@
 -- Undos and redos lead along the boards of the gestures.
-use Rattle.std.proofs.Common.{◌≡◌, ℕ, zero, suc, ◌+◌, ◌-◌, ◌≤◌, Bool, true, false, cond, List, [], ◌∷◌, ◌++◌, length, Option, None, Some, Ok, Err, refl, sym, ap, ◌∙◌, subst, arith}
+use Rattle.std.proofs.Common.{◌≡◌, ℕ, zero, suc, ◌+◌, ◌-◌, ◌≤◌, Bool, true, false, cond, List, [], ◌∷◌, ◌++◌, length}
+use Rattle.std.proofs.Common.{Option, None, Some, Ok, Err, refl, sym, ap, ◌∙◌, subst, arith}
 use Rattle.std.specs.Prelude.{take, drop, replicate, is_ok, nat_lt}
 use Rattle.gd_base.specs.Stamps.{Stamp}
 use Rattle.gd_base.specs.declared.ranges.TheConstants.{MOST_BACKS}
@@ -15,7 +16,8 @@ use Rattle.gd_reference.specs.Backs.{Backs, due, kept, with_gesture, with_turn}
 use Rattle.gd_reference.specs.DrawingText.{text}
 use Rattle.gd_reference.specs.Judging.{greatest_stamp_clock, most_own_events, with_event}
 use Rattle.gd_reference.specs.SlowSite.{SlowSite, clock, own}
-use Rattle.gd_reference.specs.TakeBack.{Asked, BackRefusal, NothingBack, Refused, after_gesture, after_turn, back_of, backs_of, done, made, turn, turn_by, with_events, with_made, with_turned}
+use Rattle.gd_reference.specs.TakeBack.{Asked, BackRefusal, NothingBack, Refused, after_gesture, after_turn, back_of}
+use Rattle.gd_reference.specs.TakeBack.{backs_of, done, made, turn, turn_by, with_events, with_made, with_turned}
 use Rattle.gd_backs.specs.Turns.{are_some, gestures, turns, done_after, IsMet}
 use Rattle.gd_backs.proofs.NextEvents.{AreOwn, accepted_as, made-own, next-board, next_of, turn-becomes}
 use Rattle.gd_backs.proofs.Traces.{no_trace}
@@ -102,9 +104,10 @@ module _ (at : ℕ → Board) where
     up : LeadTo (at n) (futures n m) slow.backs.redos
 
   -- behind these events the board is c, and what takes them back leads back to b
-  record Steps (slow : SlowSite) (es : List Event) (b c : Board) (behind : List Board) (all : List (List Op)) : Type 0 where
-    shows : board (with_events slow es).held ≡ c
-    back : LeadTo c (b ∷ behind) (kept (backs_of slow es) all)
+  record Steps (slow : SlowSite) (es : List Event) (b c : Board) (behind : List Board) (all : List (List Op)) : Type 0
+    where
+      shows : board (with_events slow es).held ≡ c
+      back : LeadTo c (b ∷ behind) (kept (backs_of slow es) all)
 
   steps : (slow : SlowSite) (es : List Event) (b c : Board) (behind : List Board) (all : List (List Op))
       → AreOwn slow es → suc (length behind) ≤ MOST_BACKS → board slow.held ≡ b
@@ -153,7 +156,8 @@ module _ (at : ℕ → Board) where
   unfolding backs_of
   made_step n slow [] few some own shows h = cc
   made_step n slow (e ∷ es) few some own shows h =
-      let s = steps slow (e ∷ es) (at n) (at (suc n)) (pasts n) slow.backs.undos own (omega (arith, few, pasts-length n))
+      let s = steps slow (e ∷ es) (at n) (at (suc n)) (pasts n) slow.backs.undos own
+      (omega (arith, few, pasts-length n))
       h.shows shows h.down in
       subst (λ backs. IsAt (suc n) 0 (record (with_events slow (e ∷ es)) { backs = backs }))
       (sym (gesture_kept (backs_of (with_event slow e) es) (back_of slow e) slow.backs))
@@ -201,7 +205,8 @@ module _ (at : ℕ → Board) where
   gestures_done (w ∷ ws) n k t u s l shown e h =
       let parts = passes (are_some (made t w)) (gestures (after_gesture t w) ws) u e in
       let next : n + 1 ≡ suc n = omega arith in
-      gestures_done ws (suc n) k (after_gesture t w) u (omega (arith, s)) l (λ i. shown (suc i) ∙ ap at (omega arith)) parts.1
+      gestures_done ws (suc n) k (after_gesture t w) u (omega (arith, s)) l (λ i. shown (suc i) ∙ ap at (omega arith))
+      parts.1
       (gesture_step at n t w (omega (arith, s, l)) parts.0 (shown 1 ∙ ap at next) h)
 
   -- where the turns end
@@ -272,9 +277,11 @@ in_a_row k j i l h = undos_count j i k 0 l (omega (arith, h))
 none_due : (slow : SlowSite) (all : List (List Op)) → turn_by slow all ≡ Err NothingBack → all ≡ []
 none_due slow [] e = refl
 none_due slow (ops ∷ more) e =
-    by (nat_lt greatest_stamp_clock (clock slow + length ops)) (nat_lt most_own_events (length (own slow) + length ops)) e
+    by (nat_lt greatest_stamp_clock (clock slow + length ops)) (nat_lt most_own_events (length (own slow) + length ops))
+    e
   where
-    by : (a b : Bool) → cond a (Err (Refused ClockEnd)) (cond b (Err (Refused SessionFull)) (Ok (done slow ops))) ≡ Err NothingBack
+    by : (a b : Bool) → cond a (Err (Refused ClockEnd)) (cond b (Err (Refused SessionFull)) (Ok (done slow ops)))
+        ≡ Err NothingBack
         → ops ∷ more ≡ []
     by true b k = cc
     by false true k = cc
@@ -309,7 +316,8 @@ unfolding turn
 is_met slow which why e = by (due which slow.backs) e
   where
     refused : (ops : List Op) (a b : Bool)
-        → cond a (Err (Refused ClockEnd)) (cond b (Err (Refused SessionFull)) (Ok (done slow ops))) ≡ Err why → IsMet why
+        → cond a (Err (Refused ClockEnd)) (cond b (Err (Refused SessionFull)) (Ok (done slow ops))) ≡ Err why
+        → IsMet why
     refused ops true b k = let same : Refused ClockEnd ≡ why = cc in subst IsMet same tt
     refused ops false true k = let same : Refused SessionFull ≡ why = cc in subst IsMet same tt
     refused ops false false k = cc

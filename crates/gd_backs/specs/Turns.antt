@@ -11,8 +11,8 @@ abbrev pub are_some : List Event → Bool
 are_some [] = false
 are_some (e ∷ es) = true
 
--- the site after these gestures, where each of them makes an event. One that makes none changes nothing, and isn't kept: so no undo
--- takes it back
+-- the site after these gestures, where each of them makes an event. One that makes none changes nothing, and isn't
+-- kept: so no undo takes it back
 unfoldable pub gestures : SlowSite → List (List Asked) → Option SlowSite
 gestures slow [] = Some slow
 gestures slow (asked ∷ more) = if are_some (made slow asked) then gestures (after_gesture slow asked) more else None
@@ -22,8 +22,8 @@ unfoldable pub turns : SlowSite → List Turn → Option SlowSite
 turns slow [] = Some slow
 turns slow (which ∷ more) = if is_ok (turn slow which) then turns (after_turn slow which) more else None
 
--- how many gestures are done after these, where so many are done and so many are taken back; none where there is nothing to take
--- back, or to do again
+-- how many gestures are done after these, where so many are done and so many are taken back; none where there is
+-- nothing to take back, or to do again
 abbrev pub done_after : List Turn → ℕ → ℕ → Option ℕ
 done_after [] done back = Some done
 done_after (Undo ∷ more) zero back = None

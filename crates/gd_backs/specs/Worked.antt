@@ -1,5 +1,6 @@
--- Why a group isn't taken back by an ungroup, once an ungroup can be taken back: a group, its end, and another group of the same
--- objects, all taken back but the first. The second group took the links away, and an ungroup doesn't give them back.
+-- Why a group isn't taken back by an ungroup, once an ungroup can be taken back: a group, its end, and another group of
+-- the same objects, all taken back but the first. The second group took the links away, and an ungroup doesn't give
+-- them back.
 use Rattle.std.specs.Prelude.{ℕ, pos, true, false, List, [], ◌∷◌, ◌++◌, Option, Some, map}
 use Rattle.gd_base.specs.Stamps.{Stamp}
 use Rattle.gd_base.specs.declared.content.Content.TheVariants.{ToFlag}
@@ -44,7 +45,8 @@ tie n = record { id = at_clock n; link = Some record { parent = at_clock 3; dx =
 
 -- or by what gives the links back
 abbrev pub disbanded_back : List Event
-disbanded_back = regrouped ++ event 6 (Disband (at_clock 5) (tie 1 ∷ tie 2 ∷ [])) ∷ event 7 (Set (at_clock 3) (ToFlag false)) ∷ []
+disbanded_back = regrouped
+    ++ event 6 (Disband (at_clock 5) (tie 1 ∷ tie 2 ∷ [])) ∷ event 7 (Set (at_clock 3) (ToFlag false)) ∷ []
 
 -- the shown objects, each with the group that it is shown in
 abbrev pub nested : List Event → List (Stamp × Option Stamp)

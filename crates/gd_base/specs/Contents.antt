@@ -22,7 +22,8 @@ content_map f k g (ToEnds ends) = ToEnds ends
 content_map f k g (ToRank rank) = ToRank (g rank)
 
 -- the operation with other labels, members, objects and ties
-abbrev pub op_map : {L K M R O T J N P U : Type 0} → (L → J) → (M → N) → (O → P) → (T → U) → Op L K M R O T → Op J K N R P U
+abbrev pub op_map : {L K M R O T J N P U : Type 0} → (L → J) → (M → N) → (O → P) → (T → U) → Op L K M R O T
+    → Op J K N R P U
 op_map f g h j (Create kind x y w h' label) = Create kind x y w h' (f label)
 op_map f g h j (Delete id) = Delete id
 op_map f g h j (Set id content) = Set id (content_map f (λ looks. looks) (λ rank. rank) content)

@@ -1,4 +1,5 @@
--- What an object of a kind may have: the label of a group is a title, a connector has ends, and only a group ties others.
+-- What an object of a kind may have: the label of a group is a title, a connector has ends, and only a group ties
+-- others.
 use Rattle.std.specs.Prelude.{ℕ, List, Bool, true, Option, is_some}
 use Rattle.gd_base.specs.Labels.{is_title}
 use Rattle.gd_base.specs.declared.object.Ends.{Ends}

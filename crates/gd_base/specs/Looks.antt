@@ -1,5 +1,5 @@
--- Looks: how an object looks, and new values for some parts of that. What is set is put in part by part, so two who set different
--- parts of one look both get theirs.
+-- Looks: how an object looks, and new values for some parts of that. What is set is put in part by part, so two who set
+-- different parts of one look both get theirs.
 use Rattle.std.specs.Prelude.{ℕ, Bool, ◌&&◌, ◌||◌, Option, None, Some, option_map, unwrap_or, is_some}
 use Rattle.gd_base.specs.Ranges.{is_colour, is_fill, is_letters, is_opacity, is_round, is_width}
 use Rattle.gd_base.specs.declared.look.Dash.TheVariants.{Solid}

@@ -1,4 +1,5 @@
--- The order of ranks is total, and only equal ranks tie. The types' impls cite this, so it stands here and not in proofs/.
+-- The order of ranks is total, and only equal ranks tie. The types' impls cite this, so it stands here and not in
+-- proofs/.
 use Rattle.std.proofs.Common.{◌≡◌, refl, sym, ap}
 use Rattle.std.proofs.lemmas.Bool.{false≢true}
 use Rattle.std.specs.FinMap.{IsAntisymmetric}

@@ -1,5 +1,5 @@
--- The order of ranks, and of the places in the stack. Every Low lies below every High. Of two Low the greater stamp is lower, of
--- two High the greater stamp is higher.
+-- The order of ranks, and of the places in the stack. Every Low lies below every High. Of two Low the greater stamp is
+-- lower, of two High the greater stamp is higher.
 use Rattle.std.specs.Prelude.{Bool}
 use Rattle.std.specs.Ordering.{then_cmp, on, eq_by_cmp, is_lt}
 use Rattle.std.specs.declared.cmp.Ordering.{Ordering}

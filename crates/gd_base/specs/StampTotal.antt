@@ -9,7 +9,8 @@ use Rattle.gd_base.specs.Stamps.{Stamp, stamp_cmp}
 
 pub stamp_cmp-total : IsTotalOrder stamp_cmp
 unfolding stamp_cmp
-stamp_cmp-total = then_total (on_total (λ (s : Stamp). s.clock) nat_cmp_total) (on_total (λ (s : Stamp). s.site) nat_cmp_total)
+stamp_cmp-total = then_total (on_total (λ (s : Stamp). s.clock) nat_cmp_total)
+    (on_total (λ (s : Stamp). s.site) nat_cmp_total)
 
 both_equal : (a b : Ordering) → ordering_then a b ≡ Equal → (a ≡ Equal) × (b ≡ Equal)
 both_equal Less b e = cc

@@ -1,4 +1,5 @@
--- What the types of ranks, links, ends, ties and objects say of their values: their stamps are stamps, and labels are labels.
+-- What the types of ranks, links, ends, ties and objects say of their values: their stamps are stamps, and labels are
+-- labels.
 use Rattle.std.specs.Prelude.{List, All, Option, IfSome}
 use Rattle.gd_base.specs.Labels.{IsLabel}
 use Rattle.gd_base.specs.Ranks.{given_at}

@@ -8,9 +8,9 @@ use crate::object::Ends;
 use crate::ranges::{PLACE_LIMIT, SIZE_LIMIT};
 use crate::rank::Rank;
 
-/// A new value for one part of an object, or for several parts of its look, with a label of type `L`, looks of type `K` and a rank
-/// of type `R`. In a sound event places are from `-PLACE_LIMIT` to `PLACE_LIMIT`, sizes from `-SIZE_LIMIT` to `SIZE_LIMIT`, and
-/// of looks at least one part is set.
+/// A new value for one part of an object, or for several parts of its look, with a label of type `L`, looks of type `K`
+/// and a rank of type `R`. In a sound event places are from `-PLACE_LIMIT` to `PLACE_LIMIT`, sizes from `-SIZE_LIMIT`
+/// to `SIZE_LIMIT`, and of looks at least one part is set.
 #[derive(Drop)]
 pub enum Content<L, K, R> {
     ToPlace { x: i32, y: i32 },

@@ -1,5 +1,5 @@
-//! What every crate speaks of: stamps, labels, texts, titles, names, notes, shapes, looks, objects, ranks, ties, items, short lists, contents, operations, offers, faults
-//! and refusals, versions, and steps.
+//! What every crate speaks of: stamps, labels, texts, titles, names, notes, shapes, looks, objects, ranks, ties, items,
+//! short lists, contents, operations, offers, faults and refusals, versions, and steps.
 #![tactic(auto)]
 
 mod clock;

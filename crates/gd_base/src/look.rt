@@ -1,7 +1,8 @@
 //! How objects look.
 ghost use Rattle.std.specs.Prelude.{◌≡◌, ◌&&◌};
 ghost use Rattle.gd_base.specs.Ranges.{is_fill, is_letters, is_round, is_width};
-ghost use Rattle.gd_base.specs.Looks.{are_looks, are_marks, are_numbers, given, has_late_mark, has_look, has_mark, instead, is_look, kept, laid};
+ghost use Rattle.gd_base.specs.Looks.{are_looks, are_marks, are_numbers, given, has_late_mark, has_look, has_mark};
+ghost use Rattle.gd_base.specs.Looks.{instead, is_look, kept, laid};
 ghost use Rattle.gd_base.specs.Looks.{new_look, no_looks, only_fill, only_stroke, only_width, put_over, taken, within};
 
 use crate::ranges::{COLOUR_LIMIT, LETTERS_LIMIT, OPACITY_LIMIT, ROUND_LIMIT, WIDTH_LIMIT};
@@ -31,9 +32,10 @@ pub enum Align {
     End,
 }
 
-/// How an object looks. In a sound event colours are from 0 to `COLOUR_LIMIT`, widths from 1 to `WIDTH_LIMIT`, opacities from 1 to
-/// `OPACITY_LIMIT`; how round its corners are, how large its letters are and to which side its label goes may be left to its
-/// kind, which is None, else they are from 0 to `ROUND_LIMIT` and from 1 to `LETTERS_LIMIT`.
+/// How an object looks. In a sound event colours are from 0 to `COLOUR_LIMIT`, widths from 1 to `WIDTH_LIMIT`,
+/// opacities from 1 to `OPACITY_LIMIT`; how round its corners are, how large its letters are and to which side its
+/// label goes may be left to its kind, which is None, else they are from 0 to `ROUND_LIMIT` and from 1 to
+/// `LETTERS_LIMIT`.
 #[derive(Clone, Copy, Debug, PartialEq, Eq)]
 pub struct Look {
     pub stroke: u32,

@@ -67,8 +67,8 @@ pub struct Link {
     pub dy: i32,
 }
 
-/// An object, with its place in the stack, over how its label is kept. Its id is the key under which it is kept. The place and the
-/// size of a connector are 0 and mean nothing.
+/// An object, with its place in the stack, over how its label is kept. Its id is the key under which it is kept. The
+/// place and the size of a connector are 0 and mean nothing.
 #[derive(Drop)]
 pub struct Object<L = Label> {
     pub kind: Kind,
@@ -126,7 +126,8 @@ impl Object<Label> {
 }
 
 impl Object<Text> {
-    /// A copy with a handle to the same label. It takes no memory; `AllocError` where there are as many handles as can be counted.
+    /// A copy with a handle to the same label. It takes no memory; `AllocError` where there are as many handles as can
+    /// be counted.
     pub fn share(&self) -> Result<Self, AllocError>
         ensures { IfOk result (λ object. object ≡ self.now) }
     {

@@ -10,8 +10,8 @@ use crate::shape::Shape;
 use crate::stamp::Stamp;
 use crate::ties::Ties;
 
-/// A change of a drawing, over how labels, looks, the members of a group, heights, objects and ties are kept. `Edit` is what a user asks
-/// for; `gd_events` has the one of an event, and the one in the memory that it needs.
+/// A change of a drawing, over how labels, looks, the members of a group, heights, objects and ties are kept. `Edit` is
+/// what a user asks for; `gd_events` has the one of an event, and the one in the memory that it needs.
 #[derive(Drop)]
 pub enum Op<L, K, M, R, O, T> {
     /// A new shape on top, with the event's stamp as its id.
@@ -40,7 +40,8 @@ pub enum Op<L, K, M, R, O, T> {
         ends: Ends,
         label: L,
     },
-    /// The object stands under that id as it was, where the id is absent, and each other object that is tied has its new link.
+    /// The object stands under that id as it was, where the id is absent, and each other object that is tied has its
+    /// new link.
     Restore {
         id: Stamp,
         object: O,
@@ -61,7 +62,8 @@ pub enum Nothing {}
 /// when the edit becomes an event.
 pub type Edit = Op<Label, Looks, Ids, Side, Nothing, Nothing>;
 
-/// The operation behind a reference with other labels, looks, members, objects and ties, each made of those that are there.
+/// The operation behind a reference with other labels, looks, members, objects and ties, each made of those that are
+/// there.
 #[macro_export]
 macro_rules! map_op {
     (

@@ -7,9 +7,9 @@ ghost use Rattle.gd_base.specs.RankOrder.{rank_cmp-total};
 use crate::stamp::Stamp;
 use std::cmp::Ordering;
 
-/// How high an object lies in the stack, with the stamp of the event that gave it its place: the one that made it, or the last
-/// one that raised or lowered it. Every `Low` lies below every `High`. Of two `Low` the greater stamp is lower, of two
-/// `High` the greater stamp is higher. Among objects of one rank the id decides.
+/// How high an object lies in the stack, with the stamp of the event that gave it its place: the one that made it, or
+/// the last one that raised or lowered it. Every `Low` lies below every `High`. Of two `Low` the greater stamp is
+/// lower, of two `High` the greater stamp is higher. Among objects of one rank the id decides.
 #[derive(Clone, Copy, Debug)]
 pub enum Rank {
     Low(Stamp),
@@ -40,7 +40,8 @@ impl Eq for Rank {
 impl PartialOrd for Rank {
     ghost partial_cmp = { as_partial_cmp rank_cmp };
 
-    ghost laws = { partial_order_from_agreeing_total rank_cmp rank_cmp-total (λ q r. refl) (λ q r. refl) };
+    ghost laws = { partial_order_from_agreeing_total rank_cmp rank_cmp-total (λ q r. refl)
+        (λ q r. refl) };
 
     fn partial_cmp(&self, other: &Rank) -> Option<Ordering> {
         Some(self.cmp(other))

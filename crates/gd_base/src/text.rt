@@ -7,8 +7,8 @@ use std::alloc::{AllocError, Global};
 use std::marker::Model;
 use std::rc::RcStr;
 
-/// A label as it is kept: a handle to one piece of memory of its length, which all that have the label share. That of no bytes has
-/// none. Contracts see it as its bytes.
+/// A label as it is kept: a handle to one piece of memory of its length, which all that have the label share. That of
+/// no bytes has none. Contracts see it as its bytes.
 #[derive(Drop)]
 pub struct Text {
     shared: Option<RcStr>,

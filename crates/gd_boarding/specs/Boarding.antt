@@ -1,7 +1,8 @@
 -- What `board` does to the outside, and how it ends, by plain definitions.
 --
--- The events of a log of cards arrive in its order, each for its steps. Then the cards are printed, and then it is said how the
--- events went, where that is asked for. Bytes that are no log of cards print the place and the reason of their first fault.
+-- The events of a log of cards arrive in its order, each for its steps. Then the cards are printed, and then it is said
+-- how the events went, where that is asked for. Bytes that are no log of cards print the place and the reason of their
+-- first fault.
 use Rattle.std.specs.Prelude.{Bool, ℕ, List, [], ◌∷◌, ◌++◌, map, Result, Ok, Err}
 use Rattle.gd_arrivals.specs.Arrivals.{costs}
 use Rattle.gd_arrivals.specs.Tally.{tally}

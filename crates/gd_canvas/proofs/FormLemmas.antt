@@ -45,7 +45,8 @@ tied_there r None = refl
 tied_there r (Some o) = refl
 
 -- an object is there after others are tied where it was
-pub tie_all-there : (ties : List Tie) (b : Board) (id : Stamp) → is_some (map_of.get (tie_all ties b) id) ≡ is_some (map_of.get b id)
+pub tie_all-there : (ties : List Tie) (b : Board) (id : Stamp)
+    → is_some (map_of.get (tie_all ties b) id) ≡ is_some (map_of.get b id)
 tie_all-there ties b id = ap is_some (get-tie_all ties b id) ∙ tied_there (first_tie ties id) (map_of.get b id)
 
 -- no object gives ties where there are none
@@ -59,13 +60,16 @@ from_none None = refl
 from_none (Some o) = own_none o.kind
 
 -- an object that is put without ties
-pub put_alone : (id : Stamp) (o : Object) (b : Board) → cond (map_of.contains_key b id) b (map_of.insert b id o) ≡ board_with (Puts id o []) b
-put_alone id o b = ap (λ ts. cond (map_of.contains_key b id) b (map_of.insert (tie_all ts b) id o)) (sym (own_none o.kind))
+pub put_alone : (id : Stamp) (o : Object) (b : Board)
+    → cond (map_of.contains_key b id) b (map_of.insert b id o) ≡ board_with (Puts id o []) b
+put_alone id o b = ap (λ ts. cond (map_of.contains_key b id) b (map_of.insert (tie_all ts b) id o))
+    (sym (own_none o.kind))
 
 pub ruleset puts = (put_alone)
 
 -- an object that is put where none is, and now is the board with the others tied
-pub puts-board : (id : Stamp) (o : Object) (ties : List Tie) (b now : Board) → is_some (map_of.get b id) ≡ false → now ≡ tie_all (own_ties o.kind ties) b
+pub puts-board : (id : Stamp) (o : Object) (ties : List Tie) (b now : Board) → is_some (map_of.get b id) ≡ false
+    → now ≡ tie_all (own_ties o.kind ties) b
     → board_with (Puts id o []) now ≡ board_with (Puts id o ties) b
 puts-board id o ties b now absent e =
     let tied = tie_all (own_ties o.kind ties) b in
@@ -98,7 +102,8 @@ taken b id = taken_by b id (map_of.get b id) refl
 pub ruleset takes = (taken)
 
 -- and the others are tied
-pub takes-tied : (id : Stamp) (ties : List Tie) (b now : Board) → is_some (map_of.get b id) ≡ true → now ≡ board_with (Takes id []) b
+pub takes-tied : (id : Stamp) (ties : List Tie) (b now : Board) → is_some (map_of.get b id) ≡ true
+    → now ≡ board_with (Takes id []) b
     → tie_all (tied_from (map_of.get b id) ties) now ≡ board_with (Takes id ties) b
 takes-tied id ties b now there e =
     let own = tied_from (map_of.get b id) ties in
@@ -106,11 +111,13 @@ takes-tied id ties b now there e =
     ∙ ap (λ t. cond t (tie_all own (map_of.remove b id)) b) (sym there)
 
 -- of the object that was found
-pub tied_found : (o : Object) (x : Option Object) (ties given : List Tie) → Some o ≡ x → given ≡ own_ties o.kind ties → given ≡ tied_from x ties
+pub tied_found : (o : Object) (x : Option Object) (ties given : List Tie) → Some o ≡ x → given ≡ own_ties o.kind ties
+    → given ≡ tied_from x ties
 tied_found o x ties given is own = own ∙ ap (λ y. tied_from y ties) is
 
 -- where none is, nothing changes
-pub takes-kept : (id : Stamp) (ties : List Tie) (b now : Board) → is_some (map_of.get b id) ≡ false → now ≡ board_with (Takes id []) b
+pub takes-kept : (id : Stamp) (ties : List Tie) (b now : Board) → is_some (map_of.get b id) ≡ false
+    → now ≡ board_with (Takes id []) b
     → now ≡ board_with (Takes id ties) b
 takes-kept id ties b now absent e =
     e ∙ ap (λ t. cond t (tie_all (tied_from (map_of.get b id) []) (map_of.remove b id)) b) absent
@@ -130,7 +137,8 @@ pub put_back : (id : Stamp) (o : Object) (olds ties : List Tie) (b : Board)
     → board_with (Puts id o olds) b ≡ undone_by (Takes id ties) (of_taken id olds (Some o)) b
 put_back id o olds ties b = sym (at_itself id (board_with (Puts id o olds) b) b)
 
-pub set_back : (id : Stamp) (old new : Content) (b : Board) → board_with (Sets id old) b ≡ undone_by (Sets id new) (of_found id (Some old)) b
+pub set_back : (id : Stamp) (old new : Content) (b : Board)
+    → board_with (Sets id old) b ≡ undone_by (Sets id new) (of_found id (Some old)) b
 set_back id old new b = sym (at_itself id (board_with (Sets id old) b) b)
 
 pub ruleset backs = (put_back, set_back)
@@ -142,14 +150,17 @@ unfolding undone
 undone_kept stamp kept found b e = ap (λ k. undone_by (form stamp (op_of k)) (before_of k) b) (sym e)
 
 -- it is applied as what it was found to be, and so is its before-value
-pub applied_kept : (stamp : Stamp) (kept found : Kept) (b : Board) → kept ≡ found → board_with (form stamp (op_of found)) b ≡ apply stamp (op_of kept) b
+pub applied_kept : (stamp : Stamp) (kept found : Kept) (b : Board) → kept ≡ found
+    → board_with (form stamp (op_of found)) b ≡ apply stamp (op_of kept) b
 unfolding apply
 applied_kept stamp kept found b e = ap (λ k. board_with (form stamp (op_of k)) b) (sym e)
 
-pub before_kept : (stamp : Stamp) (kept found : Kept) (b : Board) → kept ≡ found → ◌≡◌ {A = Before} (before_by (form stamp (op_of found)) (map_of.get b)) (before stamp (op_of kept) b)
+pub before_kept : (stamp : Stamp) (kept found : Kept) (b : Board) → kept ≡ found
+    → ◌≡◌ {A = Before} (before_by (form stamp (op_of found)) (map_of.get b)) (before stamp (op_of kept) b)
 unfolding before
 before_kept stamp kept found b e = ap (λ k. before_by (form stamp (op_of k)) (map_of.get b)) (sym e)
 
 -- what an event brings along is the label that its operation says
-pub brought : (spare : List ℕ) (e found : Kept) → e ≡ found → spare ≡ label_in (op_of e) → spare ≡ label_in (op_of found)
+pub brought : (spare : List ℕ) (e found : Kept) → e ≡ found → spare ≡ label_in (op_of e)
+    → spare ≡ label_in (op_of found)
 brought spare e found is h = h ∙ ap (λ k. label_in (op_of k)) is

@@ -1,5 +1,6 @@
 -- The parts of looks, and of what swaps set.
-use Rattle.std.proofs.Common.{◌≡◌, ℕ, ◌+◌, ◌<◌, ◌≤◌, ◌==◌, Bool, true, false, List, [], ◌∷◌, ◌++◌, length, Option, None, Some, refl, subst, sym, arith, lit<}
+use Rattle.std.proofs.Common.{◌≡◌, ℕ, ◌+◌, ◌<◌, ◌≤◌, ◌==◌, Bool, true, false, List, [], ◌∷◌, ◌++◌, length, Option, None}
+use Rattle.std.proofs.Common.{Some, refl, subst, sym, arith, lit<}
 use Rattle.std.specs.Prelude.{All}
 use Rattle.std.proofs.lemmas.Bool.{eqb-true}
 use Rattle.std.proofs.lemmas.List.Elements.{All-nil, All-cons, All-append}
@@ -58,8 +59,12 @@ whole_number (p ∷ ps) few = few
 pub parts_few : (l : Looks) (parts : List ℕ) → parts ≡ or_whole (look_parts l) → All IsPart parts
 parts_few l parts are =
     let few =
-    All-append IsPart _ _ (All-append IsPart _ _ (All-append IsPart _ _ (All-append IsPart _ _ (All-append IsPart _ _ (All-append IsPart _ _
-    (All-append IsPart _ _ (All-append IsPart _ _ (part_number l.stroke 3 (lit< tt)) (part_number l.fill 4 (lit< tt))) (part_number l.width 5 (lit< tt)))
-    (part_number l.dash 10 (lit< tt))) (part_number l.heads 11 (lit< tt))) (part_number l.round 12 (lit< tt))) (part_number l.opacity 13 (lit< tt)))
+    All-append IsPart _ _
+    (All-append IsPart _ _
+    (All-append IsPart _ _ (All-append IsPart _ _ (All-append IsPart _ _ (All-append IsPart _ _
+    (All-append IsPart _ _ (All-append IsPart _ _ (part_number l.stroke 3 (lit< tt)) (part_number l.fill 4 (lit< tt)))
+    (part_number l.width 5 (lit< tt)))
+    (part_number l.dash 10 (lit< tt))) (part_number l.heads 11 (lit< tt))) (part_number l.round 12 (lit< tt)))
+    (part_number l.opacity 13 (lit< tt)))
     (part_number l.letters 14 (lit< tt))) (part_number l.align 15 (lit< tt)) in
     subst (All IsPart) (sym are) (whole_number (look_parts l) few)

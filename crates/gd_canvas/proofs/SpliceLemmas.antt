@@ -1,5 +1,6 @@
 -- What two events find, the one in front of the other that covers it.
-use Rattle.std.proofs.Common.{◌≡◌, ◌≤◌, ℕ, not, Bool, true, false, cond, ◌&&◌, List, [], ◌∷◌, length, Option, None, Some, refl, sym, ap, subst, ◌∙◌, arith}
+use Rattle.std.proofs.Common.{◌≡◌, ◌≤◌, ℕ, not, Bool, true, false, cond, ◌&&◌, List, [], ◌∷◌, length, Option, None}
+use Rattle.std.proofs.Common.{Some, refl, sym, ap, subst, ◌∙◌, arith}
 use Rattle.std.specs.Prelude.{is_some, option_and_then, option_map, unwrap_or}
 use Rattle.gd_base.specs.Stamps.{Stamp, is_same}
 use Rattle.gd_base.proofs.StampLemmas.{is_same-true}
@@ -29,8 +30,10 @@ Pair = Before × Before
 -- ---- both set parts of one object
 
 -- the earlier one finds of its parts what the later one found, and what it sets the later one finds
-passed_on : (j id : Stamp) (new : Content) (is_found : Bool) (first second later : Swap) → old_of first ≡ part_within new (old_of later) → old_of second ≡ laid_over new (old_of later)
-    → ◌≡◌ {A = Pair} (of_found j (found_in is_found first), of_found id (found_in is_found second)) (splice_set j new (of_found id (found_in is_found later)))
+passed_on : (j id : Stamp) (new : Content) (is_found : Bool) (first second later : Swap)
+    → old_of first ≡ part_within new (old_of later) → old_of second ≡ laid_over new (old_of later)
+    → ◌≡◌ {A = Pair} (of_found j (found_in is_found first), of_found id (found_in is_found second))
+    (splice_set j new (of_found id (found_in is_found later)))
 passed_on j id new true first second later e g = λ i. (Some (Sets j (e i)), Some (Sets id (g i)))
 passed_on j id new false first second later e g = refl
 
@@ -38,7 +41,8 @@ passed_on j id new false first second later e g = refl
 
 -- a content finds what it would in the object that is deleted, and leaves its own there
 set_deleted : (id : Stamp) (c : Content) (x : Option Object)
-    → ◌≡◌ {A = Pair} (of_found id (old_in c x), of_taken id [] (option_map (set c) x)) (splice_by (Sets id c) (Takes id []) (of_taken id [] x))
+    → ◌≡◌ {A = Pair} (of_found id (old_in c x), of_taken id [] (option_map (set c) x))
+    (splice_by (Sets id c) (Takes id []) (of_taken id [] x))
 set_deleted id c None = refl
 set_deleted id c (Some o) = by (fits c o.kind)
   where
@@ -49,36 +53,46 @@ set_deleted id c (Some o) = by (fits c o.kind)
     by false = refl
 
 pub set_then_deleted : (id j : Stamp) (c : Content) (x : Option Object) → is_same id j ≡ true
-    → ◌≡◌ {A = Pair} (of_found j (old_in c x), of_taken id [] (option_map (set c) x)) (splice_by (Sets j c) (Takes id []) (of_taken id [] x))
+    → ◌≡◌ {A = Pair} (of_found j (old_in c x), of_taken id [] (option_map (set c) x))
+    (splice_by (Sets j c) (Takes id []) (of_taken id [] x))
 set_then_deleted id j c x same =
-    let P : Stamp → Type 0 = λ q. ◌≡◌ {A = Pair} (of_found q (old_in c x), of_taken id [] (option_map (set c) x)) (splice_by (Sets q c) (Takes id []) (of_taken id [] x)) in
+    let P : Stamp → Type 0
+    = λ q. ◌≡◌ {A = Pair} (of_found q (old_in c x), of_taken id [] (option_map (set c) x))
+    (splice_by (Sets q c) (Takes id []) (of_taken id [] x)) in
     subst P (is_same-true id j same) (set_deleted id c x)
 
 -- an object is made where none is found
 put_deleted : (id : Stamp) (o : Object) (ties : List Tie) (x : Option Object)
-    → ◌≡◌ {A = Pair} (of_made (not (is_some x)) id [], of_taken id [] (Some (unwrap_or x o))) (splice_by (Puts id o ties) (Takes id []) (of_taken id [] x))
+    → ◌≡◌ {A = Pair} (of_made (not (is_some x)) id [], of_taken id [] (Some (unwrap_or x o)))
+    (splice_by (Puts id o ties) (Takes id []) (of_taken id [] x))
 put_deleted id o ties None = refl
 put_deleted id o ties (Some p) = refl
 
 pub put_then_deleted : (id s : Stamp) (o : Object) (ties : List Tie) (x : Option Object) → is_same id s ≡ true
-    → ◌≡◌ {A = Pair} (of_made (not (is_some x)) s [], of_taken id [] (Some (unwrap_or x o))) (splice_by (Puts s o ties) (Takes id []) (of_taken id [] x))
+    → ◌≡◌ {A = Pair} (of_made (not (is_some x)) s [], of_taken id [] (Some (unwrap_or x o)))
+    (splice_by (Puts s o ties) (Takes id []) (of_taken id [] x))
 put_then_deleted id s o ties x same =
-    let P : Stamp → Type 0 = λ q. ◌≡◌ {A = Pair} (of_made (not (is_some x)) s [], of_taken q [] (Some (unwrap_or x o))) (splice_by (Puts s o ties) (Takes q []) (of_taken q [] x)) in
+    let P : Stamp → Type 0
+    = λ q. ◌≡◌ {A = Pair} (of_made (not (is_some x)) s [], of_taken q [] (Some (unwrap_or x o)))
+    (splice_by (Puts s o ties) (Takes q []) (of_taken q [] x)) in
     subst P (sym (is_same-true id s same)) (put_deleted s o ties x)
 
 -- the earlier one of two that take the object finds it
 pub deleted_twice : (id j : Stamp) (ties : List Tie) (x : Option Object) → is_same id j ≡ true
     → ◌≡◌ {A = Pair} (of_taken j [] x, None) (splice_by (Takes j ties) (Takes id []) (of_taken id [] x))
 deleted_twice id j ties x same =
-    let P : Stamp → Type 0 = λ q. ◌≡◌ {A = Pair} (of_taken j [] x, None) (splice_by (Takes j ties) (Takes q []) (of_taken q [] x)) in
+    let P : Stamp → Type 0
+    = λ q. ◌≡◌ {A = Pair} (of_taken j [] x, None) (splice_by (Takes j ties) (Takes q []) (of_taken q [] x)) in
     subst P (sym (is_same-true id j same)) refl
 
 -- what a delete covers is of its object
-pub same_object : (id s : Stamp) (o : Object) (ties : List Tie) → covers_by (Takes id []) (Puts s o ties) ≡ true → is_same id s ≡ true
+pub same_object : (id s : Stamp) (o : Object) (ties : List Tie) → covers_by (Takes id []) (Puts s o ties) ≡ true
+    → is_same id s ≡ true
 same_object id s o [] e = e
 same_object id s o (t ∷ ts) e = cc
 
-pub taken_object : (id s : Stamp) (ties : List Tie) → covers_by (Takes id []) (Takes s ties) ≡ true → is_same id s ≡ true
+pub taken_object : (id s : Stamp) (ties : List Tie) → covers_by (Takes id []) (Takes s ties) ≡ true
+    → is_same id s ≡ true
 taken_object id s [] e = e
 taken_object id s (t ∷ ts) e = cc
 
@@ -91,7 +105,8 @@ no_olds ties (o ∷ os) few none = absurd (omega (arith, few, ap length none))
 
 -- a kept event is spliced as what it was found to be
 pub spliced : (s t : Stamp) (e f found : Kept) → f ≡ found
-    → ◌≡◌ {A = Pair} (splice_by (form s (op_of e)) (form t (op_of found)) (before_of found)) (splice s (op_of e) t (op_of f) (before_of f))
+    → ◌≡◌ {A = Pair} (splice_by (form s (op_of e)) (form t (op_of found)) (before_of found))
+    (splice s (op_of e) t (op_of f) (before_of f))
 unfolding splice
 spliced s t e f found is = ap (λ k. splice_by (form s (op_of e)) (form t (op_of k)) (before_of k)) (sym is)
 
@@ -105,21 +120,26 @@ parts_cover id ps (Puts j o ts) e = e
 parts_cover id ps (Takes j ts) e = e
 
 -- what the earlier one sets, as its operation says it
-pub set_parts : (s : Stamp) (ps : List ℕ) (e : Kept) (was_found : Bool) (j : Stamp) (earlier : Swap) → e ≡ Set was_found j earlier → sets_parts ps (form s (op_of e)) ≡ true
+pub set_parts : (s : Stamp) (ps : List ℕ) (e : Kept) (was_found : Bool) (j : Stamp) (earlier : Swap)
+    → e ≡ Set was_found j earlier → sets_parts ps (form s (op_of e)) ≡ true
     → have_parts ps (parts_of (of_swap earlier)) ≡ true
 set_parts s ps e was_found j earlier is h =
     ap (have_parts ps) (sym (part_sets s earlier)) ∙ ap (λ k. sets_parts ps (form s (op_of k))) (sym is) ∙ h
 
 -- both set parts of one object
-pub set_spliced : (s id : Stamp) (c : Content) (e : Kept) (was_found is_found : Bool) (j : Stamp) (earlier first later second : Swap) → e ≡ Set was_found j earlier
-    → old_of first ≡ part_within (sets s earlier) (old_of later) → old_of second ≡ laid_over (sets s earlier) (old_of later)
-    → ◌≡◌ {A = Pair} (of_found j (found_in is_found first), of_found id (found_in is_found second)) (splice_by (form s (op_of e)) (Sets id c) (of_found id (found_in is_found later)))
+pub set_spliced : (s id : Stamp) (c : Content) (e : Kept) (was_found is_found : Bool) (j : Stamp)
+    (earlier first later second : Swap) → e ≡ Set was_found j earlier
+    → old_of first ≡ part_within (sets s earlier) (old_of later)
+    → old_of second ≡ laid_over (sets s earlier) (old_of later)
+    → ◌≡◌ {A = Pair} (of_found j (found_in is_found first), of_found id (found_in is_found second))
+    (splice_by (form s (op_of e)) (Sets id c) (of_found id (found_in is_found later)))
 set_spliced s id c e was_found is_found j earlier first later second is passed_first passed_second =
     passed_on j id (sets s earlier) is_found first second later passed_first passed_second
     ∙ ap (λ k. splice_by (form s (op_of k)) (Sets id c) (of_found id (found_in is_found later))) (sym is)
 
 -- the later one takes an object: that the earlier one puts
-pub put_spliced : (id j : Stamp) (g : Form) (o : Object) (ties : List Tie) (made : Bool) (x later : Option Object) → g ≡ Puts j o ties
+pub put_spliced : (id j : Stamp) (g : Form) (o : Object) (ties : List Tie) (made : Bool) (x later : Option Object)
+    → g ≡ Puts j o ties
     → covers_by (Takes id []) g ≡ true → made ≡ not (is_some x) → later ≡ Some (unwrap_or x o)
     → ◌≡◌ {A = Pair} (of_made made j [], of_taken id [] later) (splice_by g (Takes id []) (of_taken id [] x))
 put_spliced id j g o ties made x later is cov m l =
@@ -139,11 +159,13 @@ taken_spliced id j g ties x y later is cov m l =
     ∙ ap (λ f. splice_by f (Takes id []) (of_taken id [] x)) (sym is)
 
 -- that it sets parts of. What was found is kept, and the object has what is held
-pub set_taken : (s id : Stamp) (e : Kept) (is_found now : Bool) (j : Stamp) (swap after : Swap) (held : Content) (x : Option Content) (o later : Option Object)
+pub set_taken : (s id : Stamp) (e : Kept) (is_found now : Bool) (j : Stamp) (swap after : Swap) (held : Content)
+    (x : Option Content) (o later : Option Object)
     → e ≡ Set is_found j swap → covers_by (Takes id []) (form s (op_of e)) ≡ true
     → held ≡ sets s swap → x ≡ option_and_then (replaced_by held) o → found_in now after ≡ stored swap x
     → later ≡ option_map (set held) o
-    → ◌≡◌ {A = Pair} (of_found j (found_in now after), of_taken id [] later) (splice_by (form s (op_of e)) (Takes id []) (of_taken id [] o))
+    → ◌≡◌ {A = Pair} (of_found j (found_in now after), of_taken id [] later)
+    (splice_by (form s (op_of e)) (Takes id []) (of_taken id [] o))
 set_taken s id e is_found now j swap after held x o later is cov h found keeps l =
     let same : is_same id j ≡ true = ap (λ k. covers_by (Takes id []) (form s (op_of k))) (sym is) ∙ cov in
     let first : found_in now after ≡ old_in (sets s swap) o =

@@ -2,7 +2,8 @@
 use Rattle.std.proofs.Common.{◌≡◌, ℕ, Bool, true, false, cond, Option, None, Some, refl, sym, ap, subst, ◌∙◌}
 use Rattle.std.specs.Prelude.{◌||◌, is_some, unwrap_or}
 use Rattle.gd_base.specs.Contents.{content_map}
-use Rattle.gd_base.specs.Looks.{has_mark, instead, kept, laid, only_fill, only_stroke, only_width, put_over, taken, within}
+use Rattle.gd_base.specs.Looks.{has_mark, instead, kept, laid, only_fill, only_stroke, only_width, put_over, taken}
+use Rattle.gd_base.specs.Looks.{within}
 use Rattle.gd_base.specs.Stamps.{Stamp}
 use Rattle.gd_base.specs.declared.content.Content.TheVariants.{ToPlace, ToSize, ToLooks, ToText, ToFlag, ToEnds, ToRank}
 use Rattle.gd_base.specs.declared.look.Look.{Look}
@@ -36,8 +37,20 @@ or_rest true t e = cc
 or_rest false t e = e
 
 -- of looks without marks that set these lines
-lines : (l : Looks) (stroke : Option ℕ) (fill : Option (Option ℕ)) (width : Option ℕ) → has_mark l ≡ false → l.stroke ≡ stroke → l.fill ≡ fill → l.width ≡ width
-    → ◌≡◌ {A = Looks} (record { stroke = stroke; fill = fill; width = width; dash = None; heads = None; round = None; opacity = None; letters = None; align = None }) l
+lines : (l : Looks) (stroke : Option ℕ) (fill : Option (Option ℕ)) (width : Option ℕ) → has_mark l ≡ false
+    → l.stroke ≡ stroke → l.fill ≡ fill → l.width ≡ width
+    → ◌≡◌ {A = Looks} (record {
+      stroke = stroke;
+      fill = fill;
+      width = width;
+      dash = None;
+      heads = None;
+      round = None;
+      opacity = None;
+      letters
+          = None;
+      align = None;
+    }) l
 lines l stroke fill width none s f w =
     let heads = or_rest (is_some l.dash) _ none in
     let round = or_rest (is_some l.heads) _ heads in
@@ -55,13 +68,16 @@ lines l stroke fill width none s f w =
       align = none_by l.align (or_rest (is_some l.letters) _ letters) i;
     }
 
-pub lone_stroke : (l : Looks) (c : ℕ) → has_mark l ≡ false → l.stroke ≡ Some c → l.fill ≡ None → l.width ≡ None → only_stroke c ≡ l
+pub lone_stroke : (l : Looks) (c : ℕ) → has_mark l ≡ false → l.stroke ≡ Some c → l.fill ≡ None → l.width ≡ None
+    → only_stroke c ≡ l
 lone_stroke l c none s f w = lines l (Some c) None None none s f w
 
-pub lone_fill : (l : Looks) (c : Option ℕ) → has_mark l ≡ false → l.stroke ≡ None → l.fill ≡ Some c → l.width ≡ None → only_fill c ≡ l
+pub lone_fill : (l : Looks) (c : Option ℕ) → has_mark l ≡ false → l.stroke ≡ None → l.fill ≡ Some c → l.width ≡ None
+    → only_fill c ≡ l
 lone_fill l c none s f w = lines l None (Some c) None none s f w
 
-pub lone_width : (l : Looks) (n : ℕ) → has_mark l ≡ false → l.stroke ≡ None → l.fill ≡ None → l.width ≡ Some n → only_width n ≡ l
+pub lone_width : (l : Looks) (n : ℕ) → has_mark l ≡ false → l.stroke ≡ None → l.fill ≡ None → l.width ≡ Some n
+    → only_width n ≡ l
 lone_width l n none s f w = lines l None None (Some n) none s f w
 
 pub ruleset lone = (lone_stroke, lone_fill, lone_width)
@@ -76,7 +92,8 @@ not_there : {A : Type 0} (x : Option A) → (is_some x ≡ true → false ≡ tr
 not_there None h = refl
 not_there (Some a) h = let e = h refl in cc
 
-over_same : {A : Type 0} (x new : Option A) → (is_some x ≡ true → is_some new ≡ true) → (is_some new ≡ true → is_some x ≡ true) → put_over x new ≡ x
+over_same : {A : Type 0} (x new : Option A) → (is_some x ≡ true → is_some new ≡ true)
+    → (is_some new ≡ true → is_some x ≡ true) → put_over x new ≡ x
 over_same None None h k = refl
 over_same None (Some b) h k = let e = k refl in cc
 over_same (Some a) None h k = let e = h refl in cc
@@ -131,7 +148,8 @@ put_same (looks.Many pair) l h k =
     }
 
 -- so is any content of the parts that are set
-pub stored_same : (stamp : Stamp) (w : Swap) (v : Content) → IsOver (sets stamp w) v → IsOver v (sets stamp w) → stored_one w v ≡ Some v
+pub stored_same : (stamp : Stamp) (w : Swap) (v : Content) → IsOver (sets stamp w) v → IsOver v (sets stamp w)
+    → stored_one w v ≡ Some v
 stored_same stamp (swap.ToLooks w) (ToLooks l) h k = ap (λ m. Some (ToLooks m)) (put_same w l h k)
 stored_same stamp (swap.ToPlace new old) (ToPlace x y) h k = refl
 stored_same stamp (swap.ToSize new old) (ToSize x y) h k = refl
@@ -188,7 +206,8 @@ found_there (ToPlace x y) o = tt
 found_there c o = tt
 
 -- so what an operation finds is kept as it is
-pub stored_found : (stamp : Stamp) (w : Swap) (x : Option Object) → stored w (old_in (sets stamp w) x) ≡ old_in (sets stamp w) x
+pub stored_found : (stamp : Stamp) (w : Swap) (x : Option Object)
+    → stored w (old_in (sets stamp w) x) ≡ old_in (sets stamp w) x
 stored_found stamp w None = refl
 stored_found stamp w (Some o) = by (fits (sets stamp w) o.kind)
   where
@@ -206,7 +225,8 @@ over_from : {A : Type 0} (old new : Option A) → is_some (put_over old new) ≡
 over_from old None e = e
 over_from old (Some x) e = refl
 
-within_there : {A : Type 0} (c old : Option A) → (is_some c ≡ true → is_some old ≡ true) → is_some c ≡ true → is_some (kept c old) ≡ true
+within_there : {A : Type 0} (c old : Option A) → (is_some c ≡ true → is_some old ≡ true) → is_some c ≡ true
+    → is_some (kept c old) ≡ true
 within_there None old h e = e
 within_there (Some x) old h e = h refl
 
@@ -346,7 +366,8 @@ laid_own c d found k = record {
 
 within_alike : (t : Stamp) (later : Swap) (c : Content) → IsOver (sets t later) c
     → IsOver c (part_within c (old_of later)) × IsOver (part_within c (old_of later)) c
-within_alike t (swap.ToLooks w) (ToLooks c) h = (within_own c (old_looks w), within_parts c (new_looks w) (old_looks w) h (old_there w))
+within_alike t (swap.ToLooks w) (ToLooks c) h
+    = (within_own c (old_looks w), within_parts c (new_looks w) (old_looks w) h (old_there w))
 within_alike t (swap.ToPlace new old) (ToPlace x y) h = (tt, tt)
 within_alike t (swap.ToSize new old) (ToSize x y) h = (tt, tt)
 within_alike t (swap.ToText texts) (ToText label) h = (tt, tt)
@@ -357,7 +378,8 @@ within_alike t later c h = elim h [ ]
 
 laid_alike : (t : Stamp) (later : Swap) (c : Content) → IsOver (sets t later) c
     → IsOver (sets t later) (laid_over c (old_of later)) × IsOver (laid_over c (old_of later)) (sets t later)
-laid_alike t (swap.ToLooks w) (ToLooks c) h = (laid_own c (new_looks w) (old_looks w) (old_from w), laid_parts c (new_looks w) (old_looks w) (old_there w))
+laid_alike t (swap.ToLooks w) (ToLooks c) h
+    = (laid_own c (new_looks w) (old_looks w) (old_from w), laid_parts c (new_looks w) (old_looks w) (old_there w))
 laid_alike t (swap.ToPlace new old) (ToPlace x y) h = (tt, tt)
 laid_alike t (swap.ToSize new old) (ToSize x y) h = (tt, tt)
 laid_alike t (swap.ToText texts) (ToText label) h = (tt, tt)
@@ -368,14 +390,16 @@ laid_alike t later c h = elim h [ ]
 
 -- ---- the parts at a stamp are those that the operation says
 
-parts_map : (stamp : Stamp) (c : Done) → parts_of (content_map (λ label. label) (λ looks. looks) (rank_at stamp) c) ≡ parts_of c
+parts_map : (stamp : Stamp) (c : Done)
+    → parts_of (content_map (λ label. label) (λ looks. looks) (rank_at stamp) c) ≡ parts_of c
 parts_map stamp (ToPlace x y) = refl
 parts_map stamp c = refl
 
 pub part_sets : (stamp : Stamp) (w : Swap) → parts_of (sets stamp w) ≡ parts_of (of_swap w)
 part_sets stamp w = parts_map stamp (of_swap w)
 
-over_parts : (s : Stamp) (earlier later : Swap) → have_parts (parts_of (of_swap later)) (parts_of (of_swap earlier)) ≡ true → IsOver (sets s later) (sets s earlier)
+over_parts : (s : Stamp) (earlier later : Swap)
+    → have_parts (parts_of (of_swap later)) (parts_of (of_swap earlier)) ≡ true → IsOver (sets s later) (sets s earlier)
 over_parts s earlier later h =
     is_over (sets s later) (sets s earlier)
     ((λ i. have_parts (part_sets s later i) (part_sets s earlier i)) ∙ h)
@@ -386,8 +410,10 @@ found_some false w v e = cc
 found_some true w v e = cc
 
 -- the earlier one keeps what it is given of what the later one found
-pub first_passed : (s : Stamp) (earlier later now : Swap) (r : Bool) (v : Content) → have_parts (parts_of (of_swap later)) (parts_of (of_swap earlier)) ≡ true
-    → v ≡ part_within (sets s earlier) (old_of later) → found_in r now ≡ stored_one earlier v → old_of now ≡ part_within (sets s earlier) (old_of later)
+pub first_passed : (s : Stamp) (earlier later now : Swap) (r : Bool) (v : Content)
+    → have_parts (parts_of (of_swap later)) (parts_of (of_swap earlier)) ≡ true
+    → v ≡ part_within (sets s earlier) (old_of later) → found_in r now ≡ stored_one earlier v
+    → old_of now ≡ part_within (sets s earlier) (old_of later)
 first_passed s earlier later now r v h is keeps =
     let c = sets s earlier in
     let both = within_alike s later c (over_parts s earlier later h) in
@@ -395,8 +421,10 @@ first_passed s earlier later now r v h is keeps =
     (keeps ∙ ap (stored_one earlier) is ∙ stored_same s earlier (part_within c (old_of later)) both.0 both.1)
 
 -- and the later one that over which it was put. Its old value was moved out before
-pub second_passed : (s : Stamp) (earlier later moved now : Swap) (r : Bool) (v : Content) → have_parts (parts_of (of_swap later)) (parts_of (of_swap earlier)) ≡ true
-    → of_swap moved ≡ of_swap later → v ≡ laid_over (sets s earlier) (old_of later) → found_in r now ≡ stored_one moved v
+pub second_passed : (s : Stamp) (earlier later moved now : Swap) (r : Bool) (v : Content)
+    → have_parts (parts_of (of_swap later)) (parts_of (of_swap earlier)) ≡ true
+    → of_swap moved ≡ of_swap later → v ≡ laid_over (sets s earlier) (old_of later)
+    → found_in r now ≡ stored_one moved v
     → old_of now ≡ laid_over (sets s earlier) (old_of later)
 second_passed s earlier later moved now r v h same is keeps =
     let c = sets s earlier in

@@ -1,5 +1,7 @@
 -- Touches of an operation one by one, tests of all of them, and what a form covers.
-use Rattle.std.proofs.Common.{◌≡◌, ℕ, ◌+◌, ◌-◌, ◌<◌, ◌≤◌, ◌==◌, Bool, true, false, ◌&&◌, List, [], ◌∷◌, ◌++◌, map, drop, length, get_or, suc, zero, Some, refl, sym, ap, subst, ◌∙◌, append-nil, length-append, arith}
+use Rattle.std.proofs.Common.{◌≡◌, ℕ, ◌+◌, ◌-◌, ◌<◌, ◌≤◌, ◌==◌, Bool, true, false, ◌&&◌, List, [], ◌∷◌, ◌++◌, map, drop}
+use Rattle.std.proofs.Common.{length, get_or, suc, zero, Some, refl, sym, ap, subst, ◌∙◌, append-nil, length-append}
+use Rattle.std.proofs.Common.{arith}
 use Rattle.std.specs.Prelude.{option_map, slice_get, unwrap_or}
 use Rattle.std.specs.List.{list_all}
 use Rattle.std.proofs.lemmas.Bool.{eqb-true}
@@ -33,10 +35,13 @@ by_form (Puts id o ties) = refl
 by_form (Takes id ties) = refl
 
 -- an operation touches its own parts and the links that it ties
-pub touches-parts : (stamp : Stamp) (op : Op) → touches stamp op ≡ own_touches (object_of (form stamp op)) (own_parts (form stamp op)) ++ map link_touch (ties_of (form stamp op))
+pub touches-parts : (stamp : Stamp) (op : Op)
+    → touches stamp op ≡ own_touches (object_of (form stamp op)) (own_parts (form stamp op))
+    ++ map link_touch (ties_of (form stamp op))
 touches-parts stamp op = by_form (form stamp op)
 
-pub touch_count : (stamp : Stamp) (op : Op) → length (touches stamp op) ≡ length (own_parts (form stamp op)) + length (ties_of (form stamp op))
+pub touch_count : (stamp : Stamp) (op : Op)
+    → length (touches stamp op) ≡ length (own_parts (form stamp op)) + length (ties_of (form stamp op))
 touch_count stamp op =
     let f = form stamp op in
     omega (
@@ -47,23 +52,27 @@ touch_count stamp op =
       length-map (ties_of f) link_touch,
     )
 
-own_at : (i : Stamp) (ps : List ℕ) (us : List Touch) (place : ℕ) → place < length ps → slice_get (own_touches i ps ++ us) place ≡ Some (i, get_or ps place 0)
+own_at : (i : Stamp) (ps : List ℕ) (us : List Touch) (place : ℕ) → place < length ps
+    → slice_get (own_touches i ps ++ us) place ≡ Some (i, get_or ps place 0)
 own_at i [] us place inside = absurd (omega (arith, inside))
 own_at i (p ∷ ps) us zero inside = refl
 own_at i (p ∷ ps) us (suc k) inside = own_at i ps us k (omega (arith, inside))
 
-link_at : (ts : List Tie) (j : ℕ) → slice_get (map link_touch ts) j ≡ option_map (λ (id : Stamp). (id, LINK)) (id_at ts j)
+link_at : (ts : List Tie) (j : ℕ)
+    → slice_get (map link_touch ts) j ≡ option_map (λ (id : Stamp). (id, LINK)) (id_at ts j)
 link_at [] j = refl
 link_at (t ∷ ts) zero = refl
 link_at (t ∷ ts) (suc j) = link_at ts j
 
-behind_own : (i : Stamp) (ps : List ℕ) (us : List Touch) (place n : ℕ) → length ps + n ≡ place → slice_get (own_touches i ps ++ us) place ≡ slice_get us n
+behind_own : (i : Stamp) (ps : List ℕ) (us : List Touch) (place n : ℕ) → length ps + n ≡ place
+    → slice_get (own_touches i ps ++ us) place ≡ slice_get us n
 behind_own i [] us place n at = let same : place ≡ n = omega (arith, at) in ap (slice_get us) same
 behind_own i (p ∷ ps) us zero n at = absurd (omega (arith, at))
 behind_own i (p ∷ ps) us (suc k) n at = behind_own i ps us k n (omega (arith, at))
 
 -- one of its own parts
-pub first_at : (stamp : Stamp) (op : Op) (parts : List ℕ) (place : ℕ) → parts ≡ own_parts (form stamp op) → place < length parts
+pub first_at : (stamp : Stamp) (op : Op) (parts : List ℕ) (place : ℕ) → parts ≡ own_parts (form stamp op)
+    → place < length parts
     → Some (object_of (form stamp op), get_or parts place 0) ≡ slice_get (touches stamp op) place
 first_at stamp op parts place are inside =
     let f = form stamp op in
@@ -73,8 +82,10 @@ first_at stamp op parts place are inside =
     ∙ ap (λ us. slice_get us place) (sym (touches-parts stamp op))
 
 -- or a link behind those
-pub later_at : (stamp : Stamp) (op : Op) (parts : List ℕ) (place : ℕ) → parts ≡ own_parts (form stamp op) → length parts ≤ place
-    → slice_get (touches stamp op) place ≡ option_map (λ (id : Stamp). (id, LINK)) (tied_at stamp op (place - length parts))
+pub later_at : (stamp : Stamp) (op : Op) (parts : List ℕ) (place : ℕ) → parts ≡ own_parts (form stamp op)
+    → length parts ≤ place
+    → slice_get (touches stamp op) place
+    ≡ option_map (λ (id : Stamp). (id, LINK)) (tied_at stamp op (place - length parts))
 later_at stamp op parts place are past =
     let f = form stamp op in
     let n = place - length parts in
@@ -85,14 +96,16 @@ later_at stamp op parts place are past =
 
 -- ---- tests of all
 
-test_of : {X : Type 0} (p : X → Bool) (xs : List X) (k : ℕ) → list_all p (drop k xs) ≡ (unwrap_or (option_map p (slice_get xs k)) true && list_all p (drop (suc k) xs))
+test_of : {X : Type 0} (p : X → Bool) (xs : List X) (k : ℕ)
+    → list_all p (drop k xs) ≡ (unwrap_or (option_map p (slice_get xs k)) true && list_all p (drop (suc k) xs))
 test_of p [] zero = refl
 test_of p [] (suc k) = refl
 test_of p (x ∷ xs) zero = refl
 test_of p (x ∷ xs) (suc k) = test_of p xs k
 
 -- one more passes, and the rest is left
-pub passed : {X : Type 0} (p : X → Bool) (xs : List X) (k : ℕ) (r : Bool) → r ≡ unwrap_or (option_map p (slice_get xs k)) true → r ≡ true
+pub passed : {X : Type 0} (p : X → Bool) (xs : List X) (k : ℕ) (r : Bool)
+    → r ≡ unwrap_or (option_map p (slice_get xs k)) true → r ≡ true
     → list_all p (drop k xs) ≡ list_all p xs → list_all p (drop (k + 1) xs) ≡ list_all p xs
 passed p xs k r is holds rest =
     let next : k + 1 ≡ suc k = omega arith in
@@ -101,9 +114,11 @@ passed p xs k r is holds rest =
     ∙ sym (test_of p xs k) ∙ rest
 
 -- one doesn't pass
-pub failed : {X : Type 0} (p : X → Bool) (xs : List X) (k : ℕ) (r : Bool) → r ≡ unwrap_or (option_map p (slice_get xs k)) true → r ≡ false
+pub failed : {X : Type 0} (p : X → Bool) (xs : List X) (k : ℕ) (r : Bool)
+    → r ≡ unwrap_or (option_map p (slice_get xs k)) true → r ≡ false
     → list_all p (drop k xs) ≡ list_all p xs → false ≡ list_all p xs
-failed p xs k r is fails rest = ap (λ b. b && list_all p (drop (suc k) xs)) (sym fails ∙ is) ∙ sym (test_of p xs k) ∙ rest
+failed p xs k r is fails rest = ap (λ b. b && list_all p (drop (suc k) xs)) (sym fails ∙ is) ∙ sym (test_of p xs k)
+    ∙ rest
 
 none_left : {X : Type 0} (p : X → Bool) (xs : List X) (k : ℕ) → length xs ≤ k → true ≡ list_all p (drop k xs)
 none_left p [] zero past = refl
@@ -112,7 +127,8 @@ none_left p (x ∷ xs) zero past = absurd (omega (arith, past))
 none_left p (x ∷ xs) (suc k) past = none_left p xs k (omega (arith, past))
 
 -- all have passed
-pub ended : {X : Type 0} (p : X → Bool) (xs : List X) (k : ℕ) → length xs ≤ k → list_all p (drop k xs) ≡ list_all p xs → true ≡ list_all p xs
+pub ended : {X : Type 0} (p : X → Bool) (xs : List X) (k : ℕ) → length xs ≤ k → list_all p (drop k xs) ≡ list_all p xs
+    → true ≡ list_all p xs
 ended p xs k past rest = none_left p xs k past ∙ rest
 
 -- ---- what a form covers
@@ -141,10 +157,12 @@ said_covers s t e f is_found id swap is =
     ap (λ ps. is_set_by id ps (form s (op_of e))) (sym (part_sets t swap)) ∙ set_covers s t e f is_found id swap is
 
 -- what sets none but those parts of that object
-pub set_same : (s i j : Stamp) (ps : List ℕ) (e : Kept) (is_found : Bool) (swap : Swap) (r : Bool) → e ≡ Set is_found j swap
+pub set_same : (s i j : Stamp) (ps : List ℕ) (e : Kept) (is_found : Bool) (swap : Swap) (r : Bool)
+    → e ≡ Set is_found j swap
     → is_same i j ≡ true → r ≡ have_parts ps (parts_of (sets s swap)) → r ≡ is_set_by i ps (form s (op_of e))
 set_same s i j ps e is_found swap r is same h =
-    h ∙ ap (λ b. b && have_parts ps (parts_of (sets s swap))) (sym same) ∙ ap (λ k. is_set_by i ps (form s (op_of k))) (sym is)
+    h ∙ ap (λ b. b && have_parts ps (parts_of (sets s swap))) (sym same)
+    ∙ ap (λ k. is_set_by i ps (form s (op_of k))) (sym is)
 
 some_by : (n : ℕ) (b : Bool) → (suc n == 0) ≡ b → false ≡ (suc n == 0)
 some_by n true e = absurd (omega (arith, eqb-true (suc n) 0 e))

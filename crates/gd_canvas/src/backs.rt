@@ -1,5 +1,6 @@
 //! What takes operations back over a drawing.
-ghost use Rattle.std.specs.Prelude.{◌≡◌, ◌≤◌, ◌<◌, ◌+◌, ◌++◌, List, length, option_copied, pos, unwrap_or, if◌then◌else◌};
+ghost use Rattle.std.specs.Prelude.{◌≡◌, ◌≤◌, ◌<◌, ◌+◌, ◌++◌, List, length, option_copied, pos, unwrap_or};
+ghost use Rattle.std.specs.Prelude.{if◌then◌else◌};
 ghost use Rattle.std.specs.FinMap as map_of;
 ghost use Rattle.gd_base.specs.Contents.{content_map};
 ghost use Rattle.gd_base.specs.declared.content.Height.TheVariants.{At};
@@ -84,7 +85,8 @@ impl Canvas {
     /// What takes back that an object is put: it is taken away, or put again where one is there.
     fn back_of_put(&self, id: Stamp, object: Object, ties: Ties) -> Op
         ensures { result ≡ op_of (unwrap_or
-            (before_by (Puts id object ties) (map_of.get (board_of self.now))) (Puts id object ties)) }
+            (before_by (Puts id object ties) (map_of.get (board_of self.now)))
+            (Puts id object ties)) }
     {
         if self.get(id).is_some() {
             Op::Restore { id, object, ties }

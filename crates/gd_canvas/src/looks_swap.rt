@@ -16,7 +16,8 @@ pub struct LooksPair {
     pub old: Looks,
 }
 
-/// New looks, and room for the old ones of the same parts. A lone stroke, fill or width, as most are, takes no memory of its own.
+/// New looks, and room for the old ones of the same parts. A lone stroke, fill or width, as most are, takes no memory
+/// of its own.
 #[derive(Drop)]
 pub enum LooksSwap {
     Width { new: u8, old: u8 },

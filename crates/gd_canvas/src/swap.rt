@@ -1,7 +1,8 @@
 //! The content that an operation sets, with room for the old one beside it.
 ghost use Rattle.std.specs.Prelude.{◌≡◌, ◌<◌, IfOk, IsTrue, length};
 ghost use Rattle.gd_base.specs.Stamps.{Stamp as StampValue};
-ghost use Rattle.gd_base.specs.declared.content.Content.TheVariants.{ToPlace, ToSize, ToLooks, ToText, ToFlag, ToEnds, ToRank};
+ghost use Rattle.gd_base.specs.declared.content.Content.TheVariants.{ToPlace, ToSize, ToLooks, ToText, ToFlag, ToEnds};
+ghost use Rattle.gd_base.specs.declared.content.Content.TheVariants.{ToRank};
 ghost use Rattle.gd_model.specs.Forms.{rank_at};
 ghost use Rattle.gd_model.specs.Objects.{have_parts, laid_over, part_within, parts_of};
 ghost use Rattle.gd_canvas.specs.Swaps.{found_in, of_swap, old_of, sets, stored, stored_one, text_in};
@@ -35,7 +36,8 @@ pub struct Two {
     pub y: i32,
 }
 
-/// What an operation sets, with room for what it finds there. It has 32 bytes at most, and what is greater lies in a box.
+/// What an operation sets, with room for what it finds there. It has 32 bytes at most, and what is greater lies in a
+/// box.
 #[derive(Drop)]
 pub enum Swap {
     ToFlag { new: bool, old: bool },
@@ -58,7 +60,8 @@ impl Default for Swap {
 }
 
 impl Swap {
-    /// The content with room for what it will find. What lies in memory of its own is moved, or made. `AllocError` where that ran out.
+    /// The content with room for what it will find. What lies in memory of its own is moved, or made. `AllocError`
+    /// where that ran out.
     pub fn new(
         alloc: Global,
         content: Content<Text, PackedLooks, Height>,
@@ -369,11 +372,12 @@ pub fn rank_at(stamp: Stamp, height: Height) -> Rank
     }
 }
 
-/// What the earlier event finds now is what the later one found of its parts, and the later one finds what the earlier one, with
-/// its handle, leaves. It has the parts of the earlier one.
+/// What the earlier event finds now is what the later one found of its parts, and the later one finds what the earlier
+/// one, with its handle, leaves. It has the parts of the earlier one.
 pub fn pass_on(s: Stamp, earlier: &mut Swap, spare: Text, later: &mut Swap)
     requires spare { spare ≡ text_in (of_swap earlier.old) }
-    requires parts { IsTrue (have_parts (parts_of (of_swap later.old)) (parts_of (of_swap earlier.old))) }
+    requires parts { IsTrue
+        (have_parts (parts_of (of_swap later.old)) (parts_of (of_swap earlier.old))) }
     ensures first { old_of earlier.new ≡ part_within (sets s earlier.old) (old_of later.old) }
     ensures second { old_of later.new ≡ laid_over (sets s earlier.old) (old_of later.old) }
     ensures first_op { of_swap earlier.new ≡ of_swap earlier.old }

@@ -1,5 +1,6 @@
 -- The history of a site with its entries undone is the drawing of what the site holds up to its line.
-use Rattle.std.proofs.Common.{◌≡◌, ℕ, ◌≤◌, Bool, true, false, cond, List, [], ◌∷◌, ◌++◌, filter, refl, ap, ◌∙◌, nat_le, arith}
+use Rattle.std.proofs.Common.{◌≡◌, ℕ, ◌≤◌, Bool, true, false, cond, List, [], ◌∷◌, ◌++◌, filter, refl, ap, ◌∙◌, nat_le}
+use Rattle.std.proofs.Common.{arith}
 use Rattle.std.specs.FinMap as map_of
 use Rattle.gd_base.specs.Stamps.{Stamp, is_before, is_same}
 use Rattle.gd_base.proofs.StampLemmas.{is_same-true}
@@ -43,22 +44,31 @@ by_clock (e ∷ es) h = (none_lower e es h.0, by_clock es h.1)
 -- ---- the base
 
 -- the fold of the events up to a clock
-after_upto : (n : ℕ) (es : List Event) (b : Board) → after drawing_rules (events_upto n (all_drawn es)) b ≡ apply_all (filter (λ e. nat_le e.stamp.clock n) es) b
+after_upto : (n : ℕ) (es : List Event) (b : Board)
+    → after drawing_rules (events_upto n (all_drawn es)) b ≡ apply_all (filter (λ e. nat_le e.stamp.clock n) es) b
 after_upto n [] b = refl
 after_upto n (e ∷ es) b = go (nat_le e.stamp.clock n) (λ c. after_upto n es c)
   where
-    go : (t : Bool) → ((c : Board) → after drawing_rules (events_upto n (all_drawn es)) c ≡ apply_all (filter (λ f. nat_le f.stamp.clock n) es) c)
-        → after drawing_rules (cond t (all_drawn (e ∷ []) ++ events_upto n (all_drawn es)) (events_upto n (all_drawn es))) b ≡ apply_all (cond t (e ∷ filter (λ f. nat_le f.stamp.clock n) es) (filter (λ f. nat_le f.stamp.clock n) es)) b
+    go : (t : Bool) → ((c : Board)
+        → after drawing_rules (events_upto n (all_drawn es)) c ≡ apply_all (filter (λ f. nat_le f.stamp.clock n) es) c)
+        → after drawing_rules
+        (cond t (all_drawn (e ∷ []) ++ events_upto n (all_drawn es)) (events_upto n (all_drawn es))) b
+        ≡ apply_all (cond t (e ∷ filter (λ f. nat_le f.stamp.clock n) es) (filter (λ f. nat_le f.stamp.clock n) es))
+        b
     go true rest = rest (drawing_rules.apply (drawn e) b)
     go false rest = rest b
 
-pub base_is : (slow : SlowSite) (s : SiteValue) → StandsFor slow s → histories.base_of drawing_rules board_of s.history ≡ base_of slow
+pub base_is : (slow : SlowSite) (s : SiteValue) → StandsFor slow s
+    → histories.base_of drawing_rules board_of s.history ≡ base_of slow
 base_is slow s stands =
-    Holds-base drawing_rules board_of map_of.empty (all_drawn (ordered slow.held)) (by_clock (ordered slow.held) (InOrder-ordered slow.held)) (line slow) s.history stands.history drawing_laws
+    Holds-base drawing_rules board_of map_of.empty (all_drawn (ordered slow.held))
+    (by_clock (ordered slow.held) (InOrder-ordered slow.held)) (line slow) s.history stands.history drawing_laws
     ∙ after_upto (line slow) (ordered slow.held) map_of.empty
 
 -- so are its objects, once they are undone in a copy of the drawing
-pub objects_are : (slow : SlowSite) (s : SiteValue) → StandsFor slow s → (h : History) → h ≡ s.history → (base : Board) → base ≡ histories.base_of drawing_rules board_of h
+pub objects_are : (slow : SlowSite) (s : SiteValue) → StandsFor slow s → (h : History) → h ≡ s.history → (base : Board)
+    → base ≡ histories.base_of drawing_rules board_of h
     → (objects : List Placed) → objects ≡ map_of.entries base → objects ≡ map_of.entries (base_of slow)
 objects_are slow s stands h same base undone objects lists =
-    lists ∙ ap map_of.entries (undone ∙ ap (λ (x : History). histories.base_of drawing_rules board_of x) same ∙ base_is slow s stands)
+    lists ∙ ap map_of.entries
+    (undone ∙ ap (λ (x : History). histories.base_of drawing_rules board_of x) same ∙ base_is slow s stands)

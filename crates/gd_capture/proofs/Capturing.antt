@@ -27,7 +27,8 @@ module _ (slow : SlowSite) (s : SiteValue) (stands : StandsFor slow s) where
   entries_count = sym (length-map s.history.entries _) ∙ ap length entries_kept ∙ length-map (kept slow) drawn
 
   pub entries_ops : AllOf (λ e. IsOp e.stamp e.op) (events_of s.history.entries)
-  entries_ops = AllOf-entries slow s stands (λ e. IsOp e.stamp e.op) (Every-weaker IsSound _ (λ (e : Event) sound. sound.op) slow.held stands.well.sound)
+  entries_ops = AllOf-entries slow s stands (λ e. IsOp e.stamp e.op)
+      (Every-weaker IsSound _ (λ (e : Event) sound. sound.op) slow.held stands.well.sound)
 
 -- a fact that holds in any case holds after an error
 pub on_err : {A E P : Type 0} (r : Result A E) → P → OnErr r P
@@ -35,7 +36,8 @@ on_err (Ok x) h = tt
 on_err (Err e) h = h
 
 -- each part is that of the reference site's snapshot
-pub record AreParts (slow : SlowSite) (session site : ℕ) (known : List Known) (objects : List Placed) (events : List Event) : Type 0 where
+pub record AreParts (slow : SlowSite) (session site : ℕ) (known : List Known) (objects : List Placed)
+    (events : List Event) : Type 0 where
   pub session_is : session ≡ slow.session
   pub site_is : site ≡ slow.me
   pub known_is : known ≡ known_behind slow 0 slow.sites
@@ -43,9 +45,18 @@ pub record AreParts (slow : SlowSite) (session site : ℕ) (known : List Known) 
   pub events_are : events ≡ kept slow
 
 abbrev pub of_parts : ℕ → ℕ → List Known → List Placed → List Event → Snapshot
-of_parts session site known objects events = record { session = session; site = site; known = known; objects = objects; kept = events }
+of_parts session site known objects events
+    = record { session = session; site = site; known = known; objects = objects; kept = events }
 
-pub captured : (slow : SlowSite) (session site : ℕ) (known : List Known) (objects : List Placed) (events : List Event) → AreParts slow session site known objects events → of_parts session site known objects events ≡ snapshot_of slow
+pub captured : (slow : SlowSite) (session site : ℕ) (known : List Known) (objects : List Placed) (events : List Event)
+    → AreParts slow session site known objects events → of_parts session site known objects events ≡ snapshot_of slow
 unfolding snapshot_of
 captured slow session site known objects events h =
-    λ i. record { session = h.session_is i; site = h.site_is i; known = h.known_is i; objects = h.objects_are i; kept = h.events_are i }
+    λ i. record {
+      session = h.session_is i;
+      site = h.site_is i;
+      known = h.known_is i;
+      objects = h.objects_are i;
+      kept
+          = h.events_are i;
+    }

@@ -18,7 +18,8 @@ pub undone_none : (xs : List (EntryValue Op Before)) (b : Board) → undone_to x
 undone_none xs b = ap (λ (l : List (EntryValue Op Before)). unwound drawing_rules (all_held l) b) (drop-length xs)
 
 -- one entry more
-pub undone_more : (xs : List (EntryValue Op Before)) (i : ℕ) (x : EntryValue Op Before) (start now new : Board) → i < length xs → x ≡ get_or xs i x → now ≡ undone_to xs (i + 1) start
+pub undone_more : (xs : List (EntryValue Op Before)) (i : ℕ) (x : EntryValue Op Before) (start now new : Board)
+    → i < length xs → x ≡ get_or xs i x → now ≡ undone_to xs (i + 1) start
     → new ≡ drawing_rules.undo (event_of x) x.before now → new ≡ undone_to xs i start
 undone_more xs i x start now new inside read was step =
     step ∙ ap (drawing_rules.undo (event_of x) x.before) was

@@ -1,5 +1,5 @@
--- The numbers of kept events. Those of a site are the last ones that are held of it, so each is numbered one above the one of
--- its site that comes before it.
+-- The numbers of kept events. Those of a site are the last ones that are held of it, so each is numbered one above the
+-- one of its site that comes before it.
 use Rattle.std.specs.Prelude.{◌≡◌, ℕ, ◌+◌, ◌==◌, if◌then◌else◌, List, [], ◌∷◌, length}
 use Rattle.gd_base.specs.Sites.{IsSite}
 use Rattle.gd_base.specs.declared.ranges.TheConstants.{SITES}

@@ -15,8 +15,8 @@ use gd_repair::Document;
 use std::alloc::{AllocError, Global};
 use std::sync::ledger::Ledger;
 
-/// A copy of the history's drawing with all its entries undone, one step each. `AllocError` where memory ran out; some of the
-/// steps were then taken.
+/// A copy of the history's drawing with all its entries undone, one step each. `AllocError` where memory ran out; some
+/// of the steps were then taken.
 pub(crate) fn base_of<L: Ledger>(
     alloc: Global,
     history: &History<Canvas>,
@@ -34,8 +34,8 @@ pub(crate) fn base_of<L: Ledger>(
     Ok(canvas)
 }
 
-/// Undoes the entries in the canvas from the last one to the first. `AllocError` where memory ran out; some of them were then
-/// undone.
+/// Undoes the entries in the canvas from the last one to the first. `AllocError` where memory ran out; some of them
+/// were then undone.
 fn undo_all<L: Ledger>(
     alloc: Global,
     canvas: &mut Canvas,

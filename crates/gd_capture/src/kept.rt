@@ -16,8 +16,8 @@ use gd_history::EntryList;
 use gd_site::Site;
 use std::alloc::{AllocError, Global};
 
-/// The held events above the line. Those of a site are the last ones that are held of it: what is held of it without them has
-/// the numbers below theirs. `AllocError` where memory ran out.
+/// The held events above the line. Those of a site are the last ones that are held of it: what is held of it without
+/// them has the numbers below theirs. `AllocError` where memory ran out.
 pub(crate) fn kept_of(alloc: Global, site: &Site) -> Result<EventList, AllocError>
     ensures { (slow : SlowSite) → StandsFor slow site.now
         → IfOk result (λ events. events ≡ kept slow) }

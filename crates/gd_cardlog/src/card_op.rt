@@ -15,7 +15,8 @@ use gd_wire::Bytes;
 /// How many bytes a title has at most.
 const MOST_TITLE: u8 = 200;
 
-/// The operation of the event with that stamp. `Field` at the tag where no operation has it, else the first fault of its fields.
+/// The operation of the event with that stamp. `Field` at the tag where no operation has it, else the first fault of
+/// its fields.
 #[tactic(auto, unfolding(gd_cards::specs::CardBytes::card_op_at, gd_cards::specs::CardBytes::change_at, gd_cards::specs::CardBytes::byte_if, gd_grammar::specs::Readers::steps))]
 pub fn card_op<'a>(
     bytes: &mut Bytes<'a>,

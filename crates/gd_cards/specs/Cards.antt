@@ -1,5 +1,7 @@
--- Cards, their parts, and what changes them. 0 stands for the whole of a card, 1 for its title, and each mark has its part.
-use Rattle.std.specs.Prelude.{ℕ, ◌+◌, ◌-◌, ◌^◌, ◌%◌, Bool, not, ◌&&◌, nat_le, nat_lt, if◌then◌else◌, List, Option, None, Some}
+-- Cards, their parts, and what changes them. 0 stands for the whole of a card, 1 for its title, and each mark has its
+-- part.
+use Rattle.std.specs.Prelude.{ℕ, ◌+◌, ◌-◌, ◌^◌, ◌%◌, Bool, not, ◌&&◌, nat_le, nat_lt, if◌then◌else◌, List, Option, None}
+use Rattle.std.specs.Prelude.{Some}
 use Rattle.gd_cards.specs.declared.card.Card.{Card}
 use Rattle.gd_cards.specs.declared.mark.Mark.{Mark}
 use Rattle.gd_cards.specs.declared.mark.Mark.TheVariants.{Column, Vote}

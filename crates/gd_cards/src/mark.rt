@@ -8,7 +8,8 @@ pub const COLUMNS: u8 = 16;
 /// The numbers of the parts of a card are below this. 0 stands for the whole card, and 1 for its title.
 pub const PARTS: u8 = 4;
 
-/// A new value for a part of a card that isn't its title. In a sound event columns are from 1 to `COLUMNS`, and a vote comes.
+/// A new value for a part of a card that isn't its title. In a sound event columns are from 1 to `COLUMNS`, and a vote
+/// comes.
 #[derive(Clone, Copy, Debug)]
 pub enum Mark {
     Column(u8),
@@ -17,8 +18,8 @@ pub enum Mark {
 }
 
 impl Mark {
-    /// The number of its part, and the byte of its value, where it has one. The tag of an operation that puts the mark is one
-    /// more than the former.
+    /// The number of its part, and the byte of its value, where it has one. The tag of an operation that puts the mark
+    /// is one more than the former.
     pub fn code(self) -> (u8, Option<u8>)
         ensures code { result ≡ coded self }
         ensures part { result.0 < PARTS }

@@ -18,8 +18,8 @@ pub enum CardChange<L> {
 /// An operation on a card board, over how titles are kept.
 #[derive(Drop)]
 pub enum Op<L> {
-    /// A new card in a column, with the event's stamp as its id, and without votes. In a sound event the column is from 1 to
-    /// `COLUMNS`.
+    /// A new card in a column, with the event's stamp as its id, and without votes. In a sound event the column is from
+    /// 1 to `COLUMNS`.
     Add { column: u8, title: L },
     /// Changes the card of that id.
     Change { id: Stamp, change: CardChange<L> },

@@ -1,5 +1,6 @@
 -- The register: what falls out of it depends on it alone, and different registers stay different.
-use Rattle.std.proofs.Common.{◌≡◌, ◌∙◌, ℕ, zero, suc, ◌+◌, ◌*◌, ◌/◌, ◌%◌, ◌^◌, ◌<◌, inl, inr, ap, ap₂, sym, refl, arith, ◌==◌, ◌⊎◌}
+use Rattle.std.proofs.Common.{◌≡◌, ◌∙◌, ℕ, zero, suc, ◌+◌, ◌*◌, ◌/◌, ◌%◌, ◌^◌, ◌<◌, inl, inr, ap, ap₂, sym, refl, arith}
+use Rattle.std.proofs.Common.{◌==◌, ◌⊎◌}
 use Rattle.std.specs.Prelude.{cond}
 use Rattle.std.specs.Int.RustNames.{bit_xor}
 use Rattle.std.specs.Int.Bits.{xor_self, xor_zero_l, xor_zero_r, xor_add_and}
@@ -12,7 +13,8 @@ use native.Mathlib.Nat.{pow-suc}
 -- ---- exclusive or
 
 pub xor_assoc : (a b c : ℕ) → bit_xor (bit_xor a b) c ≡ bit_xor a (bit_xor b c)
-xor_assoc a b c = same_from_bits _ _ (λ i. omega (arith, bit_at_xor (bit_xor a b) c i, bit_at_xor a b i, bit_at_xor a (bit_xor b c) i, bit_at_xor b c i))
+xor_assoc a b c = same_from_bits _ _
+    (λ i. omega (arith, bit_at_xor (bit_xor a b) c i, bit_at_xor a b i, bit_at_xor a (bit_xor b c) i, bit_at_xor b c i))
 
 pub xor_back : (a b : ℕ) → bit_xor (bit_xor a b) b ≡ a
 xor_back a b = xor_assoc a b b ∙ ap (bit_xor a) (xor_self b) ∙ xor_zero_r a
@@ -34,7 +36,8 @@ xor_beside k low high fits =
     let left : 0 * 2 ^ k + low ≡ low = omega arith in
     let right : high * 2 ^ k + 0 ≡ high * 2 ^ k = omega arith in
     let high_is : bit_xor 0 high * 2 ^ k ≡ high * 2 ^ k = ap (λ x. x * 2 ^ k) (xor_zero_l high) in
-    ap (λ x. bit_xor x (high * 2 ^ k)) (sym left) ∙ ap (bit_xor (0 * 2 ^ k + low)) (sym right) ∙ block ∙ omega (arith, high_is, xor_zero_r low)
+    ap (λ x. bit_xor x (high * 2 ^ k)) (sym left) ∙ ap (bit_xor (0 * 2 ^ k + low)) (sym right) ∙ block
+    ∙ omega (arith, high_is, xor_zero_r low)
 
 xor_half : (a b : ℕ) → bit_xor a b / 2 ≡ bit_xor (a / 2) (b / 2)
 xor_half a b = xor_shr a b 1
@@ -76,7 +79,8 @@ high_bit h low =
     xor_shr h polynomial 31 ∙ ap (λ x. bit_xor x 1) none ∙ xor_zero_l 1
 
 apart_even : (a b : ℕ) → a < 2 ^ 32 → b < 2 ^ 32 → a % 2 ≡ 1 → b % 2 ≡ 0 → next a ≡ next b → ⊥
-apart_even a b a_fits b_fits odd even e = omega (arith, high_bit (a / 2) (omega arith), next_odd a odd, next_even b even, e)
+apart_even a b a_fits b_fits odd even e
+    = omega (arith, high_bit (a / 2) (omega arith), next_odd a odd, next_even b even, e)
 
 pub next_same : (a b : ℕ) → a < 2 ^ 32 → b < 2 ^ 32 → next a ≡ next b → a ≡ b
 next_same a b a_fits b_fits e = elim (is_even a) [
@@ -99,7 +103,8 @@ next_xor x y =
     let low : bit_xor x (2 * y) % 2 ≡ x % 2 = omega (arith, xor_low x (2 * y)) in
     elim (is_even x) [
       | inl odd ↦
-          next_odd (bit_xor x (2 * y)) (low ∙ odd) ∙ ap (λ h. bit_xor h polynomial) half ∙ xor_swapped (x / 2) y polynomial ∙ ap (λ h. bit_xor h y) (sym (next_odd x odd))
+          next_odd (bit_xor x (2 * y)) (low ∙ odd) ∙ ap (λ h. bit_xor h polynomial) half
+          ∙ xor_swapped (x / 2) y polynomial ∙ ap (λ h. bit_xor h y) (sym (next_odd x odd))
       | inr even ↦
           next_even (bit_xor x (2 * y)) (low ∙ even) ∙ half ∙ ap (λ h. bit_xor h y) (sym (next_even x even))
     ]
@@ -121,7 +126,8 @@ odd_even x y x_odd y_even =
 
 even_even : (x y : ℕ) → x % 2 ≡ 0 → y % 2 ≡ 0 → next (bit_xor x y) ≡ bit_xor (next x) (next y)
 even_even x y x_even y_even =
-    next_even (bit_xor x y) (omega (arith, xor_low x y, x_even, y_even)) ∙ xor_half x y ∙ ap₂ bit_xor (sym (next_even x x_even)) (sym (next_even y y_even))
+    next_even (bit_xor x y) (omega (arith, xor_low x y, x_even, y_even)) ∙ xor_half x y
+    ∙ ap₂ bit_xor (sym (next_even x x_even)) (sym (next_even y y_even))
 
 pub next_both : (x y : ℕ) → next (bit_xor x y) ≡ bit_xor (next x) (next y)
 next_both x y = elim (is_even x) [
@@ -150,7 +156,8 @@ nexts_lt (suc n) c fits = nexts_lt n (next c) (next_lt c fits)
 pub nexts_same : (n a b : ℕ) → a < 2 ^ 32 → b < 2 ^ 32 → nexts n a ≡ nexts n b → a ≡ b
 unfolding nexts
 nexts_same zero a b a_fits b_fits e = e
-nexts_same (suc n) a b a_fits b_fits e = next_same a b a_fits b_fits (nexts_same n (next a) (next b) (next_lt a a_fits) (next_lt b b_fits) e)
+nexts_same (suc n) a b a_fits b_fits e
+    = next_same a b a_fits b_fits (nexts_same n (next a) (next b) (next_lt a a_fits) (next_lt b b_fits) e)
 
 pub next_xor_bit : (x y : ℕ) → next (bit_xor x (2 * y)) ≡ bit_xor (next x) y
 next_xor_bit = next_xor
@@ -178,7 +185,8 @@ nexts_none (suc n) = ap (nexts n) next_none ∙ nexts_none n
 
 -- zeros fall out
 nexts_high : (n y : ℕ) → nexts n (y * 2 ^ n) ≡ y
-nexts_high n y = ap (nexts n) (sym (xor_zero_l (y * 2 ^ n))) ∙ nexts_xor n 0 y ∙ ap (λ z. bit_xor z y) (nexts_none n) ∙ xor_zero_l y
+nexts_high n y = ap (nexts n) (sym (xor_zero_l (y * 2 ^ n))) ∙ nexts_xor n 0 y ∙ ap (λ z. bit_xor z y) (nexts_none n)
+    ∙ xor_zero_l y
 
 -- the low byte and the rest fall out apart
 pub nexts_split : (k x : ℕ) → nexts (8 + k) x ≡ bit_xor (nexts (8 + k) (x % 256)) (nexts k (x / 256))
@@ -186,7 +194,8 @@ nexts_split k x =
     let parts : x ≡ x % 256 + x / 256 * 2 ^ 8 = omega arith in
     ap (nexts (8 + k)) (parts ∙ sym (xor_beside 8 (x % 256) (x / 256) (omega arith)))
     ∙ nexts_both (8 + k) (x % 256) (x / 256 * 2 ^ 8)
-    ∙ ap (bit_xor (nexts (8 + k) (x % 256))) (sym (nexts_add 8 k (x / 256 * 2 ^ 8)) ∙ ap (nexts k) (nexts_high 8 (x / 256)))
+    ∙ ap (bit_xor (nexts (8 + k) (x % 256)))
+    (sym (nexts_add 8 k (x / 256 * 2 ^ 8)) ∙ ap (nexts k) (nexts_high 8 (x / 256)))
 
 -- a byte is taken in once so many bits have fallen out
 pub nexts_more : (n x b : ℕ) → nexts 8 (bit_xor (nexts n x) b) ≡ nexts (n + 8) (bit_xor x (b * 2 ^ n))

@@ -10,8 +10,8 @@ pub fn checks_go_on()
         → check (check previous a) b ≡ check previous (a ++ b) }
 {}
 
-/// Where two lists of bytes of one length have the same check, and their bits differ only within a row of at most 32, they
-/// are the same. So a change of one bit, of one byte or of up to four bytes in a row changes the check.
+/// Where two lists of bytes of one length have the same check, and their bits differ only within a row of at most 32,
+/// they are the same. So a change of one bit, of one byte or of up to four bytes in a row changes the check.
 #[tactic(auto, using(crate::proofs::Bursts::bursts_found))]
 pub fn bursts_are_found()
     ensures { (previous : ℕ) (a b : List ℕ) → IsCheck previous → AreBytes a → AreBytes b

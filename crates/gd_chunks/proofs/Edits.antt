@@ -1,5 +1,6 @@
 -- Edits of rows, and of where they start.
-use Rattle.std.proofs.Common.{◌≡◌, ℕ, ◌+◌, ◌-◌, ◌<◌, ◌≤◌, List, [], ◌∷◌, ◌++◌, length, take, drop, append_assoc, append-nil, length-append, length-drop, take-append-drop, sym, ap, ◌∙◌, arith}
+use Rattle.std.proofs.Common.{◌≡◌, ℕ, ◌+◌, ◌-◌, ◌<◌, ◌≤◌, List, [], ◌∷◌, ◌++◌, length, take, drop, append_assoc}
+use Rattle.std.proofs.Common.{append-nil, length-append, length-drop, take-append-drop, sym, ap, ◌∙◌, arith}
 use Rattle.std.proofs.lemmas.List.{take_more, get_or_at, get_or_push, take_at, length_push, length-take-le}
 use Rattle.gd_chunks.specs.Rows.{joined, starts_from, row_at, IsPlace, HasRoom, parted}
 use Rattle.gd_chunks.proofs.Lists.{joined-append, split}

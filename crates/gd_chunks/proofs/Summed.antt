@@ -1,7 +1,12 @@
--- Numbers that are kept as sums of what a block counts and of an offset: one of them, one more, and those that are raised.
-use Rattle.std.proofs.Common.{◌≡◌, ℕ, ◌+◌, ◌*◌, ◌-◌, ◌/◌, ◌^◌, ◌<◌, ◌≤◌, List, [], ◌∷◌, ◌++◌, length, take, drop, map, get_or, min, length-append, take-append-drop, sym, ap, ◌∙◌, refl, arith, slice_index, ⊎_elim, subst}
+-- Numbers that are kept as sums of what a block counts and of an offset: one of them, one more, and those that are
+-- raised.
+use Rattle.std.proofs.Common.{◌≡◌, ℕ, ◌+◌, ◌*◌, ◌-◌, ◌/◌, ◌^◌, ◌<◌, ◌≤◌, List, [], ◌∷◌, ◌++◌, length, take, drop, map}
+use Rattle.std.proofs.Common.{get_or, min, length-append, take-append-drop, sym, ap, ◌∙◌, refl, arith, slice_index}
+use Rattle.std.proofs.Common.{⊎_elim, subst}
 use Rattle.std.proofs.lemmas.Bool.{cases_lt}
-use Rattle.std.proofs.lemmas.List.{ext_get_or, get_or_default, get_or_append_left, get_or-append_right, get_or-take, get_or-drop, get_or-map, get_or_push, length_push, length-take-le, length-drop, length-map}
+use Rattle.std.proofs.lemmas.List.{ext_get_or, get_or_default, get_or_append_left, get_or-append_right, get_or-take}
+use Rattle.std.proofs.lemmas.List.{get_or-drop, get_or-map, get_or_push, length_push, length-take-le, length-drop}
+use Rattle.std.proofs.lemmas.List.{length-map}
 use Rattle.std.proofs.lemmas.List.FromFn.{length-map-range_with_len, get_or-map-range_with_len}
 use Rattle.std.specs.List.{range_with_len}
 use Rattle.gd_chunks.specs.declared.starts.TheConstants.{BLOCK}

@@ -1,6 +1,7 @@
 //! Where an element stands in rows, and what changes the rows around it.
 
-ghost use Rattle.std.specs.Prelude.{◌≡◌, ℕ, ◌+◌, ◌-◌, ◌^◌, nat_lt, ◌<◌, ◌≤◌, [], ◌∷◌, ◌++◌, length, take, drop, slice_index, if◌then◌else◌, vec_len, vec_capacity};
+ghost use Rattle.std.specs.Prelude.{◌≡◌, ℕ, ◌+◌, ◌-◌, ◌^◌, nat_lt, ◌<◌, ◌≤◌, [], ◌∷◌, ◌++◌, length, take, drop};
+ghost use Rattle.std.specs.Prelude.{slice_index, if◌then◌else◌, vec_len, vec_capacity};
 ghost use Rattle.gd_chunks.specs.Rows.{joined, starts_from, row_at, IsPlace, IsLastUpto, HasRoom, parted};
 
 use crate::row::{HALF, ROW, Row};

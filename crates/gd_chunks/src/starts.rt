@@ -10,8 +10,8 @@ use std::marker::Model;
 /// How many numbers stand in a block.
 pub(crate) const BLOCK: usize = 64;
 
-/// Numbers that don't fall, each the sum of what its block of `BLOCK` counts and of an offset of its own. So those from a
-/// place on are raised by as many additions as a block has numbers, and one for each later block.
+/// Numbers that don't fall, each the sum of what its block of `BLOCK` counts and of an offset of its own. So those from
+/// a place on are raised by as many additions as a block has numbers, and one for each later block.
 #[derive(Drop)]
 pub(crate) struct Starts {
     blocks: Vec<usize>,

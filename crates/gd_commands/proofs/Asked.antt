@@ -1,6 +1,8 @@
 -- From what a parse by `clap` says to what the words ask for.
-use Rattle.std.proofs.Common.{◌≡◌, ◌∙◌, true, false, List, [], ◌∷◌, ap, subst, sym, cond, None, inl, inr, ne_eqb, length, arith}
-use Rattle.clap.specs.Words.{App, HasKind, Kinds, Row, Text, fault_of, is_simple, is_simple_and_free, kind_of, matches_of}
+use Rattle.std.proofs.Common.{◌≡◌, ◌∙◌, true, false, List, [], ◌∷◌, ap, subst, sym, cond, None, inl, inr, ne_eqb}
+use Rattle.std.proofs.Common.{length, arith}
+use Rattle.clap.specs.Words.{App, HasKind, Kinds, Row, Text, fault_of, is_simple, is_simple_and_free, kind_of}
+use Rattle.clap.specs.Words.{matches_of}
 use Rattle.clap.specs.Walk.{is_empty}
 use Rattle.clap.specs.declared.error.Error.{Error}
 use Rattle.clap.specs.declared.error.kind.ErrorKind.TheVariants.{OutOfMemory}
@@ -15,7 +17,8 @@ has_fault [] e (inl memory) other = absurd (other memory)
 has_fault [] e (inr none) other = absurd none
 has_fault (k ∷ ks) e h other = ne_eqb (length (k ∷ ks)) 0 (λ same. omega arith)
 
-pub asked_where_taken : (form : Form) (a : App) (words : List Text) (rows : List Row) → a ≡ app form → fault_of a words ≡ []
+pub asked_where_taken : (form : Form) (a : App) (words : List Text) (rows : List Row) → a ≡ app form
+    → fault_of a words ≡ []
     → rows ≡ matches_of a words → asked_by form words ≡ form.asks rows
 unfolding asked_by
 asked_where_taken form a words rows is taken same =
@@ -27,4 +30,5 @@ pub asked_where_refused : (form : Form) (a : App) (words : List Text) → a ≡ 
     → asked_by form words ≡ None
 unfolding asked_by
 asked_where_refused form a words is refused =
-    ap (λ b. cond b (form.asks (matches_of (app form) words)) None) (subst (λ b. takes_words b words ≡ false) is refused)
+    ap (λ b. cond b (form.asks (matches_of (app form) words)) None)
+    (subst (λ b. takes_words b words ≡ false) is refused)

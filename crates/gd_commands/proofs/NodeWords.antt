@@ -1,5 +1,6 @@
 -- `clap` takes the plain form of `node`, with its flag or without, word by word.
-use Rattle.std.proofs.Common.{◌≡◌, ◌∙◌, ◌<◌, ◌≤◌, ℕ, Bool, true, false, refl, sym, ap, ap₂, arith, List, [], ◌∷◌, ◌++◌, append_assoc, append-nil, subst, length, codes, le-ltb, nat_lt, ne_eqb, eqb, Some, None}
+use Rattle.std.proofs.Common.{◌≡◌, ◌∙◌, ◌<◌, ◌≤◌, ℕ, Bool, true, false, refl, sym, ap, ap₂, arith, List, [], ◌∷◌, ◌++◌}
+use Rattle.std.proofs.Common.{append_assoc, append-nil, subst, length, codes, le-ltb, nat_lt, ne_eqb, eqb, Some, None}
 use Rattle.clap.specs.Words.{App, Row, Text, fault_of, matches_of}
 use Rattle.clap.specs.Kinds.{or_else, range_kinds, values_kinds}
 use Rattle.clap.specs.Lexer.{usize_max}
@@ -12,7 +13,8 @@ use Rattle.clap.proofs.OnLiterals.{clap_on_literals}
 use Rattle.gd_commands.specs.Forms.{app}
 use Rattle.gd_commands.specs.Node.{node_form}
 use Rattle.gd_commands.specs.Plain.{ArePlainWords, IsPlainWord, member_words}
-use Rattle.gd_commands.proofs.PlainWords.{Turns, Walks, at, holding, refused_by, row, rows_at, turns_plain, walks_none, walks_on}
+use Rattle.gd_commands.proofs.PlainWords.{Turns, Walks, at, holding, refused_by, row, rows_at, turns_plain, walks_none}
+use Rattle.gd_commands.proofs.PlainWords.{walks_on}
 
 abbrev node_app : App
 node_app = app node_form
@@ -73,32 +75,41 @@ session_turn : (r : Bool) → Turns top (behind_flag r) (codes "--session") (wai
 unfolding clap_on_literals
 session_turn r = (refl, refl)
 
-session_value : (rows : List Row) (n : Text) → IsPlainWord n → Turns top (waits rows (codes "session")) n (has rows (codes "session") n)
-session_value rows n plain = turns_plain top (holding rows (codes "session") []) (option (codes "session")) 1 n _ plain refl refl
+session_value : (rows : List Row) (n : Text) → IsPlainWord n
+    → Turns top (waits rows (codes "session")) n (has rows (codes "session") n)
+session_value rows n plain
+    = turns_plain top (holding rows (codes "session") []) (option (codes "session")) 1 n _ plain refl refl
 
-site_turn : (r : Bool) (n : Text) → Turns top (has (flag_rows r) (codes "session") n) (codes "--site") (waits (session_rows r n) (codes "site"))
+site_turn : (r : Bool) (n : Text)
+    → Turns top (has (flag_rows r) (codes "session") n) (codes "--site") (waits (session_rows r n) (codes "site"))
 unfolding clap_on_literals
 site_turn true n = (refl, refl)
 site_turn false n = (refl, refl)
 
-site_value : (rows : List Row) (s : Text) → IsPlainWord s → Turns top (waits rows (codes "site")) s (has rows (codes "site") s)
+site_value : (rows : List Row) (s : Text) → IsPlainWord s
+    → Turns top (waits rows (codes "site")) s (has rows (codes "site") s)
 site_value rows s plain = turns_plain top (holding rows (codes "site") []) (option (codes "site")) 1 s _ plain refl refl
 
 journal_turn : (r : Bool) (n s : Text)
-    → Turns top (has (session_rows r n) (codes "site") s) (codes "--journal") (waits (site_rows r n s) (codes "journal"))
+    → Turns top (has (session_rows r n) (codes "site") s) (codes "--journal")
+    (waits (site_rows r n s) (codes "journal"))
 unfolding clap_on_literals
 journal_turn true n s = (refl, refl)
 journal_turn false n s = (refl, refl)
 
-journal_value : (rows : List Row) (p : Text) → IsPlainWord p → Turns top (waits rows (codes "journal")) p (has rows (codes "journal") p)
-journal_value rows p plain = turns_plain top (holding rows (codes "journal") []) (option (codes "journal")) 1 p _ plain refl refl
+journal_value : (rows : List Row) (p : Text) → IsPlainWord p
+    → Turns top (waits rows (codes "journal")) p (has rows (codes "journal") p)
+journal_value rows p plain
+    = turns_plain top (holding rows (codes "journal") []) (option (codes "journal")) 1 p _ plain refl refl
 
 -- ---- the addresses
 
 first_address : (r : Bool) (n s p a : Text) → IsPlainWord a
     → Turns top (has (site_rows r n s) (codes "journal") p) a (among_addresses (option_rows r n s p) (a ∷ []))
-first_address true n s p a plain = turns_plain top (holding (site_rows true n s) (codes "journal") (p ∷ [])) idle 1 a _ plain refl refl
-first_address false n s p a plain = turns_plain top (holding (site_rows false n s) (codes "journal") (p ∷ [])) idle 1 a _ plain refl refl
+first_address true n s p a plain
+    = turns_plain top (holding (site_rows true n s) (codes "journal") (p ∷ [])) idle 1 a _ plain refl refl
+first_address false n s p a plain
+    = turns_plain top (holding (site_rows false n s) (codes "journal") (p ∷ [])) idle 1 a _ plain refl refl
 
 next_address : (rows : List Row) (read : List Text) (a : Text) → IsPlainWord a
     → Turns top (among_addresses rows read) a (among_addresses rows (read ++ a ∷ []))
@@ -107,10 +118,12 @@ next_address rows read a plain = turns_plain top (holding rows (codes "address")
 addresses : (rows : List Row) (read rest : List Text) → ArePlainWords rest
     → Walks top (among_addresses rows read) rest (among_addresses rows (read ++ rest))
 addresses rows read [] plain =
-    let P : List Text → Type 0 = λ (all : List Text). Walks top (among_addresses rows read) [] (among_addresses rows all) in
+    let P : List Text → Type 0
+    = λ (all : List Text). Walks top (among_addresses rows read) [] (among_addresses rows all) in
     subst P (sym (append-nil read)) (walks_none top (among_addresses rows read))
 addresses rows read (a ∷ rest) plain =
-    let P : List Text → Type 0 = λ (all : List Text). Walks top (among_addresses rows read) (a ∷ rest) (among_addresses rows all) in
+    let P : List Text → Type 0
+    = λ (all : List Text). Walks top (among_addresses rows read) (a ∷ rest) (among_addresses rows all) in
     subst P (append_assoc read (a ∷ []) rest)
     (walks_on top _ (among_addresses rows (read ++ a ∷ [])) _ a rest (next_address rows read a plain.0)
     (addresses rows (read ++ a ∷ []) rest plain.1))
@@ -118,7 +131,8 @@ addresses rows read (a ∷ rest) plain =
 -- ---- the walk
 
 -- behind the flag's place
-member_walk : (r : Bool) (n s p a : Text) (rest : List Text) → IsPlainWord n → IsPlainWord s → IsPlainWord p → ArePlainWords (a ∷ rest)
+member_walk : (r : Bool) (n s p a : Text) (rest : List Text) → IsPlainWord n → IsPlainWord s → IsPlainWord p
+    → ArePlainWords (a ∷ rest)
     → Walks top (behind_flag r) (member_words n s p (a ∷ rest)) (among_addresses (option_rows r n s p) (a ∷ rest))
 member_walk r n s p a rest pn ps pp pa =
     walks_on top _ _ _ _ _ (session_turn r)
@@ -129,8 +143,10 @@ member_walk r n s p a rest pn ps pp pa =
     (walks_on top _ _ _ _ _ (journal_value (site_rows r n s) p pp)
     (walks_on top _ _ _ _ _ (first_address r n s p a pa.0) (addresses (option_rows r n s p) (a ∷ []) rest pa.1)))))))
 
-node_walk : (r : Bool) (n s p a : Text) (rest : List Text) → IsPlainWord n → IsPlainWord s → IsPlainWord p → ArePlainWords (a ∷ rest)
-    → Walks top (walk_from nothing_held) (flag_words r ++ member_words n s p (a ∷ rest)) (among_addresses (option_rows r n s p) (a ∷ rest))
+node_walk : (r : Bool) (n s p a : Text) (rest : List Text) → IsPlainWord n → IsPlainWord s → IsPlainWord p
+    → ArePlainWords (a ∷ rest)
+    → Walks top (walk_from nothing_held) (flag_words r ++ member_words n s p (a ∷ rest))
+    (among_addresses (option_rows r n s p) (a ∷ rest))
 node_walk true n s p a rest pn ps pp pa = walks_on top _ _ _ _ _ flag_turn (member_walk true n s p a rest pn ps pp pa)
 node_walk false n s p a rest pn ps pp pa = member_walk false n s p a rest pn ps pp pa
 
@@ -156,7 +172,8 @@ none_refused true n s p a rest most =
 none_refused false n s p a rest most =
     ap₂ (λ x y. or_else (or_else x y) []) (count_fits (length (a ∷ rest)) (omega arith) most) (texts_pass (a ∷ rest))
 
-pub node_taken : (r : Bool) (n s p a : Text) (rest : List Text) → IsPlainWord n → IsPlainWord s → IsPlainWord p → ArePlainWords (a ∷ rest)
+pub node_taken : (r : Bool) (n s p a : Text) (rest : List Text) → IsPlainWord n → IsPlainWord s → IsPlainWord p
+    → ArePlainWords (a ∷ rest)
     → length (a ∷ rest) ≤ 16 → fault_of node_app (flag_words r ++ member_words n s p (a ∷ rest)) ≡ []
 node_taken r n s p a rest pn ps pp pa most =
     let w = node_walk r n s p a rest pn ps pp pa in
@@ -167,6 +184,8 @@ rows_read : (r : Bool) (n s p a : Text) (rest : List Text)
 rows_read true n s p a rest = refl
 rows_read false n s p a rest = refl
 
-pub node_rows : (r : Bool) (n s p a : Text) (rest : List Text) → IsPlainWord n → IsPlainWord s → IsPlainWord p → ArePlainWords (a ∷ rest)
+pub node_rows : (r : Bool) (n s p a : Text) (rest : List Text) → IsPlainWord n → IsPlainWord s → IsPlainWord p
+    → ArePlainWords (a ∷ rest)
     → matches_of node_app (flag_words r ++ member_words n s p (a ∷ rest)) ≡ all_rows r n s p (a ∷ rest)
-node_rows r n s p a rest pn ps pp pa = ap (rows_at node_app) (node_walk r n s p a rest pn ps pp pa).ends ∙ rows_read r n s p a rest
+node_rows r n s p a rest pn ps pp pa = ap (rows_at node_app) (node_walk r n s p a rest pn ps pp pa).ends
+    ∙ rows_read r n s p a rest

@@ -1,5 +1,7 @@
 -- Words in the plain form ask for the command that their values give.
-use Rattle.std.proofs.Common.{◌≡◌, option_map, ◌≢◌, ◌∙◌, ◌≤◌, ◌-◌, ◌^◌, ℕ, Bool, true, false, refl, ap, ap₂, arith, List, [], ◌∷◌, ◌++◌, codes, length, Option, Some, None, cond, sym, le-leb, le-ltb, nat_le, nat_lt, ◌&&◌, true≢false}
+use Rattle.std.proofs.Common.{◌≡◌, option_map, ◌≢◌, ◌∙◌, ◌≤◌, ◌-◌, ◌^◌, ℕ, Bool, true, false, refl, ap, ap₂, arith}
+use Rattle.std.proofs.Common.{List, [], ◌∷◌, ◌++◌, codes, length, Option, Some, None, cond, sym, le-leb, le-ltb, nat_le}
+use Rattle.std.proofs.Common.{nat_lt, ◌&&◌, true≢false}
 use Rattle.std.specs.List.{list_all}
 use Rattle.std.specs.Str.Parse.{digits_value}
 use Rattle.std.proofs.lemmas.Bool.{leb-true}
@@ -17,7 +19,9 @@ use Rattle.gd_commands.specs.Node.{both as both_of, node_command, node_form, nod
 use Rattle.gd_commands.specs.Rehearse.{rehearse_form}
 use Rattle.gd_commands.specs.Churn.{churn_form}
 use Rattle.gd_commands.specs.Commands.{command_of}
-use Rattle.gd_commands.specs.Plain.{Board, IsNumberFrom, IsPlain, IsPlainMember, IsPlainWord, Node, Plain, Rehearse, Rejoin, Replay, Churn, Snapshot, Upgrade, View, member_words, plain_command, plain_words}
+use Rattle.gd_commands.specs.Plain.{Board, IsNumberFrom, IsPlain, IsPlainMember, IsPlainWord, Node, Plain, Rehearse}
+use Rattle.gd_commands.specs.Plain.{Rejoin, Replay, Churn, Snapshot, Upgrade, View, member_words, plain_command}
+use Rattle.gd_commands.specs.Plain.{plain_words}
 use Rattle.gd_commands.proofs.Asked.{asked_where_taken}
 use Rattle.gd_commands.proofs.NodeWords.{all_rows, flag_words, node_rows, node_taken}
 use Rattle.gd_commands.proofs.PairWords.{churn_rows, churn_taken, rehearse_rows, rehearse_taken}
@@ -37,7 +41,8 @@ number_is_plain (b ∷ bs) e =
     let digits : list_all is_digit (b ∷ bs) ≡ true = (both _ _ counted).1 in
     no_hyphen b (both (is_digit b) (list_all is_digit bs) digits).0
 
-number_is_taken : (low high : ℕ) (text : Text) → IsNumberFrom low high text → number_from low high text ≡ Some (digits_value 10 text)
+number_is_taken : (low high : ℕ) (text : Text) → IsNumberFrom low high text
+    → number_from low high text ≡ Some (digits_value 10 text)
 number_is_taken low high text (number, least, most) =
     let a : nat_le low (digits_value 10 text) ≡ true = le-leb _ _ least in
     let b : nat_le (digits_value 10 text) high ≡ true = le-leb _ _ most in
@@ -82,20 +87,25 @@ unfolding command_of asked_by clap_on_literals
 board_asked false = refl
 board_asked true = refl
 
-rehearse_asked : (sites : Text) → IsPlain (Rehearse sites) → command_of (plain_words (Rehearse sites)) ≡ Some (plain_command (Rehearse sites))
+rehearse_asked : (sites : Text) → IsPlain (Rehearse sites)
+    → command_of (plain_words (Rehearse sites)) ≡ Some (plain_command (Rehearse sites))
 unfolding command_of
 rehearse_asked sites range =
     let plain = number_is_plain sites range.0 in
-    asked_where_taken rehearse_form (app rehearse_form) _ _ refl (rehearse_taken sites plain) (sym (rehearse_rows sites plain))
+    asked_where_taken rehearse_form (app rehearse_form) _ _ refl (rehearse_taken sites plain)
+    (sym (rehearse_rows sites plain))
     ∙ ap (λ n. option_map command.Rehearse n) (number_is_taken 1 SITES sites range)
 
-churn_asked : (seed steps : Text) → IsPlain (Churn seed steps) → command_of (plain_words (Churn seed steps)) ≡ Some (plain_command (Churn seed steps))
+churn_asked : (seed steps : Text) → IsPlain (Churn seed steps)
+    → command_of (plain_words (Churn seed steps)) ≡ Some (plain_command (Churn seed steps))
 unfolding command_of
 churn_asked seed steps (seeds, most) =
     let plain_seed = number_is_plain seed seeds.0 in
     let plain_steps = number_is_plain steps most.0 in
-    asked_where_taken churn_form (app churn_form) _ _ refl (churn_taken seed steps plain_seed plain_steps) (sym (churn_rows seed steps plain_seed plain_steps))
-    ∙ ap₂ (λ a b. option_map (λ n. command.Churn n.0 n.1) (both_of a b)) (number_is_taken 0 (2 ^ 64 - 1) seed seeds) (number_is_taken 0 CHURN_STEPS steps most)
+    asked_where_taken churn_form (app churn_form) _ _ refl (churn_taken seed steps plain_seed plain_steps)
+    (sym (churn_rows seed steps plain_seed plain_steps))
+    ∙ ap₂ (λ a b. option_map (λ n. command.Churn n.0 n.1) (both_of a b)) (number_is_taken 0 (2 ^ 64 - 1) seed seeds)
+    (number_is_taken 0 CHURN_STEPS steps most)
 
 -- what the values of `node` ask for, where its flag is there or not
 node_meant : (resume : Bool) (session site journal : Text) (addresses : List Text)
@@ -104,16 +114,19 @@ node_meant : (resume : Bool) (session site journal : Text) (addresses : List Tex
 node_meant true session site journal addresses = refl
 node_meant false session site journal addresses = refl
 
-member_asked : (resume : Bool) (session site journal : Text) (addresses : List Text) → IsPlainMember session site journal addresses
+member_asked : (resume : Bool) (session site journal : Text) (addresses : List Text)
+    → IsPlainMember session site journal addresses
     → command_of (codes "node" ∷ (flag_words resume ++ member_words session site journal addresses))
     ≡ Some (node_command resume (digits_value 10 session) (digits_value 10 site) journal addresses)
 unfolding command_of
-member_asked resume session site journal [] (sessions, range, plain, all, most) = absurd (omega (arith, range.1, range.2))
+member_asked resume session site journal [] (sessions, range, plain, all, most)
+    = absurd (omega (arith, range.1, range.2))
 member_asked resume session site journal (a ∷ rest) (sessions, range, plain, all, most) =
     let n = number_is_plain session sessions.0 in
     let s = number_is_plain site range.0 in
     let few : nat_lt SITES (length (a ∷ rest)) ≡ false = le-ltb _ _ most in
-    asked_where_taken node_form (app node_form) _ _ refl (node_taken resume session site journal a rest n s plain all most)
+    asked_where_taken node_form (app node_form) _ _ refl
+    (node_taken resume session site journal a rest n s plain all most)
     (sym (node_rows resume session site journal a rest n s plain all))
     ∙ node_meant resume session site journal (a ∷ rest)
     ∙ (λ i. option_map (λ m. node_command resume m.0 m.1 journal (a ∷ rest)) (cond (few i) None

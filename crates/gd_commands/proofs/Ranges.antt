@@ -1,5 +1,7 @@
 -- What words ask for is in its ranges.
-use Rattle.std.proofs.Common.{◌≡◌, ◌≤◌, ◌<◌, ◌-◌, ◌^◌, ℕ, Bool, true, false, refl, arith, List, [], ◌∷◌, length, Option, Some, None, bytes_eq, codes, cond, subst, nat_le, nat_lt, ◌&&◌, option_map, lit<, Result, Ok, Err, IfOk}
+use Rattle.std.proofs.Common.{◌≡◌, ◌≤◌, ◌<◌, ◌-◌, ◌^◌, ℕ, Bool, true, false, refl, arith, List, [], ◌∷◌, length, Option}
+use Rattle.std.proofs.Common.{Some, None, bytes_eq, codes, cond, subst, nat_le, nat_lt, ◌&&◌, option_map, lit<, Result}
+use Rattle.std.proofs.Common.{Ok, Err, IfOk}
 use Rattle.std.proofs.lemmas.Bool.{leb-true, ltb-false}
 use Rattle.clap.specs.Words.{Row, Text, all_of, first_of, matches_of}
 use Rattle.clap.proofs.WalkLemmas.{both}
@@ -20,7 +22,8 @@ use Rattle.gd_commands.specs.Commands.{asked_by_one, command_of, forms}
 
 -- ---- numbers
 
-where_tested : (low high n m : ℕ) (b : Bool) → (nat_le low n && nat_le n high) ≡ b → cond b (Some n) None ≡ Some m → (low ≤ m) × (m ≤ high)
+where_tested : (low high n m : ℕ) (b : Bool) → (nat_le low n && nat_le n high) ≡ b → cond b (Some n) None ≡ Some m
+    → (low ≤ m) × (m ≤ high)
 where_tested low high n m false test h = let e = h in cc
 where_tested low high n m true test h =
     let same : n ≡ m = (let e = h in cc) in
@@ -51,7 +54,8 @@ lone_ranged lone in_range c h =
     let same : lone ≡ c = (let e = h in cc) in
     subst IsInRange same in_range
 
-sites_ranged : (o : Option ℕ) → ((n : ℕ) → o ≡ Some n → (1 ≤ n) × (n ≤ SITES)) → IsRanged (option_map (λ n. command.Rehearse n) o)
+sites_ranged : (o : Option ℕ) → ((n : ℕ) → o ≡ Some n → (1 ≤ n) × (n ≤ SITES))
+    → IsRanged (option_map (λ n. command.Rehearse n) o)
 sites_ranged None in_range c h = let e = h in cc
 sites_ranged (Some n) in_range c h =
     let same : command.Rehearse n ≡ c = (let e = h in cc) in
@@ -61,7 +65,8 @@ rehearse_ranged : (sites : Option Text) → IsRanged (rehearse_by sites)
 rehearse_ranged None c h = let e = h in cc
 rehearse_ranged (Some sites) c h = sites_ranged (number_from 1 SITES sites) (number_ranged 1 SITES sites) c h
 
-churn_with : (m n : Option ℕ) → ((k : ℕ) → m ≡ Some k → (0 ≤ k) × (k ≤ 2 ^ 64 - 1)) → ((k : ℕ) → n ≡ Some k → (0 ≤ k) × (k ≤ CHURN_STEPS))
+churn_with : (m n : Option ℕ) → ((k : ℕ) → m ≡ Some k → (0 ≤ k) × (k ≤ 2 ^ 64 - 1))
+    → ((k : ℕ) → n ≡ Some k → (0 ≤ k) × (k ≤ CHURN_STEPS))
     → IsRanged (option_map (λ k. command.Churn k.0 k.1) (both_of m n))
 churn_with None n seeds most c h = let e = h in cc
 churn_with (Some k) None seeds most c h = let e = h in cc
@@ -79,7 +84,8 @@ churn_ranged (Some seed) (Some steps) c h =
     churn_with (number_from 0 (2 ^ 64 - 1) seed) (number_from 0 CHURN_STEPS steps)
     (number_ranged 0 (2 ^ 64 - 1) seed) (number_ranged 0 CHURN_STEPS steps) c h
 
-member_ranged : (resume : Bool) (session site : ℕ) (journal : Text) (addresses : List Text) → IsMember session site addresses
+member_ranged : (resume : Bool) (session site : ℕ) (journal : Text) (addresses : List Text)
+    → IsMember session site addresses
     → IsInRange (node_command resume session site journal addresses)
 member_ranged true session site journal addresses member = member
 member_ranged false session site journal addresses member = member
@@ -96,15 +102,18 @@ node_with resume journal addresses few (Some k) (Some l) sessions sites c h =
     let below : k < 2 ^ 32 = omega (arith, top, session) in
     subst IsInRange same (member_ranged resume k l journal addresses (below, (sites l refl).0, (sites l refl).1, few))
 
-node_counted : (resume : Bool) (session site journal : Text) (addresses : List Text) (b : Bool) → nat_lt SITES (length addresses) ≡ b
+node_counted : (resume : Bool) (session site journal : Text) (addresses : List Text) (b : Bool)
+    → nat_lt SITES (length addresses) ≡ b
     → IsRanged (option_map (λ k. node_command resume k.0 k.1 journal addresses)
     (cond b None (both_of (number_from 0 (2 ^ 32 - 1) session) (number_from 1 (length addresses) site))))
 node_counted resume session site journal addresses true test c h = let e = h in cc
 node_counted resume session site journal addresses false test c h =
-    node_with resume journal addresses (ltb-false _ _ test) (number_from 0 (2 ^ 32 - 1) session) (number_from 1 (length addresses) site)
+    node_with resume journal addresses (ltb-false _ _ test) (number_from 0 (2 ^ 32 - 1) session)
+    (number_from 1 (length addresses) site)
     (number_ranged 0 (2 ^ 32 - 1) session) (number_ranged 1 (length addresses) site) c h
 
-node_ranged : (resume session site journal : Option Text) (addresses : Option (List Text)) → IsRanged (node_by resume session site journal addresses)
+node_ranged : (resume session site journal : Option Text) (addresses : Option (List Text))
+    → IsRanged (node_by resume session site journal addresses)
 node_ranged resume None site journal addresses c h = let e = h in cc
 node_ranged resume (Some session) None journal addresses c h = let e = h in cc
 node_ranged resume (Some session) (Some site) None addresses c h = let e = h in cc
@@ -128,9 +137,11 @@ where_taken false asked in_range c h = let e = h in cc
 one_ranged : (form : Form) (words : List Text) → AsksInRange form → IsRanged (asked_by form words)
 unfolding asked_by
 one_ranged form words in_range =
-    where_taken (takes_words (app form) words) (form.asks (matches_of (app form) words)) (in_range (matches_of (app form) words))
+    where_taken (takes_words (app form) words) (form.asks (matches_of (app form) words))
+    (in_range (matches_of (app form) words))
 
-where_named : (b : Bool) (this others : Option Command) → IsRanged this → IsRanged others → IsRanged (cond b this others)
+where_named : (b : Bool) (this others : Option Command) → IsRanged this → IsRanged others
+    → IsRanged (cond b this others)
 where_named true this others a rest c h = a c h
 where_named false this others a rest c h = rest c h
 
@@ -153,7 +164,8 @@ forms_ranged = (
         (
           (λ rows. lone_ranged (command.Board (is_set (first_of (codes "counts") rows))) tt),
           (
-            (λ rows. node_ranged (first_of (codes "resume") rows) (first_of (codes "session") rows) (first_of (codes "site") rows)
+            (λ rows. node_ranged (first_of (codes "resume") rows) (first_of (codes "session") rows)
+                (first_of (codes "site") rows)
                 (first_of (codes "journal") rows) (all_of (codes "address") rows)),
             (
               (λ rows. rehearse_ranged (first_of (codes "sites") rows)),
@@ -171,6 +183,7 @@ unfolding command_of
 asked_in_range [] c h = let e = h in cc
 asked_in_range (name ∷ words) c h = all_ranged forms name words forms_ranged c h
 
-pub ok_in_range : (words : List Text) (r : Result Command CommandFault) → IfOk r (λ c. command_of words ≡ Some c) → IfOk r IsInRange
+pub ok_in_range : (words : List Text) (r : Result Command CommandFault) → IfOk r (λ c. command_of words ≡ Some c)
+    → IfOk r IsInRange
 ok_in_range words (Ok c) asked = asked_in_range words c asked
 ok_in_range words (Err fault) asked = tt

@@ -1,7 +1,7 @@
 -- The form of a command: its name, the arguments that `clap` is to take behind it, and what their values ask for.
 --
--- Which words are taken, and which values they give, is `clap`'s own definition of a simple command. It has no flags for help
--- or for a version.
+-- Which words are taken, and which values they give, is `clap`'s own definition of a simple command. It has no flags
+-- for help or for a version.
 use Rattle.std.specs.Prelude.{Bool, true, false, List, Option, Some, None, bytes_eq, codes, if◌then◌else◌, option_map}
 use Rattle.std.specs.List.{fold}
 use Rattle.std.specs.Borrow.{Bor}

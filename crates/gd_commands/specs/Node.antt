@@ -1,6 +1,7 @@
--- The form of `node`: `[--resume] --session N --site S --journal PATH ADDR ..`, with N below 2^32, 1 to 16 addresses, and S
--- from 1 to their number.
-use Rattle.std.specs.Prelude.{◌-◌, ◌^◌, ℕ, nat_lt, Bool, true, false, List, [], ◌∷◌, Option, Some, None, codes, length, map, if◌then◌else◌, option_map}
+-- The form of `node`: `[--resume] --session N --site S --journal PATH ADDR ..`, with N below 2^32, 1 to 16 addresses,
+-- and S from 1 to their number.
+use Rattle.std.specs.Prelude.{◌-◌, ◌^◌, ℕ, nat_lt, Bool, true, false, List, [], ◌∷◌, Option, Some, None, codes, length}
+use Rattle.std.specs.Prelude.{map, if◌then◌else◌, option_map}
 use Rattle.std.specs.Borrow.{Bor}
 use Rattle.clap.specs.Lexer.{usize_max}
 use Rattle.clap.specs.Words.{Rule, Text, all_of, first_of, new_rule}
@@ -34,7 +35,8 @@ node_command true session site journal addresses = command.Rejoin session site j
 
 abbrev pub node_by : Option Text → Option Text → Option Text → Option Text → Option (List Text) → Option Command
 node_by resume (Some session) (Some site) (Some journal) (Some addresses) =
-    option_map (λ n. node_command (is_set resume) n.0 n.1 journal addresses) (node_numbers session site (length addresses))
+    option_map (λ n. node_command (is_set resume) n.0 n.1 journal addresses)
+    (node_numbers session site (length addresses))
 node_by _ _ _ _ _ = None
 
 abbrev pub node_form : Form

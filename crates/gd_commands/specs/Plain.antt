@@ -1,6 +1,7 @@
--- Words in the plain form, which are always taken: the options and flags in the order of the table, an option as `--x V` and
--- a flag as `--x`, and then the addresses.
-use Rattle.std.specs.Prelude.{◌≡◌, ◌≢◌, ◌≤◌, ◌-◌, ◌^◌, ℕ, Bool, true, false, List, [], ◌∷◌, ◌++◌, Option, Some, None, codes, length}
+-- Words in the plain form, which are always taken: the options and flags in the order of the table, an option as `--x
+-- V` and a flag as `--x`, and then the addresses.
+use Rattle.std.specs.Prelude.{◌≡◌, ◌≢◌, ◌≤◌, ◌-◌, ◌^◌, ℕ, Bool, true, false, List, [], ◌∷◌, ◌++◌, Option, Some, None}
+use Rattle.std.specs.Prelude.{codes, length}
 use Rattle.std.specs.Str.Parse.{digits_value}
 use Rattle.clap.specs.Words.{Text}
 use Rattle.gd_base.specs.declared.ranges.TheConstants.{SITES}
@@ -94,7 +95,8 @@ IsPlainMember session site journal addresses =
     IsNumberFrom 0 (2 ^ 32 - 1) session × IsNumberFrom 1 (length addresses) site
     × IsPlainWord journal × ArePlainWords addresses × (length addresses ≤ SITES)
 
--- each value, and the number of addresses, is as the form says, and no value and no address is empty or begins with a hyphen
+-- each value, and the number of addresses, is as the form says, and no value and no address is empty or begins with a
+-- hyphen
 abbrev pub IsPlain : Plain → Type 0
 IsPlain (Replay format counts upto) = Unit {0}
 IsPlain Upgrade = Unit {0}

@@ -1,8 +1,10 @@
 -- Words that are written out, and what they ask for.
-use Rattle.std.specs.Prelude.{◌≡◌, ◌-◌, ◌^◌, ◌==◌, ℕ, true, false, List, [], ◌∷◌, map, Option, Some, None, codes, if◌then◌else◌}
+use Rattle.std.specs.Prelude.{◌≡◌, ◌-◌, ◌^◌, ◌==◌, ℕ, true, false, List, [], ◌∷◌, map, Option, Some, None, codes}
+use Rattle.std.specs.Prelude.{if◌then◌else◌}
 use Rattle.clap.specs.Words.{Text}
 use Rattle.gd_asked.specs.declared.command.Command.{Command}
-use Rattle.gd_asked.specs.declared.command.Command.TheVariants.{Replay, Upgrade, Snapshot, View, Board, Node, Rejoin, Rehearse, Churn}
+use Rattle.gd_asked.specs.declared.command.Command.TheVariants.{Replay, Upgrade, Snapshot, View, Board, Node, Rejoin}
+use Rattle.gd_asked.specs.declared.command.Command.TheVariants.{Rehearse, Churn}
 use Rattle.gd_options.specs.declared.format.Format.TheVariants as format
 use Rattle.gd_commands.specs.Commands.{command_of}
 

@@ -37,8 +37,8 @@ pub fn flag<'a>(alloc: Global, name: &'a str) -> Arg<'a>
     Arg::new(alloc, name).long(name).action(ArgAction::SetTrue)
 }
 
-/// The values that the words give to the arguments of a form, of which this is the command. `Usage` where `clap` doesn't
-/// take the words.
+/// The values that the words give to the arguments of a form, of which this is the command. `Usage` where `clap`
+/// doesn't take the words.
 pub fn matches_of<'a, S: AsStr>(
     command: ClapCommand<'a>,
     words: &'a [S],

@@ -14,7 +14,8 @@ line_is bytes (Err fault) e = tt
 abbrev AreHeard : List HeardLine → Type 0
 AreHeard lines = AllByRecursion IsHeard lines
 
-one_and_more : (bytes : List ℕ) (too_long : Bool) (lines : List HeardLine) → AreHeard lines → AreHeard (cond too_long (Over ∷ []) (Read (read bytes) ∷ lines))
+one_and_more : (bytes : List ℕ) (too_long : Bool) (lines : List HeardLine) → AreHeard lines
+    → AreHeard (cond too_long (Over ∷ []) (Read (read bytes) ∷ lines))
 one_and_more bytes true lines all = (tt, tt)
 one_and_more bytes false lines all = (line_is bytes (read bytes) refl, all)
 

@@ -1,6 +1,7 @@
--- The parts of an object that contents are put into, one by one: what stands in each, and which of them a content sets. What
--- is set there doesn't hang on the object, and all else stays.
-use Rattle.std.proofs.Common.{◌≡◌, ℕ, pos, Bool, true, false, cond, ◌||◌, List, [], ◌∷◌, ◌++◌, Option, Some, None, refl, sym, ap, ◌∙◌, eqb-true, eq-eqb}
+-- The parts of an object that contents are put into, one by one: what stands in each, and which of them a content sets.
+-- What is set there doesn't hang on the object, and all else stays.
+use Rattle.std.proofs.Common.{◌≡◌, ℕ, pos, Bool, true, false, cond, ◌||◌, List, [], ◌∷◌, ◌++◌, Option, Some, None, refl}
+use Rattle.std.proofs.Common.{sym, ap, ◌∙◌, eqb-true, eq-eqb}
 use Rattle.std.specs.Prelude.{is_some, unwrap_or, ◌==◌}
 use Rattle.std.proofs.lemmas.Bool.{and_parts}
 use Rattle.gd_base.specs.Looks.{instead, no_looks}
@@ -12,7 +13,8 @@ use Rattle.gd_base.specs.declared.object.Link.{Link}
 use Rattle.gd_base.specs.declared.rank.Rank.TheVariants.{High}
 use Rattle.gd_base.specs.Whole.{Object}
 use Rattle.gd_model.specs.Contents.{Content}
-use Rattle.gd_model.specs.Objects.{have_parts, is_among, is_same_part, look_parts, old, or_whole, part_if, parts_of, put, with_link}
+use Rattle.gd_model.specs.Objects.{have_parts, is_among, is_same_part, look_parts, old, or_whole, part_if, parts_of}
+use Rattle.gd_model.specs.Objects.{put, with_link}
 use Rattle.gd_drawing.proofs.ContentLaws.{IsOver, old_tied, same_object}
 use Rattle.gd_drawing.proofs.Lookups.{cond_same}
 

@@ -1,5 +1,6 @@
 -- The drawing is the one whose order isn't read off ranks, but for the ranks that its objects have.
-use Rattle.std.proofs.Common.{◌≡◌, Bool, true, false, cond, not, ◌&&◌, List, [], ◌∷◌, ◌++◌, map, fold, Option, None, Some, refl, sym, ap, ◌∙◌, subst, T}
+use Rattle.std.proofs.Common.{◌≡◌, Bool, true, false, cond, not, ◌&&◌, List, [], ◌∷◌, ◌++◌, map, fold, Option, None}
+use Rattle.std.proofs.Common.{Some, refl, sym, ap, ◌∙◌, subst, T}
 use Rattle.std.specs.Prelude.{is_some, option_map, IsTrue}
 use Rattle.std.specs.List.{AllByRecursion as Every, filter, list_all}
 use Rattle.std.specs.FinMap as map_of
@@ -29,7 +30,8 @@ use Rattle.gd_model.specs.declared.form.Form.{Form}
 use Rattle.gd_model.specs.declared.form.Form.TheVariants.{Sets, Puts, Takes}
 use Rattle.gd_model.specs.Forms.{form}
 use Rattle.gd_model.specs.Objects.{fits, own_ties, put, set, tied_by}
-use Rattle.gd_model.specs.Drawing.{Drawing, has_id, find, is_there, at_id, without, placed, placed_if, first_tie, all_tied, draw, applied, picture, tied_from}
+use Rattle.gd_model.specs.Drawing.{Drawing, has_id, find, is_there, at_id, without, placed, placed_if, first_tie}
+use Rattle.gd_model.specs.Drawing.{all_tied, draw, applied, picture, tied_from}
 use Rattle.gd_model.specs.Board.{Board, levels, without_levels, board_with}
 use Rattle.gd_drawing.specs.Moves.{is_fresh, AreFresh, moved, moved_event, moved_picture, unranked}
 use Rattle.gd_drawing.proofs.Lookups.{at_same, cond_same, own_none}
@@ -332,5 +334,6 @@ module _ (r : Rank) where
       → unranked r (picture events) ≡ unranked r (moved_picture events)
   as_moved events fresh distinct =
       all_alike (ordered events) map_of.empty [] []
-      (Every-all_inserted (λ (e : Event). e.stamp) _ [] events tt fresh) nothing_stands (ready_at_start (ordered events))
+      (Every-all_inserted (λ (e : Event). e.stamp) _ [] events tt fresh) nothing_stands
+      (ready_at_start (ordered events))
       (rises-fold events [] tt (none_done events) distinct) refl

@@ -1,6 +1,7 @@
 -- What sound events before a stamp leave: the numbers of an object are in their ranges, and its id, rank, ends and link
 -- are before that stamp. It is so of the form of each such event, and of the board, field by field.
-use Rattle.std.proofs.Common.{◌≡◌, ◌≤◌, Bool, true, false, cond, not, ◌&&◌, ◌||◌, List, [], ◌∷◌, length, map, Option, None, Some, refl, sym, ap, ◌∙◌, subst, arith, le-leb}
+use Rattle.std.proofs.Common.{◌≡◌, ◌≤◌, Bool, true, false, cond, not, ◌&&◌, ◌||◌, List, [], ◌∷◌, length, map, Option}
+use Rattle.std.proofs.Common.{None, Some, refl, sym, ap, ◌∙◌, subst, arith, le-leb}
 use Rattle.std.specs.Prelude.{ℕ, ℤ, is_some, option_map, unwrap_or, IfSome, if◌then◌else◌, nat_le}
 use Rattle.std.specs.List.{AllByRecursion as Every, filter, list_all}
 use Rattle.std.specs.FinMap as map_of
@@ -12,7 +13,8 @@ use Rattle.gd_base.specs.Contents.{content_map, is_content, IsTypedBy}
 use Rattle.gd_base.specs.Kinds.{are_ends_of, is_label_of, most_ties}
 use Rattle.gd_base.specs.Labels.{IsLabel}
 use Rattle.gd_base.specs.Looks.{are_looks, are_numbers, given, has_look, instead, is_look, taken}
-use Rattle.gd_base.specs.Ranges.{place_limit, size_limit, is_within, is_colour, is_fill, is_letters, is_opacity, is_round, is_width}
+use Rattle.gd_base.specs.Ranges.{place_limit, size_limit, is_within, is_colour, is_fill, is_letters, is_opacity}
+use Rattle.gd_base.specs.Ranges.{is_round, is_width}
 use Rattle.gd_base.specs.Ranks.{given_at}
 use Rattle.gd_base.specs.Stamps.{Stamp, IsStamp, stamp_cmp, is_same, is_before}
 use Rattle.gd_base.specs.Typed.{AreEnds, IsLinked, IsObject}
@@ -36,13 +38,18 @@ use Rattle.gd_base.proofs.StampLemmas.{is_same-true, is_before-trans}
 use Rattle.gd_events.specs.Events.{Event}
 use Rattle.gd_events.specs.Ops.{Op, Done}
 use Rattle.gd_events.specs.Ordered.{ordered}
-use Rattle.gd_events.specs.Sound.{is_box_in_range, is_shift_in_range, is_link_in_range, is_of_kind, is_object_in_range, are_ties_in_range, is_in_range, has_members, is_between, are_ends_before, is_content_before, is_link_before, is_member_before, is_tie_before, are_ties_before, is_object_before, names_before, rise_above, has_rising_ids, IsHeight, AreTies, IsWellTyped, IsOp, IsSoundBefore, IsObjectBefore}
+use Rattle.gd_events.specs.Sound.{is_box_in_range, is_shift_in_range, is_link_in_range, is_of_kind, is_object_in_range}
+use Rattle.gd_events.specs.Sound.{are_ties_in_range, is_in_range, has_members, is_between, are_ends_before}
+use Rattle.gd_events.specs.Sound.{is_content_before, is_link_before, is_member_before, is_tie_before, are_ties_before}
+use Rattle.gd_events.specs.Sound.{is_object_before, names_before, rise_above, has_rising_ids, IsHeight, AreTies}
+use Rattle.gd_events.specs.Sound.{IsWellTyped, IsOp, IsSoundBefore, IsObjectBefore}
 use Rattle.gd_events.specs.declared.event.EventFault.{EventFault}
 use Rattle.gd_model.specs.Board.{Board, board_with, apply, apply_all, board}
 use Rattle.gd_model.specs.Contents.{Content}
 use Rattle.gd_model.specs.Drawing.{Drawing, find, first_tie, picture, tied_from}
 use Rattle.gd_model.specs.Forms.{rank_at, tie_of, member_ties, form}
-use Rattle.gd_model.specs.Objects.{new_connector, new_shape, new_group, fits, is_connector, is_drawn, own_ties, put, old, set, tied_by}
+use Rattle.gd_model.specs.Objects.{new_connector, new_shape, new_group, fits, is_connector, is_drawn, own_ties, put}
+use Rattle.gd_model.specs.Objects.{old, set, tied_by}
 use Rattle.gd_model.specs.Undoing.{Lookup}
 use Rattle.gd_model.specs.declared.form.Form.{Form}
 use Rattle.gd_model.specs.declared.form.Form.TheVariants.{Sets, Puts, Takes}

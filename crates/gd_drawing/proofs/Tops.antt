@@ -1,5 +1,6 @@
 -- A rank that an event gives of its own is above all, or below all, where all others were given before.
-use Rattle.std.proofs.Common.{◌≡◌, Bool, true, false, cond, ◌&&◌, List, [], ◌∷◌, ◌++◌, map, fold, Option, None, Some, refl, sym, ap, ◌∙◌, subst}
+use Rattle.std.proofs.Common.{◌≡◌, Bool, true, false, cond, ◌&&◌, List, [], ◌∷◌, ◌++◌, map, fold, Option, None, Some}
+use Rattle.std.proofs.Common.{refl, sym, ap, ◌∙◌, subst}
 use Rattle.std.specs.Prelude.{is_some, option_map}
 use Rattle.std.specs.List.{AllByRecursion as Every, filter}
 use Rattle.std.proofs.lemmas.Bool.{and_parts, cond_both}
@@ -24,7 +25,8 @@ use Rattle.gd_model.specs.declared.form.Form.{Form}
 use Rattle.gd_model.specs.declared.form.Form.TheVariants.{Sets, Puts, Takes}
 use Rattle.gd_model.specs.Forms.{form}
 use Rattle.gd_model.specs.Objects.{fits, own_ties, put, set, tied_by}
-use Rattle.gd_model.specs.Drawing.{Drawing, has_id, find, is_there, at_id, without, placed, placed_if, first_tie, all_tied, draw, applied, picture, tied_from}
+use Rattle.gd_model.specs.Drawing.{Drawing, has_id, find, is_there, at_id, without, placed, placed_if, first_tie}
+use Rattle.gd_model.specs.Drawing.{all_tied, draw, applied, picture, tied_from}
 use Rattle.gd_drawing.specs.Tops.{ranks_before, AreBefore}
 use Rattle.gd_drawing.proofs.RankLemmas.{below_high, above_low}
 use Rattle.gd_drawing.proofs.Stacking.{level_below}

@@ -1,5 +1,5 @@
--- The drawing as a list whose order isn't read off ranks: what is made and what is raised goes to the end, and what is lowered to
--- the front. It is so where nothing is put back as it was.
+-- The drawing as a list whose order isn't read off ranks: what is made and what is raised goes to the end, and what is
+-- lowered to the front. It is so where nothing is put back as it was.
 use Rattle.std.specs.Prelude.{◌≡◌, Bool, true, false, if◌then◌else◌, List, [], ◌∷◌, ◌++◌, map, fold}
 use Rattle.std.specs.List.{filter, AllByRecursion}
 use Rattle.gd_events.specs.Events.{Event}

@@ -59,7 +59,8 @@ IsToldOf other buffer = ⊥
 -- the same, or why there is no going on from a journal, whose first fault is told in a buffer, where that has room
 abbrev pub OpenIs : ℕ → ℕ → ℕ → List ℕ → Buffer → Result (Box Held Global) Fault → Type 0
 OpenIs me sites session journal buffer (Ok held) =
-    IsPlace me sites × (OpenedIs me sites session (found (node_header me sites session) journal) held.value × (buffer.new ≡ buffer.old))
+    IsPlace me sites × (OpenedIs me sites session (found (node_header me sites session) journal) held.value
+    × (buffer.new ≡ buffer.old))
 OpenIs me sites session journal buffer (Err fault.BadJournal) =
     IsToldOf (found (node_header me sites session) journal) buffer
 OpenIs me sites session journal buffer (Err fault.OtherJournal) =
@@ -77,6 +78,8 @@ held_of (Ok held) = Some held.value
 held_of (Err why) = None
 
 -- A handle that isn't empty says so, and all stays, `quiet` besides. Into an empty one is put what there is to be put.
-pub record Puts (quiet : Type 0) (P : Result (Box Held Global) Fault → Type 0) (old : Option Held) (answer : ℤ) (new : Option Held) : Type 0 where
+pub record Puts (quiet : Type 0) (P : Result (Box Held Global) Fault → Type 0) (old : Option Held) (answer : ℤ)
+    (new : Option Held) : Type 0 where
   pub occupied : (held : Held) → old ≡ Some held → (answer ≡ coded (Err fault.Occupied)) × ((new ≡ old) × quiet)
-  pub empty : old ≡ None → (r : Result (Box Held Global) Fault) × (P r × ((answer ≡ coded (done_of r)) × (new ≡ held_of r)))
+  pub empty : old ≡ None
+      → (r : Result (Box Held Global) Fault) × (P r × ((answer ≡ coded (done_of r)) × (new ≡ held_of r)))

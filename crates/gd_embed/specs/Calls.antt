@@ -10,7 +10,8 @@ use Rattle.gd_member.specs.Members.{IsLive}
 use Rattle.gd_member.specs.Standing.{Stands}
 use Rattle.gd_reference.specs.SlowSite.{SlowSite}
 
--- a call of what stands for a reference site, of whose events the journal has these: what it answers, and what then is there
+-- a call of what stands for a reference site, of whose events the journal has these: what it answers, and what then is
+-- there
 abbrev pub Call : Type 1
 Call = SlowSite → List Event → Held → Result ℤ Fault → Held → Type 0
 
@@ -18,11 +19,12 @@ Call = SlowSite → List Event → Held → Result ℤ Fault → Held → Type 0
 abbrev pub Calls : Call → Held → Result ℤ Fault → Held → Type 0
 Calls P old r new = (slow : SlowSite) (written : List Event) → Stands slow written old.member → P slow written old r new
 
--- Of a handle that is empty, and of a member that is spent, it answers that alone; all stays as it was, `quiet` besides. Else it is a
--- call of the member.
+-- Of a handle that is empty, and of a member that is spent, it answers that alone; all stays as it was, `quiet`
+-- besides. Else it is a call of the member.
 pub record Answers (quiet : Type 0) (P : Call) (old : Option Held) (answer : ℤ) (new : Option Held) : Type 0 where
   pub empty : old ≡ None → (answer ≡ coded (Err Empty)) × ((new ≡ None) × quiet)
-  pub spent : (held : Held) → old ≡ Some held → held.member.spent ≡ true → (answer ≡ coded (Err Spent)) × ((new ≡ old) × quiet)
+  pub spent : (held : Held) → old ≡ Some held → held.member.spent ≡ true
+      → (answer ≡ coded (Err Spent)) × ((new ≡ old) × quiet)
   pub live : (held : Held) → old ≡ Some held → IsLive held.member
       → (r : Result ℤ Fault) × (answer ≡ coded r) × (later : Held) × (new ≡ Some later) × Calls P held r later
 

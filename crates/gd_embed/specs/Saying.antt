@@ -1,6 +1,7 @@
 -- Calls that have a member say something.
 use Rattle.std.specs.List.{concat, flat_map}
-use Rattle.std.specs.Prelude.{◌≡◌, ◌≢◌, ℕ, ℤ, pos, true, false, IsTrue, [], List, Option, Some, None, Result, Ok, Err, length}
+use Rattle.std.specs.Prelude.{◌≡◌, ◌≢◌, ℕ, ℤ, pos, true, false, IsTrue, [], List, Option, Some, None, Result, Ok, Err}
+use Rattle.std.specs.Prelude.{length}
 use Rattle.gd_embed.specs.Calls.{Call}
 use Rattle.gd_embed.specs.declared.answers.Fault.{Fault}
 use Rattle.gd_embed.specs.declared.answers.Fault.TheVariants as fault
@@ -68,7 +69,8 @@ GestureIs lines slow written old (Ok count) new =
 GestureIs lines slow written old (Err fault.NoMemory) new = new.member.spent ≡ true
 GestureIs lines slow written old (Err other) new = ⊥
 
--- A datagram is taken, where it is a frame that the reference site takes, or refused, and what there is to say of it is said.
+-- A datagram is taken, where it is a frame that the reference site takes, or refused, and what there is to say of it is
+-- said.
 abbrev pub TakeIs : List ℕ → Call
 TakeIs datagram slow written old (Ok count) new =
     ((from : ℕ) × (sender slow datagram ≡ Some from))

@@ -1,5 +1,6 @@
 -- Calls that write what there is.
-use Rattle.std.specs.Prelude.{◌≡◌, ◌≢◌, ◌<◌, true, false, IsTrue, ℕ, ℤ, pos, List, [], ◌∷◌, ◌++◌, Option, Some, None, Result, Ok, Err, length}
+use Rattle.std.specs.Prelude.{◌≡◌, ◌≢◌, ◌<◌, true, false, IsTrue, ℕ, ℤ, pos, List, [], ◌∷◌, ◌++◌, Option, Some, None}
+use Rattle.std.specs.Prelude.{Result, Ok, Err, length}
 use Rattle.gd_embed.specs.Buffers.{FillIs}
 use Rattle.gd_embed.specs.Calls.{Call}
 use Rattle.gd_embed.specs.Records.{StatusIs}
@@ -71,7 +72,8 @@ StandingIs standing slow written old (Err other) new = ⊥
 
 -- at which count of a site's events the member has parted from it
 abbrev pub PartedIs : ℕ → Call
-PartedIs site slow written old (Ok count) new = (new ≡ old) × ((at : ℕ) × ((slow.parted site ≡ Some at) × (count ≡ pos at)))
+PartedIs site slow written old (Ok count) new = (new ≡ old)
+    × ((at : ℕ) × ((slow.parted site ≡ Some at) × (count ≡ pos at)))
 PartedIs site slow written old (Err fault.NotParted) new = (new ≡ old) × (slow.parted site ≡ None)
 PartedIs site slow written old (Err fault.NoSite) new = (new ≡ old) × (is_site slow.sites site ≡ false)
 PartedIs site slow written old (Err other) new = ⊥

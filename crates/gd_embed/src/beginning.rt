@@ -25,8 +25,8 @@ pub fn begun(alloc: Global, me: u8, sites: u8, session: u32) -> Result<Box<Held>
     }
 }
 
-/// The member that goes on from a journal's bytes, or why there is none: the line of `BadJournal` is written to `why`, where that has
-/// room.
+/// The member that goes on from a journal's bytes, or why there is none: the line of `BadJournal` is written to `why`,
+/// where that has room.
 pub fn opened<L: Ledger>(
     alloc: Global,
     journal: &[u8],

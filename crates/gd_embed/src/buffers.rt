@@ -5,8 +5,8 @@ ghost use Rattle.gd_embed.specs.Buffers.{FillIs};
 use crate::answers::Fault;
 use std::alloc::{AllocError, Global};
 
-/// Writes bytes to a buffer where it has room for them, and says how many there are in any case. `Room` where it hasn't, and then it
-/// stays as it was.
+/// Writes bytes to a buffer where it has room for them, and says how many there are in any case. `Room` where it
+/// hasn't, and then it stays as it was.
 pub fn fill(bytes: &[u8], out: &mut [u8], needed: &mut u64) -> Result<i64, Fault>
     ensures fills { FillIs bytes.now out.old result out.new }
     ensures needed { needed.new ≡ length bytes.now }

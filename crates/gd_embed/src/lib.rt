@@ -44,8 +44,8 @@ use std::alloc::Global;
 use std::marker::Brand;
 use std::sync::ledger::Blank;
 
-/// Puts a new member into an empty handle: site `me` of a session of `sites`. 0, or `Occupied`, `NoSite`, `NoMemory`, and then the
-/// handle stays as it was.
+/// Puts a new member into an empty handle: site `me` of a session of `sites`. 0, or `Occupied`, `NoSite`, `NoMemory`,
+/// and then the handle stays as it was.
 #[unsafe(no_mangle)]
 pub extern "C" fn gd_new(alloc: Global, member: &mut Slot, me: u8, sites: u8, session: u32) -> i64
     ensures { Puts (Unit {0}) (NewIs me sites session) member.old.handle.value result
@@ -64,8 +64,8 @@ pub extern "C" fn gd_new(alloc: Global, member: &mut Slot, me: u8, sites: u8, se
 }
 
 /// Puts the member into an empty handle that goes on from a journal's bytes. 0, or `Occupied`, `NoSite`, `BadJournal`,
-/// `OtherJournal`, `NoMemory`, and then the handle stays as it was. At `BadJournal` the first fault is written to `why`, if that has
-/// room.
+/// `OtherJournal`, `NoMemory`, and then the handle stays as it was. At `BadJournal` the first fault is written to
+/// `why`, if that has room.
 #[unsafe(no_mangle)]
 pub extern "C" fn gd_open(
     alloc: Global,
@@ -161,8 +161,9 @@ pub extern "C" fn gd_take(alloc: Global, member: &mut Slot, datagram: &[u8]) -> 
     code(answer)
 }
 
-/// Writes a frame for site `to`, behind so many of the own events or those that it has acknowledged, and raises `behind` to how many
-/// it has then. The frame's bytes, or `Empty`, `Spent`, `NoSite`, `Unwritten`, `Room`, and then `behind` is as it was.
+/// Writes a frame for site `to`, behind so many of the own events or those that it has acknowledged, and raises
+/// `behind` to how many it has then. The frame's bytes, or `Empty`, `Spent`, `NoSite`, `Unwritten`, `Room`, and then
+/// `behind` is as it was.
 #[unsafe(no_mangle)]
 pub extern "C" fn gd_frame(
     alloc: Global,
@@ -305,8 +306,8 @@ pub extern "C" fn gd_snapshot(alloc: Global, member: &mut Slot) -> i64
     code(answer)
 }
 
-/// Has the member say the events of its journal's bytes as JSON. The bytes of that, or `Empty`, `Spent`, `BadJournal`, whose line is said,
-/// `OtherJournal`, `NoMemory`.
+/// Has the member say the events of its journal's bytes as JSON. The bytes of that, or `Empty`, `Spent`, `BadJournal`,
+/// whose line is said, `OtherJournal`, `NoMemory`.
 #[unsafe(no_mangle)]
 pub extern "C" fn gd_events(alloc: Global, member: &mut Slot, journal: &[u8]) -> i64
     ensures { Answers (Unit {0}) (EventsIs journal.now) member.old.handle.value result
@@ -336,8 +337,8 @@ pub extern "C" fn gd_status(alloc: Global, member: &mut Slot, out: &mut Standing
     code(answer)
 }
 
-/// Hands out the newest note of a site, and has the member say its name. The bytes of the name, or `Empty`, `Spent`, `NoSite`,
-/// `NoNote`, `NoMemory`.
+/// Hands out the newest note of a site, and has the member say its name. The bytes of the name, or `Empty`, `Spent`,
+/// `NoSite`, `NoNote`, `NoMemory`.
 #[unsafe(no_mangle)]
 pub extern "C" fn gd_note(alloc: Global, member: &mut Slot, site: u8, out: &mut Noted) -> i64
     ensures { Answers (out.new ≡ out.old) (NoteAnswerIs site out.old out.new)

@@ -4,8 +4,8 @@ ghost use Rattle.gd_embed.specs.Records.{StatusIs, NoteIs};
 
 use gd_base::{Note, SiteStatus};
 
-/// Where a member stands: how many events it holds, how many of them may still be reordered, its line, its clock, and from how many
-/// sites it has parted.
+/// Where a member stands: how many events it holds, how many of them may still be reordered, its line, its clock, and
+/// from how many sites it has parted.
 #[repr(C)]
 #[derive(Clone, Copy)]
 pub struct Standing {

@@ -75,7 +75,8 @@ impl Slot {
         *self = Slot::of(held);
     }
 
-    /// Takes out a member that isn't spent, to be put back. `Empty` where there is none, and `Spent` where it is, and then it stays.
+    /// Takes out a member that isn't spent, to be put back. `Empty` where there is none, and `Spent` where it is, and
+    /// then it stays.
     pub fn lend(&mut self, alloc: Global) -> Result<Box<Held>, Fault>
         ensures { LentIs self.old.handle.value result self.new.handle.value }
     {

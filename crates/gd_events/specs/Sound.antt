@@ -1,8 +1,9 @@
--- Which events are sound: the number is at least 1, the fields are in their ranges, a group has at least 2 members and what is
--- disbanded at least 1 tie, the label of a group is a title, a connector has ends, only a group is restored with ties, every id
--- that the operation names and every stamp of a rank is before the event's own stamp, a link leads to a greater id than that of
--- its object, and the ids of members and of ties rise.
-use Rattle.std.specs.Prelude.{◌≡◌, ℤ, Bool, true, ◌&&◌, not, ◌==◌, nat_le, if◌then◌else◌, Option, Some, None, ◌≤◌, List, [], ◌∷◌, length, map}
+-- Which events are sound: the number is at least 1, the fields are in their ranges, a group has at least 2 members and
+-- what is disbanded at least 1 tie, the label of a group is a title, a connector has ends, only a group is restored
+-- with ties, every id that the operation names and every stamp of a rank is before the event's own stamp, a link leads
+-- to a greater id than that of its object, and the ids of members and of ties rise.
+use Rattle.std.specs.Prelude.{◌≡◌, ℤ, Bool, true, ◌&&◌, not, ◌==◌, nat_le, if◌then◌else◌, Option, Some, None, ◌≤◌, List}
+use Rattle.std.specs.Prelude.{[], ◌∷◌, length, map}
 use Rattle.std.specs.List.{list_all}
 use Rattle.gd_base.specs.Contents.{is_content, IsTypedBy}
 use Rattle.gd_base.specs.Kinds.{are_ends_of, is_label_of, most_ties}
@@ -32,7 +33,8 @@ use Rattle.gd_events.specs.Events.{Event, IsSoundWith}
 
 -- a box of that place and size
 abbrev pub is_box_in_range : ℤ → ℤ → ℤ → ℤ → Bool
-is_box_in_range x y w h = is_within place_limit x && (is_within place_limit y && (is_within size_limit w && is_within size_limit h))
+is_box_in_range x y w h = is_within place_limit x
+    && (is_within place_limit y && (is_within size_limit w && is_within size_limit h))
 
 abbrev pub is_shift_in_range : Member → Bool
 is_shift_in_range m = is_within place_limit m.dx && is_within place_limit m.dy
@@ -61,7 +63,8 @@ is_in_range (Connect ends label) = true
 is_in_range (Restore id object ties) = is_object_in_range object && are_ties_in_range ties
 is_in_range (Disband id ties) = are_ties_in_range ties
 
--- a group has at least 2 members, and what is disbanded at least 1 tie: without any it is deleted; and only a group ties others
+-- a group has at least 2 members, and what is disbanded at least 1 tie: without any it is deleted; and only a group
+-- ties others
 abbrev pub has_members : Op → Bool
 has_members (Group members) = nat_le 2 (length members)
 has_members (Disband id ties) = nat_le 1 (length ties)
@@ -104,7 +107,8 @@ are_ties_before stamp ties = list_all (is_tie_before stamp) ties
 
 abbrev pub is_object_before : Stamp → Stamp → Object → Bool
 is_object_before stamp id o =
-    is_before id stamp && (is_before (given_at o.rank) stamp && (are_ends_before stamp o.ends && is_link_before stamp id o.link))
+    is_before id stamp &&
+    (is_before (given_at o.rank) stamp && (are_ends_before stamp o.ends && is_link_before stamp id o.link))
 
 -- the ids that the operation names, and the stamps of its ranks, are before the stamp
 abbrev pub names_before : Stamp → Op → Bool

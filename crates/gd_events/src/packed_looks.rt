@@ -5,7 +5,8 @@ use gd_base::Looks;
 use std::alloc::{AllocError, Global};
 use std::marker::Model;
 
-/// What is set of a look, which contracts see as the looks. A lone stroke, fill or width, as most are, takes no memory of its own.
+/// What is set of a look, which contracts see as the looks. A lone stroke, fill or width, as most are, takes no memory
+/// of its own.
 #[derive(Drop)]
 pub struct PackedLooks {
     kept: Packing,

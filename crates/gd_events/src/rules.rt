@@ -6,8 +6,10 @@ ghost use Rattle.gd_base.specs.Ranks.{given_at};
 ghost use Rattle.gd_base.specs.Stamps as stamps;
 ghost use Rattle.gd_events.specs.Sound.{is_shift_in_range, is_link_in_range, is_box_in_range};
 ghost use Rattle.gd_events.specs.Sound.{is_object_in_range, is_of_kind, are_ties_in_range, is_in_range, has_members};
-ghost use Rattle.gd_events.specs.Sound.{is_content_before, is_link_before, is_member_before, is_tie_before, are_ties_before};
-ghost use Rattle.gd_events.specs.Sound.{are_ends_before, is_between, is_object_before, names_before, is_above, rise_above, has_rising_ids};
+ghost use Rattle.gd_events.specs.Sound.{is_content_before, is_link_before, is_member_before, is_tie_before};
+ghost use Rattle.gd_events.specs.Sound.{are_ties_before};
+ghost use Rattle.gd_events.specs.Sound.{are_ends_before, is_between, is_object_before, names_before, is_above};
+ghost use Rattle.gd_events.specs.Sound.{rise_above, has_rising_ids};
 
 use crate::op::Op;
 use gd_base::{

@@ -1,5 +1,6 @@
 -- Of what a label holds, quotes, backslashes and line feeds alone are escaped.
-use Rattle.std.proofs.Common.{◌≡◌, ◌≤◌, ◌<◌, ℕ, Bool, true, false, cond, ◌||◌, List, [], ◌∷◌, ◌++◌, refl, sym, ap, ap₂, ◌∙◌, subst, arith, eqb, ne_eqb, nat_lt, nat_le, le-ltb, lt-ltb, ◌+◌, ◌/◌, ◌%◌, zero, suc}
+use Rattle.std.proofs.Common.{◌≡◌, ◌≤◌, ◌<◌, ℕ, Bool, true, false, cond, ◌||◌, List, [], ◌∷◌, ◌++◌, refl, sym, ap, ap₂}
+use Rattle.std.proofs.Common.{◌∙◌, subst, arith, eqb, ne_eqb, nat_lt, nat_le, le-ltb, lt-ltb, ◌+◌, ◌/◌, ◌%◌, zero, suc}
 use Rattle.std.specs.Prelude.{chars, codes, decimal, flat_map, not, ◌&&◌, ◌==◌}
 use Rattle.std.specs.Fmt.{digits, digits_onto, digit_glyph}
 use Rattle.std.specs.List.{list_any}
@@ -55,21 +56,27 @@ more : (b : ℕ) (bs : List ℕ) → 32 ≤ b → escape bs ≡ flat_map marked 
 more b bs h k = ap₂ (λ (x y : List ℕ). x ++ y) (marks b h) k
 
 -- a character that is no control character has no byte below 32
-of_char_by : (x y z : Bool) (c a1 a2 b1 b2 b3 d1 d2 d3 d4 : ℕ) → 32 ≤ c → 32 ≤ a1 → 32 ≤ a2 → 32 ≤ b1 → 32 ≤ b2 → 32 ≤ b3 → 32 ≤ d1 → 32 ≤ d2 → 32 ≤ d3 → 32 ≤ d4
-    → let bytes : List ℕ = cond x (c ∷ []) (cond y (a1 ∷ a2 ∷ []) (cond z (b1 ∷ b2 ∷ b3 ∷ []) (d1 ∷ d2 ∷ d3 ∷ d4 ∷ []))) in
+of_char_by : (x y z : Bool) (c a1 a2 b1 b2 b3 d1 d2 d3 d4 : ℕ) → 32 ≤ c → 32 ≤ a1 → 32 ≤ a2 → 32 ≤ b1 → 32 ≤ b2
+    → 32 ≤ b3 → 32 ≤ d1 → 32 ≤ d2 → 32 ≤ d3 → 32 ≤ d4
+    → let bytes : List ℕ = cond x (c ∷ []) (cond y (a1 ∷ a2 ∷ []) (cond z (b1 ∷ b2 ∷ b3 ∷ []) (d1 ∷ d2 ∷ d3 ∷ d4 ∷ [])))
+    in
     escape bytes ≡ flat_map marked bytes
 of_char_by true y z c a1 a2 b1 b2 b3 d1 d2 d3 d4 h ha1 ha2 hb1 hb2 hb3 hd1 hd2 hd3 hd4 = one c h
-of_char_by false true z c a1 a2 b1 b2 b3 d1 d2 d3 d4 h ha1 ha2 hb1 hb2 hb3 hd1 hd2 hd3 hd4 = more a1 (a2 ∷ []) ha1 (one a2 ha2)
-of_char_by false false true c a1 a2 b1 b2 b3 d1 d2 d3 d4 h ha1 ha2 hb1 hb2 hb3 hd1 hd2 hd3 hd4 = more b1 (b2 ∷ b3 ∷ []) hb1 (more b2 (b3 ∷ []) hb2 (one b3 hb3))
+of_char_by false true z c a1 a2 b1 b2 b3 d1 d2 d3 d4 h ha1 ha2 hb1 hb2 hb3 hd1 hd2 hd3 hd4
+    = more a1 (a2 ∷ []) ha1 (one a2 ha2)
+of_char_by false false true c a1 a2 b1 b2 b3 d1 d2 d3 d4 h ha1 ha2 hb1 hb2 hb3 hd1 hd2 hd3 hd4
+    = more b1 (b2 ∷ b3 ∷ []) hb1 (more b2 (b3 ∷ []) hb2 (one b3 hb3))
 of_char_by false false false c a1 a2 b1 b2 b3 d1 d2 d3 d4 h ha1 ha2 hb1 hb2 hb3 hd1 hd2 hd3 hd4 =
     more d1 (d2 ∷ d3 ∷ d4 ∷ []) hd1 (more d2 (d3 ∷ d4 ∷ []) hd2 (more d3 (d4 ∷ []) hd3 (one d4 hd4)))
 
 of_char : (c : ℕ) → 32 ≤ c → escape (encode c) ≡ flat_map marked (encode c)
 unfolding encode
 of_char c h =
-    of_char_by (nat_lt c 128) (nat_lt c 2048) (nat_lt c 65536) c (192 + c / 64) (128 + c % 64) (224 + c / 4096) (128 + c / 64 % 64) (128 + c % 64)
+    of_char_by (nat_lt c 128) (nat_lt c 2048) (nat_lt c 65536) c (192 + c / 64) (128 + c % 64) (224 + c / 4096)
+    (128 + c / 64 % 64) (128 + c % 64)
     (240 + c / 262144) (128 + c / 4096 % 64) (128 + c / 64 % 64) (128 + c % 64) h
-    (omega arith) (omega arith) (omega arith) (omega arith) (omega arith) (omega arith) (omega arith) (omega arith) (omega arith)
+    (omega arith) (omega arith) (omega arith) (omega arith) (omega arith) (omega arith) (omega arith) (omega arith)
+    (omega arith)
 
 above_by : (c : ℕ) (t : Bool) → nat_lt c 32 ≡ t → (t || (nat_le 127 c && nat_lt c 160)) ≡ false → 32 ≤ c
 above_by c true e h = absurd cc
@@ -161,13 +168,15 @@ glyph : (d : ℕ) → d < 10 → digit_glyph false d ≡ 48 + d
 glyph d h = let e : nat_lt d 10 ≡ true = lt-ltb d 10 h in rw e refl
 
 quiet_digit : (d : ℕ) (text : List ℕ) → d < 10 → IsQuiet text → IsQuiet (digit_glyph false d ∷ text)
-quiet_digit d text h q = subst (λ (b : ℕ). IsQuiet (b ∷ text)) (sym (glyph d h)) (quiet_byte (48 + d) text (omega arith) (omega arith) q)
+quiet_digit d text h q
+    = subst (λ (b : ℕ). IsQuiet (b ∷ text)) (sym (glyph d h)) (quiet_byte (48 + d) text (omega arith) (omega arith) q)
 
 quiet_digits : (k n : ℕ) (text : List ℕ) → IsQuiet text → IsQuiet (digits_onto k 10 false n text)
 quiet_digits zero n text q = q
 quiet_digits (suc k) n text q =
     let one : IsQuiet (digit_glyph false (n % 10) ∷ text) = quiet_digit (n % 10) text (omega arith) q in
-    quiet_by (eqb (n / 10) 0) (digit_glyph false (n % 10) ∷ text) (digits_onto k 10 false (n / 10) (digit_glyph false (n % 10) ∷ text)) one
+    quiet_by (eqb (n / 10) 0) (digit_glyph false (n % 10) ∷ text)
+    (digits_onto k 10 false (n / 10) (digit_glyph false (n % 10) ∷ text)) one
     (quiet_digits k (n / 10) (digit_glyph false (n % 10) ∷ text) one)
 
 quiet_decimal : (n : ℕ) → IsQuiet (decimal n)
@@ -178,7 +187,8 @@ pub quiet_id : (id : Stamp) → IsQuiet (id_text id)
 unfolding id_text
 quiet_id id =
     quiet_then (decimal id.clock ++ codes ".") (decimal id.site)
-    (quiet_then (decimal id.clock) (codes ".") (quiet_decimal id.clock) (quiet_byte 46 [] (omega arith) (omega arith) refl)) (quiet_decimal id.site)
+    (quiet_then (decimal id.clock) (codes ".") (quiet_decimal id.clock)
+    (quiet_byte 46 [] (omega arith) (omega arith) refl)) (quiet_decimal id.site)
 
 hex_by : (t : Bool) (d : ℕ) (text : List ℕ) → d < 16 → IsQuiet text → IsQuiet (cond t (48 + d) (55 + d) ∷ text)
 hex_by true d text h q = quiet_byte (48 + d) text (omega arith) (omega arith) q
@@ -195,14 +205,17 @@ quiet_nibble number weight text q = quiet_hex (number / weight % 16) text (omega
 quiet_high : (c : ℕ) → IsQuiet (high_digits c)
 unfolding high_digits
 quiet_high c =
-    quiet_by (nat_le 0x10000000 c) (nibble c 0x10000000 ∷ nibble c 0x1000000 ∷ []) (cond (nat_le 0x1000000 c) (nibble c 0x1000000 ∷ []) [])
+    quiet_by (nat_le 0x10000000 c) (nibble c 0x10000000 ∷ nibble c 0x1000000 ∷ [])
+    (cond (nat_le 0x1000000 c) (nibble c 0x1000000 ∷ []) [])
     (quiet_nibble c 0x10000000 (nibble c 0x1000000 ∷ []) (quiet_nibble c 0x1000000 [] refl))
     (quiet_by (nat_le 0x1000000 c) (nibble c 0x1000000 ∷ []) [] (quiet_nibble c 0x1000000 [] refl) refl)
 
 pub quiet_colour : (c : ℕ) → IsQuiet (colour_text c)
 unfolding colour_text
 quiet_colour c =
-    quiet_then (high_digits c) (nibble c 0x100000 ∷ nibble c 0x10000 ∷ nibble c 0x1000 ∷ nibble c 0x100 ∷ nibble c 0x10 ∷ nibble c 1 ∷ []) (quiet_high c)
+    quiet_then (high_digits c)
+    (nibble c 0x100000 ∷ nibble c 0x10000 ∷ nibble c 0x1000 ∷ nibble c 0x100 ∷ nibble c 0x10 ∷ nibble c 1 ∷ [])
+    (quiet_high c)
     (quiet_nibble c 0x100000 (nibble c 0x10000 ∷ nibble c 0x1000 ∷ nibble c 0x100 ∷ nibble c 0x10 ∷ nibble c 1 ∷ [])
     (quiet_nibble c 0x10000 (nibble c 0x1000 ∷ nibble c 0x100 ∷ nibble c 0x10 ∷ nibble c 1 ∷ [])
     (quiet_nibble c 0x1000 (nibble c 0x100 ∷ nibble c 0x10 ∷ nibble c 1 ∷ [])

@@ -13,10 +13,10 @@ use std::alloc::{AllocError, Global};
 
 /// The events as one line of compact JSON: an array with an object for each event in the list's order, and LF.
 ///
-/// The keys stand in the order of their bytes: `clock`, `op`, `seq` and `site`, and the keys of the operation between and
-/// behind them. Ids, kinds and colours are strings as in the printed lines, and no fill is null. Events are written one
-/// after another, so that memory is taken for the text and for one event. `AllocError` where memory ran out; no other
-/// error comes.
+/// The keys stand in the order of their bytes: `clock`, `op`, `seq` and `site`, and the keys of the operation between
+/// and behind them. Ids, kinds and colours are strings as in the printed lines, and no fill is null. Events are written
+/// one after another, so that memory is taken for the text and for one event. `AllocError` where memory ran out; no
+/// other error comes.
 pub fn events_json(alloc: Global, events: &EventList) -> Result<JsonText, AllocError>
     ensures { IfOk result (λ line. line ≡ events_json events.now) }
 {

@@ -4,7 +4,8 @@
 ghost use Rattle.std.specs.Prelude.{◌≡◌, OnOk, codes, decimal, true};
 ghost use Rattle.gd_export.specs.Texts.{is_quiet};
 ghost use Rattle.gd_json.specs.EventsJson.{looks_fields, part_field};
-ghost use Rattle.gd_json.specs.Parts.{align_field, align_or_null, colour_json, colour_or_null, dash_field, dash_json, heads_field, heads_json};
+ghost use Rattle.gd_json.specs.Parts.{align_field, align_or_null, colour_json, colour_or_null, dash_field, dash_json};
+ghost use Rattle.gd_json.specs.Parts.{heads_field, heads_json};
 ghost use Rattle.gd_json.specs.Parts.{letters_field, number_or_null, opacity_field, round_field, style_fields};
 ghost use Rattle.gd_json.specs.Values.{put_all, put_field};
 

@@ -2,7 +2,8 @@
 
 ghost use Rattle.std.specs.Prelude.{◌≡◌, [], ◌∷◌, IfOk, OnOk, codes, map, true};
 ghost use Rattle.gd_export.specs.Texts.{is_quiet};
-ghost use Rattle.gd_json.specs.EventsJson.{ends_fields, kind_or_group, link_json, object_fields, rank_json, state_of, tie_json};
+ghost use Rattle.gd_json.specs.EventsJson.{ends_fields, kind_or_group, link_json, object_fields, rank_json, state_of};
+ghost use Rattle.gd_json.specs.EventsJson.{tie_json};
 ghost use Rattle.gd_json.specs.Parts.{two};
 ghost use Rattle.gd_json.specs.Values.{array, put_all, put_field, quoted};
 

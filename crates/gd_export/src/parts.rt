@@ -1,10 +1,11 @@
-//! The fields that drawings and events have in common. An id, a kind and a colour are strings, as in the printed lines; no
-//! parent and no fill are null.
+//! The fields that drawings and events have in common. An id, a kind and a colour are strings, as in the printed lines;
+//! no parent and no fill are null.
 
 ghost use Rattle.std.specs.Prelude.{◌≡◌, OnOk, codes, decimal, true};
 ghost use Rattle.std.specs.Fmt.{signed_decimal};
 ghost use Rattle.gd_export.specs.Texts.{is_quiet};
-ghost use Rattle.gd_json.specs.Parts.{colour_json, colour_or_null, dash_json, heads_json, id_json, id_or_null, kind_json, two};
+ghost use Rattle.gd_json.specs.Parts.{colour_json, colour_or_null, dash_json, heads_json, id_json, id_or_null};
+ghost use Rattle.gd_json.specs.Parts.{kind_json, two};
 ghost use Rattle.gd_base.specs.Labels.{IsLabel};
 ghost use Rattle.gd_json.specs.EventsJson.{both_fields};
 ghost use Rattle.gd_lines.specs.Text.{align_word};

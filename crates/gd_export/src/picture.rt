@@ -15,8 +15,9 @@ use std::alloc::{AllocError, Global};
 /// The drawing as one line of compact JSON: an array with an object for each item in printed order, and LF.
 ///
 /// The keys stand in the order of their bytes. Ids, kinds and colours are strings as in the printed lines, places and
-/// sizes arrays of two numbers, and where there is no parent or no fill stands null. Items are written one after another,
-/// so that memory is taken for the text and for one item. `AllocError` where memory ran out; no other error comes.
+/// sizes arrays of two numbers, and where there is no parent or no fill stands null. Items are written one after
+/// another, so that memory is taken for the text and for one item. `AllocError` where memory ran out; no other error
+/// comes.
 pub fn picture_json(alloc: Global, picture: &Picture) -> Result<JsonText, AllocError>
     ensures { IfOk result (λ line. line ≡ picture_json picture.now) }
 {

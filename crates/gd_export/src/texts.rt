@@ -53,7 +53,8 @@ fn push_high_digits(text: &mut String, colour: u32) -> Result<(), AllocError>
 /// Puts the digit of that weight last.
 fn push_digit(text: &mut String, colour: u32, weight: u32) -> Result<(), AllocError>
     requires { 0 < weight }
-    ensures { OnOk result (string_bytes text.new ≡ string_bytes text.old ++ nibble colour weight ∷ []) }
+    ensures { OnOk result
+        (string_bytes text.new ≡ string_bytes text.old ++ nibble colour weight ∷ []) }
 {
     text.push(char::from(nibble(colour, weight)))
 }

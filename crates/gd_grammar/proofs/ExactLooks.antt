@@ -1,5 +1,6 @@
 -- A look, and what is set of looks, are read where their bytes stand, and nowhere else.
-use Rattle.std.proofs.Common.{◌≡◌, ℕ, ◌<◌, ◌^◌, Bool, true, false, cond, List, [], ◌∷◌, ◌++◌, Option, Some, None, Ok, refl, sym, eq-eqb, eqb-true, arith}
+use Rattle.std.proofs.Common.{◌≡◌, ℕ, ◌<◌, ◌^◌, Bool, true, false, cond, List, [], ◌∷◌, ◌++◌, Option, Some, None, Ok}
+use Rattle.std.proofs.Common.{refl, sym, eq-eqb, eqb-true, arith}
 use Rattle.std.specs.Prelude.{◌==◌, nat_le, unwrap_or}
 use Rattle.std.proofs.lemmas.Bool.{leb-true, and_parts}
 use Rattle.std.proofs.lemmas.Bool.Decides.{nat_tests}
@@ -18,7 +19,10 @@ use Rattle.gd_base.specs.declared.look.Looks.{Looks}
 use Rattle.gd_grammar.specs.Exact.{Exact}
 use Rattle.gd_grammar.specs.FieldBytes.{word_bytes}
 use Rattle.gd_grammar.specs.Fields.{byte_at}
-use Rattle.gd_grammar.specs.LookBytes.{none_or, thin_at, dash_rows, dash_at, heads_rows, heads_at, round_at, opacity_at, letters_at, align_rows, align_at, look_at, set_rows, if_set, all_looks_at, fill_bytes, dash_byte, heads_byte, round_bytes, letters_bytes, align_byte, look_bytes, set_bytes, single, looks_bytes}
+use Rattle.gd_grammar.specs.LookBytes.{none_or, thin_at, dash_rows, dash_at, heads_rows, heads_at, round_at, opacity_at}
+use Rattle.gd_grammar.specs.LookBytes.{letters_at, align_rows, align_at, look_at, set_rows, if_set, all_looks_at}
+use Rattle.gd_grammar.specs.LookBytes.{fill_bytes, dash_byte, heads_byte, round_bytes, letters_bytes, align_byte}
+use Rattle.gd_grammar.specs.LookBytes.{look_bytes, set_bytes, single, looks_bytes}
 use Rattle.gd_grammar.specs.Reading.{Reader, ranged, then_at}
 use Rattle.gd_base.specs.Results.{◌>>=◌}
 use Rattle.gd_grammar.specs.Readers.{steps}
@@ -32,11 +36,13 @@ use Rattle.gd_grammar.proofs.SoundLooks.{IsLooked, AreSet}
 
 exact_thin : Exact thin_at (λ n. is_width n ≡ true) (single (λ n. n))
 unfolding thin_at then_at
-exact_thin = exact_field exact_byte (λ n. n) (λ n. n) is_width Field (λ n. is_width n ≡ true) (λ n s. (tt, refl, s)) (λ n u are t. (t, refl))
+exact_thin = exact_field exact_byte (λ n. n) (λ n. n) is_width Field (λ n. is_width n ≡ true) (λ n s. (tt, refl, s))
+    (λ n u are t. (t, refl))
 
 exact_opacity : Exact opacity_at (λ n. is_opacity n ≡ true) (single (λ n. n))
 unfolding opacity_at then_at
-exact_opacity = exact_field exact_byte (λ n. n) (λ n. n) is_opacity Field (λ n. is_opacity n ≡ true) (λ n s. (tt, refl, s)) (λ n u are t. (t, refl))
+exact_opacity = exact_field exact_byte (λ n. n) (λ n. n) is_opacity Field (λ n. is_opacity n ≡ true)
+    (λ n s. (tt, refl, s)) (λ n u are t. (t, refl))
 
 dash-written : (dash : Dash) (rest : List ℕ) → dash_at (dash_byte dash ∷ rest) ≡ Ok (dash, rest)
 unfolding dash_at byte_at steps
@@ -49,7 +55,11 @@ dashes = took-pure Solid 0 tt refl & took-pure Dashed 1 tt refl & took-pure Dott
 
 exact_dash : Exact dash_at (λ _. Unit {0}) (single dash_byte)
 unfolding dash_at
-exact_dash = record { written = λ dash rest s. dash-written dash rest; taken = λ bytes z are e. took-tags dash_rows dashes bytes z are e }
+exact_dash = record {
+  written = λ dash rest s. dash-written dash rest;
+  taken
+      = λ bytes z are e. took-tags dash_rows dashes bytes z are e;
+}
 
 heads-written : (heads : Heads) (rest : List ℕ) → heads_at (heads_byte heads ∷ rest) ≡ Ok (heads, rest)
 unfolding heads_at byte_at steps
@@ -59,11 +69,16 @@ heads-written AtStart rest = refl
 heads-written AtBoth rest = refl
 
 all_heads : AllTook (λ _. Unit {0}) (single heads_byte) heads_rows
-all_heads = took-pure Bare 0 tt refl & took-pure AtEnd 1 tt refl & took-pure AtStart 2 tt refl & took-pure AtBoth 3 tt refl & tt
+all_heads = took-pure Bare 0 tt refl & took-pure AtEnd 1 tt refl & took-pure AtStart 2 tt refl & took-pure AtBoth 3 tt
+    refl & tt
 
 exact_heads : Exact heads_at (λ _. Unit {0}) (single heads_byte)
 unfolding heads_at
-exact_heads = record { written = λ heads rest s. heads-written heads rest; taken = λ bytes z are e. took-tags heads_rows all_heads bytes z are e }
+exact_heads = record {
+  written = λ heads rest s. heads-written heads rest;
+  taken
+      = λ bytes z are e. took-tags heads_rows all_heads bytes z are e;
+}
 
 align-written : (align : Option Align) (rest : List ℕ) → align_at (align_byte align ∷ rest) ≡ Ok (align, rest)
 unfolding align_at byte_at steps
@@ -79,7 +94,11 @@ aligns =
 
 exact_align : Exact align_at (λ _. Unit {0}) (single align_byte)
 unfolding align_at
-exact_align = record { written = λ align rest s. align-written align rest; taken = λ bytes z are e. took-tags align_rows aligns bytes z are e }
+exact_align = record {
+  written = λ align rest s. align-written align rest;
+  taken
+      = λ bytes z are e. took-tags align_rows aligns bytes z are e;
+}
 
 -- a number of which one stands for none
 module _ (top none : ℕ) (test : Option ℕ → Bool) where
@@ -87,7 +106,8 @@ module _ (top none : ℕ) (test : Option ℕ → Bool) where
   abbrev Stands : Option ℕ → Type 0
   Stands o = (unwrap_or o none < top) × (none_or none (unwrap_or o none) ≡ o) × (test o ≡ true)
 
-  stands : none < top → ((n : ℕ) → test (Some n) ≡ true → (n < top) × ((n == none) ≡ false)) → (o : Option ℕ) → test o ≡ true → Stands o
+  stands : none < top → ((n : ℕ) → test (Some n) ≡ true → (n < top) × ((n == none) ≡ false)) → (o : Option ℕ)
+      → test o ≡ true → Stands o
   stands small apart None s = (small, rw (eq-eqb none none refl) refl, s)
   stands small apart (Some n) s = let p = apart n s in (p.0, rw p.1 refl, s)
 
@@ -95,9 +115,12 @@ module _ (top none : ℕ) (test : Option ℕ → Bool) where
   back n true e = sym (eqb-true n none e)
   back n false e = refl
 
-  exact_none_or : {r : Reader ℕ} {sp : ℕ → List ℕ} → Exact r (λ n. n < top) sp → none < top → ((n : ℕ) → test (Some n) ≡ true → (n < top) × ((n == none) ≡ false))
-      → Exact (λ bytes. r bytes >>= λ n. ranged (test (none_or none n.0)) (none_or none n.0) bytes n.1) (λ o. test o ≡ true) (λ o. sp (unwrap_or o none))
-  exact_none_or exact small apart = exact_field exact (none_or none) (λ o. unwrap_or o none) test Field (λ o. test o ≡ true)
+  exact_none_or : {r : Reader ℕ} {sp : ℕ → List ℕ} → Exact r (λ n. n < top) sp → none < top
+      → ((n : ℕ) → test (Some n) ≡ true → (n < top) × ((n == none) ≡ false))
+      → Exact (λ bytes. r bytes >>= λ n. ranged (test (none_or none n.0)) (none_or none n.0) bytes n.1)
+      (λ o. test o ≡ true) (λ o. sp (unwrap_or o none))
+  exact_none_or exact small apart
+      = exact_field exact (none_or none) (λ o. unwrap_or o none) test Field (λ o. test o ≡ true)
       (stands small apart) (λ n low are t. (t, back n (n == none) refl))
 
 round-word : (round : Option ℕ) → word_bytes (unwrap_or round 0xFFFFFFFF) ≡ round_bytes round
@@ -137,12 +160,15 @@ look-turn stroke fill round letters rest width dash heads opacity align = simp a
 look-written : (l : Look) (rest : List ℕ) → IsLooked l → look_at (look_bytes l ++ rest) ≡ Ok (l, rest)
 unfolding look_at look_bytes
 look-written l rest s =
-    rw (look-turn (word_bytes l.stroke) (fill_bytes l.fill) (round_bytes l.round) (letters_bytes l.letters) rest l.width (dash_byte l.dash)
+    rw (look-turn (word_bytes l.stroke) (fill_bytes l.fill) (round_bytes l.round) (letters_bytes l.letters) rest l.width
+    (dash_byte l.dash)
     (heads_byte l.heads) l.opacity (align_byte l.align))
-    (then-read _ _ (exact_colour.written l.stroke _ s.stroke_in) (then-read _ _ (exact_fill.written l.fill _ (record { within = s.fill_in }))
+    (then-read _ _ (exact_colour.written l.stroke _ s.stroke_in)
+    (then-read _ _ (exact_fill.written l.fill _ (record { within = s.fill_in }))
     (then-read _ _ (exact_thin.written l.width _ s.width_in) (then-read _ _ (exact_dash.written l.dash _ tt)
     (then-read _ _ (exact_heads.written l.heads _ tt) (then-read _ _ (exact_round.written l.round _ s.round_in)
-    (then-read _ _ (exact_opacity.written l.opacity _ s.opacity_in) (then-read _ _ (exact_letters.written l.letters _ s.letters_in)
+    (then-read _ _ (exact_opacity.written l.opacity _ s.opacity_in)
+    (then-read _ _ (exact_letters.written l.letters _ s.letters_in)
     (then-read _ _ (exact_align.written l.align _ tt) (pure-read _ _))))))))))
 
 pub exact_look : Exact look_at IsLooked look_bytes
@@ -169,15 +195,18 @@ exact_look = record {
           opacity_in = opacity.sound;
           letters_in = letters.sound;
         };
-        text = joined (joined (joined (joined stroke.text fill.text) marks) (joined opacity.text letters.text)) align.text;
+        text = joined (joined (joined (joined stroke.text fill.text) marks) (joined opacity.text letters.text))
+            align.text;
       }))))))))));
 }
 
 -- ---- what is set
 
 -- what may be set, of which the value stands for none too
-module _ {A : Type 0} {r : Reader A} {S : A → Type 0} {sp : A → List ℕ} (exact : Exact r S sp) (value : A) (sound : S value) where
-  set-written : (o : Option A) (rest : List ℕ) → S (unwrap_or o value) → if_set r (set_bytes sp o ++ rest) ≡ Ok (o, rest)
+module _ {A : Type 0} {r : Reader A} {S : A → Type 0} {sp : A → List ℕ} (exact : Exact r S sp) (value : A)
+    (sound : S value) where
+  set-written : (o : Option A) (rest : List ℕ) → S (unwrap_or o value)
+      → if_set r (set_bytes sp o ++ rest) ≡ Ok (o, rest)
   unfolding if_set byte_at steps
   set-written None rest s = refl
   set-written (Some a) rest s = rw (exact.written a rest s) refl
@@ -191,7 +220,8 @@ module _ {A : Type 0} {r : Reader A} {S : A → Type 0} {sp : A → List ℕ} (e
 
 -- nine texts, one behind the other
 nine-turn : (a b c d e f g h i rest : List ℕ)
-    → (a ++ b ++ c ++ d ++ e ++ f ++ g ++ h ++ i) ++ rest ≡ a ++ (b ++ (c ++ (d ++ (e ++ (f ++ (g ++ (h ++ (i ++ rest))))))))
+    → (a ++ b ++ c ++ d ++ e ++ f ++ g ++ h ++ i) ++ rest
+    ≡ a ++ (b ++ (c ++ (d ++ (e ++ (f ++ (g ++ (h ++ (i ++ rest))))))))
 nine-turn a b c d e f g h i rest = simp append_assoc
 
 set_stroke : Exact (if_set colour_at) (λ o. is_colour (unwrap_or o 0) ≡ true) (set_bytes word_bytes)
@@ -226,11 +256,14 @@ unfolding all_looks_at looks_bytes
 looks-written l rest s =
     rw (nine-turn (set_bytes word_bytes l.stroke) (set_bytes fill_bytes l.fill) (set_bytes (single (λ n. n)) l.width)
     (set_bytes (single dash_byte) l.dash) (set_bytes (single heads_byte) l.heads) (set_bytes round_bytes l.round)
-    (set_bytes (single (λ n. n)) l.opacity) (set_bytes letters_bytes l.letters) (set_bytes (single align_byte) l.align) rest)
-    (then-read _ _ (set_stroke.written l.stroke _ s.stroke_in) (then-read _ _ (set_fill.written l.fill _ (record { within = s.fill_in }))
+    (set_bytes (single (λ n. n)) l.opacity) (set_bytes letters_bytes l.letters) (set_bytes (single align_byte) l.align)
+    rest)
+    (then-read _ _ (set_stroke.written l.stroke _ s.stroke_in)
+    (then-read _ _ (set_fill.written l.fill _ (record { within = s.fill_in }))
     (then-read _ _ (set_width.written l.width _ s.width_in) (then-read _ _ (set_dash.written l.dash _ tt)
     (then-read _ _ (set_heads.written l.heads _ tt) (then-read _ _ (set_round.written l.round _ s.round_in)
-    (then-read _ _ (set_opacity.written l.opacity _ s.opacity_in) (then-read _ _ (set_letters.written l.letters _ s.letters_in)
+    (then-read _ _ (set_opacity.written l.opacity _ s.opacity_in)
+    (then-read _ _ (set_letters.written l.letters _ s.letters_in)
     (then-read _ _ (set_align.written l.align _ tt) (pure-read _ _))))))))))
 
 pub exact_looks : Exact all_looks_at AreSet looks_bytes
@@ -257,6 +290,7 @@ exact_looks = record {
           opacity_in = opacity.sound;
           letters_in = letters.sound;
         };
-        text = joined (joined (joined (joined (joined first heads.text) round.text) opacity.text) letters.text) align.text;
+        text = joined (joined (joined (joined (joined first heads.text) round.text) opacity.text) letters.text)
+            align.text;
       }))))))))));
 }

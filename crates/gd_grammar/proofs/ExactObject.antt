@@ -1,5 +1,6 @@
 -- An object is read where its bytes stand, and nowhere else.
-use Rattle.std.proofs.Common.{◌≡◌, ℕ, Bool, true, false, List, [], ◌∷◌, ◌++◌, Option, Some, None, Ok, refl, sym, ap, append_assoc, arith}
+use Rattle.std.proofs.Common.{◌≡◌, ℕ, Bool, true, false, List, [], ◌∷◌, ◌++◌, Option, Some, None, Ok, refl, sym, ap}
+use Rattle.std.proofs.Common.{append_assoc, arith}
 use Rattle.std.specs.Prelude.{option_map}
 use Rattle.gd_base.specs.Kinds.{are_ends_of}
 use Rattle.gd_base.specs.declared.shape.Shape.TheVariants.{Rect, Ellipse, Line, Text}
@@ -11,9 +12,11 @@ use Rattle.gd_grammar.specs.Fields.{byte_at}
 use Rattle.gd_grammar.specs.Reading.{then_at}
 use Rattle.gd_grammar.specs.Readers.{steps}
 use Rattle.gd_grammar.specs.LookBytes.{look_bytes}
-use Rattle.gd_grammar.specs.Spelling.{kind_byte, flag_byte, link_bytes, both_bytes, ends_bytes, rank_bytes, object_bytes}
+use Rattle.gd_grammar.specs.Spelling.{kind_byte, flag_byte, link_bytes, both_bytes, ends_bytes, rank_bytes}
+use Rattle.gd_grammar.specs.Spelling.{object_bytes}
 use Rattle.gd_grammar.proofs.Exact.{joined, spelt, taking, done}
-use Rattle.gd_grammar.proofs.ExactFields.{exact_stamp, exact_id, exact_parent_id, exact_place, exact_size, exact_title, exact_long_label}
+use Rattle.gd_grammar.proofs.ExactFields.{exact_stamp, exact_id, exact_parent_id, exact_place, exact_size, exact_title}
+use Rattle.gd_grammar.proofs.ExactFields.{exact_long_label}
 use Rattle.gd_grammar.proofs.ExactLooks.{exact_look}
 use Rattle.gd_grammar.proofs.Readers.{◌&◌, TookAs, AllTook, took-pure, took-into, took-tags, then-read, pure-read}
 use Rattle.gd_base.specs.declared.object.Kind.{Kind}
@@ -23,9 +26,13 @@ use Rattle.gd_base.specs.declared.object.Link.{Link}
 use Rattle.gd_base.specs.Whole.{Object}
 use Rattle.gd_base.specs.declared.rank.Rank.{Rank}
 use Rattle.gd_base.specs.declared.rank.Rank.TheVariants.{Low, High}
-use Rattle.gd_grammar.specs.ObjectBytes.{kind_rows, kind_at, flag_rows, flag_at, parent_at, some_link_at, link_rows, link_at, given_at, some_ends_at, ends_rows, ends_or_none_at, joined_rows, joined_at, own_ends_at, rank_rows, rank_at, own_label_at, of_kind_at, object_at}
+use Rattle.gd_grammar.specs.ObjectBytes.{kind_rows, kind_at, flag_rows, flag_at, parent_at, some_link_at, link_rows}
+use Rattle.gd_grammar.specs.ObjectBytes.{link_at, given_at, some_ends_at, ends_rows, ends_or_none_at, joined_rows}
+use Rattle.gd_grammar.specs.ObjectBytes.{joined_at, own_ends_at, rank_rows, rank_at, own_label_at, of_kind_at}
+use Rattle.gd_grammar.specs.ObjectBytes.{object_at}
 use Rattle.gd_grammar.specs.declared.naming.Naming.{Naming}
-use Rattle.gd_grammar.proofs.SoundObjects.{IsParent, IsGiven, IsRank, IsLinkOf, AreEndsOf, AreOwnEnds, IsOwnLabel, IsDrawnBy}
+use Rattle.gd_grammar.proofs.SoundObjects.{IsParent, IsGiven, IsRank, IsLinkOf, AreEndsOf, AreOwnEnds, IsOwnLabel}
+use Rattle.gd_grammar.proofs.SoundObjects.{IsDrawnBy}
 
 -- ---- the kind and a flag
 
@@ -50,7 +57,11 @@ kinds =
 
 pub exact_kind : Exact kind_at (λ _. Unit {0}) (λ k. kind_byte k ∷ [])
 unfolding kind_at
-exact_kind = record { written = λ kind rest s. kind-written kind rest; taken = λ bytes z are e. took-tags kind_rows kinds bytes z are e }
+exact_kind = record {
+  written = λ kind rest s. kind-written kind rest;
+  taken
+      = λ bytes z are e. took-tags kind_rows kinds bytes z are e;
+}
 
 flag-written : (flag : Bool) (rest : List ℕ) → flag_at (flag_byte flag ∷ rest) ≡ Ok (flag, rest)
 unfolding flag_at byte_at steps
@@ -62,7 +73,11 @@ flags = took-pure false 0 tt refl & took-pure true 1 tt refl & tt
 
 exact_flag : Exact flag_at (λ _. Unit {0}) (λ b. flag_byte b ∷ [])
 unfolding flag_at
-exact_flag = record { written = λ flag rest s. flag-written flag rest; taken = λ bytes z are e. took-tags flag_rows flags bytes z are e }
+exact_flag = record {
+  written = λ flag rest s. flag-written flag rest;
+  taken
+      = λ bytes z are e. took-tags flag_rows flags bytes z are e;
+}
 
 -- ---- the link
 
@@ -71,7 +86,8 @@ unfolding parent_at
 exact_parent None = exact_stamp
 exact_parent (Some naming) = exact_parent_id naming.stamp naming.id
 
-link-written : (naming : Option Naming) (link : Option Link) (rest : List ℕ) → IsLinkOf naming link → link_at naming (link_bytes link ++ rest) ≡ Ok (link, rest)
+link-written : (naming : Option Naming) (link : Option Link) (rest : List ℕ) → IsLinkOf naming link
+    → link_at naming (link_bytes link ++ rest) ≡ Ok (link, rest)
 unfolding link_at byte_at some_link_at steps
 link-written naming None rest s = refl
 link-written naming (Some link) rest s =
@@ -87,14 +103,22 @@ link-took naming whole bytes z are flag e =
     taking (exact_parent naming) bytes are _ z e (λ parent.
     taking exact_place parent.rest parent.left _ z parent.on (λ dx.
     taking exact_place dx.rest dx.left _ z dx.on (λ dy.
-    done _ z dy.on (record { sound = (parent.sound, dx.sound, dy.sound); text = joined (joined (joined flag parent.text) dx.text) dy.text }))))
+    done _ z dy.on (record {
+      sound = (parent.sound, dx.sound, dy.sound);
+      text
+          = joined (joined (joined flag parent.text) dx.text) dy.text;
+    }))))
 
 links : (naming : Option Naming) → AllTook (IsLinkOf naming) link_bytes (link_rows naming)
 links naming = took-pure None 0 tt refl & link-took naming & tt
 
 pub exact_link : (naming : Option Naming) → Exact (link_at naming) (IsLinkOf naming) link_bytes
 unfolding link_at
-exact_link naming = record { written = link-written naming; taken = λ bytes z are e. took-tags (link_rows naming) (links naming) bytes z are e }
+exact_link naming = record {
+  written = link-written naming;
+  taken
+      = λ bytes z are e. took-tags (link_rows naming) (links naming) bytes z are e;
+}
 
 -- ---- the rank
 
@@ -103,17 +127,20 @@ unfolding given_at
 exact_given None = exact_stamp
 exact_given (Some stamp) = exact_id stamp
 
-rank-written : (stamp : Option Stamp) (rank : Rank) (rest : List ℕ) → IsRank stamp rank → rank_at stamp (rank_bytes rank ++ rest) ≡ Ok (rank, rest)
+rank-written : (stamp : Option Stamp) (rank : Rank) (rest : List ℕ) → IsRank stamp rank
+    → rank_at stamp (rank_bytes rank ++ rest) ≡ Ok (rank, rest)
 unfolding rank_at byte_at steps
 rank-written stamp (Low given) rest s = rw ((exact_given stamp).written given rest s) refl
 rank-written stamp (High given) rest s = rw ((exact_given stamp).written given rest s) refl
 
 ranks : (stamp : Option Stamp) → AllTook (IsRank stamp) rank_bytes (rank_rows stamp)
-ranks stamp = took-into Low 0 (exact_given stamp) (λ given s. s) (λ given. refl) & took-into High 1 (exact_given stamp) (λ given s. s) (λ given. refl) & tt
+ranks stamp = took-into Low 0 (exact_given stamp) (λ given s. s) (λ given. refl) & took-into High 1 (exact_given stamp)
+    (λ given s. s) (λ given. refl) & tt
 
 pub exact_rank : (stamp : Option Stamp) → Exact (rank_at stamp) (IsRank stamp) rank_bytes
 unfolding rank_at
-exact_rank stamp = record { written = rank-written stamp; taken = λ bytes z are e. took-tags (rank_rows stamp) (ranks stamp) bytes z are e }
+exact_rank stamp = record
+    { written = rank-written stamp; taken = λ bytes z are e. took-tags (rank_rows stamp) (ranks stamp) bytes z are e }
 
 -- ---- the ends
 
@@ -124,7 +151,8 @@ some-written stamp ends rest s =
     then-read _ _ ((exact_given stamp).written ends.from (stamp_bytes ends.to ++ rest) s.0)
     (then-read _ _ ((exact_given stamp).written ends.to rest s.1) (pure-read _ _))
 
-own-ends-written : (kind : Kind) (stamp : Option Stamp) (ends : Option Ends) (rest : List ℕ) → AreOwnEnds kind stamp ends
+own-ends-written : (kind : Kind) (stamp : Option Stamp) (ends : Option Ends) (rest : List ℕ)
+    → AreOwnEnds kind stamp ends
     → own_ends_at kind stamp (ends_bytes ends ++ rest) ≡ Ok (ends, rest)
 unfolding own_ends_at ends_or_none_at joined_at byte_at steps
 own-ends-written (Shape shape) stamp None rest s = refl
@@ -154,12 +182,17 @@ own-ends-taken : (kind : Kind) (stamp : Option Stamp) (bytes : List ℕ) (z : Op
     → own_ends_at kind stamp bytes ≡ Ok z → Took (AreOwnEnds kind stamp) ends_bytes bytes z
 unfolding own_ends_at ends_or_none_at joined_at
 own-ends-taken (Shape shape) stamp bytes z are e =
-    took-tags (ends_rows stamp) (took-pure None 0 (record { given = tt; joined = refl }) refl & some-took (Shape shape) stamp & tt) bytes z are e
+    took-tags (ends_rows stamp)
+    (took-pure None 0 (record { given = tt; joined = refl }) refl & some-took (Shape shape) stamp & tt) bytes z are
+    e
 own-ends-taken Group stamp bytes z are e =
-    took-tags (ends_rows stamp) (took-pure None 0 (record { given = tt; joined = refl }) refl & some-took Group stamp & tt) bytes z are e
-own-ends-taken Connector stamp bytes z are e = took-tags (joined_rows stamp) (some-took Connector stamp & tt) bytes z are e
+    took-tags (ends_rows stamp)
+    (took-pure None 0 (record { given = tt; joined = refl }) refl & some-took Group stamp & tt) bytes z are e
+own-ends-taken Connector stamp bytes z are e
+    = took-tags (joined_rows stamp) (some-took Connector stamp & tt) bytes z are e
 
-exact_own_ends : (kind : Kind) (stamp : Option Stamp) → Exact (own_ends_at kind stamp) (AreOwnEnds kind stamp) ends_bytes
+exact_own_ends : (kind : Kind) (stamp : Option Stamp)
+    → Exact (own_ends_at kind stamp) (AreOwnEnds kind stamp) ends_bytes
 exact_own_ends kind stamp = record { written = own-ends-written kind stamp; taken = own-ends-taken kind stamp }
 
 -- ---- the label
@@ -175,7 +208,8 @@ exact_own_label Connector = exact_long_label
 -- what stands behind its kind
 abbrev pub behind_bytes : Object → List ℕ
 behind_bytes o =
-    signed_bytes o.x ++ signed_bytes o.y ++ signed_bytes o.w ++ signed_bytes o.h ++ look_bytes o.look ++ text_bytes o.label
+    signed_bytes o.x ++ signed_bytes o.y ++ signed_bytes o.w ++ signed_bytes o.h ++ look_bytes o.look
+    ++ text_bytes o.label
     ++ ends_bytes o.ends ++ link_bytes o.link ++ flag_byte o.dissolved ∷ rank_bytes o.rank
 
 -- its parts, one behind the other
@@ -188,11 +222,13 @@ pub behind-written : (naming : Option Naming) (o : Object) (rest : List ℕ) →
     → of_kind_at o.kind naming (behind_bytes o ++ rest) ≡ Ok (o, rest)
 unfolding of_kind_at
 behind-written naming o rest s =
-    rw (in-turn (signed_bytes o.x ++ signed_bytes o.y ++ signed_bytes o.w ++ signed_bytes o.h) (look_bytes o.look) (text_bytes o.label)
+    rw (in-turn (signed_bytes o.x ++ signed_bytes o.y ++ signed_bytes o.w ++ signed_bytes o.h) (look_bytes o.look)
+    (text_bytes o.label)
     (ends_bytes o.ends) (link_bytes o.link) (rank_bytes o.rank) rest (flag_byte o.dissolved))
     (then-read _ _ (exact_place.written o.x _ s.left) (then-read _ _ (exact_place.written o.y _ s.top)
     (then-read _ _ (exact_size.written o.w _ s.width) (then-read _ _ (exact_size.written o.h _ s.height)
-    (then-read _ _ (exact_look.written o.look _ s.look) (then-read _ _ ((exact_own_label o.kind).written o.label _ s.label)
+    (then-read _ _ (exact_look.written o.look _ s.look)
+    (then-read _ _ ((exact_own_label o.kind).written o.label _ s.label)
     (then-read _ _ ((exact_own_ends o.kind (option_map (λ n. n.stamp) naming)).written o.ends _ s.ends)
     (then-read _ _ ((exact_link naming).written o.link _ s.link) (then-read _ _ (exact_flag.written o.dissolved _ tt)
     (then-read _ _ ((exact_rank (option_map (λ n. n.stamp) naming)).written o.rank _ s.rank) (pure-read _ _)))))))))))
@@ -202,7 +238,8 @@ pub record IsDrawnOf (kind : Kind) (naming : Option Naming) (o : Object) : Type 
   pub drawn : IsDrawnBy naming o
   pub is : o.kind ≡ kind
 
-pub exact_of_kind : (kind : Kind) (naming : Option Naming) → Exact (of_kind_at kind naming) (IsDrawnOf kind naming) behind_bytes
+pub exact_of_kind : (kind : Kind) (naming : Option Naming)
+    → Exact (of_kind_at kind naming) (IsDrawnOf kind naming) behind_bytes
 unfolding of_kind_at steps
 exact_of_kind kind naming = record {
   written = λ o rest s. rw (← s.is) (behind-written naming o rest s.drawn);
@@ -247,7 +284,8 @@ pub kind-object : {kind : Kind} (o : Object) → o.kind ≡ kind → kind_byte k
 unfolding object_bytes
 kind-object o is = ap (λ (k : Kind). kind_byte k ∷ behind_bytes o) (sym is)
 
-object-written : (naming : Option Naming) (o : Object) (rest : List ℕ) → IsDrawnBy naming o → object_at naming (object_bytes o ++ rest) ≡ Ok (o, rest)
+object-written : (naming : Option Naming) (o : Object) (rest : List ℕ) → IsDrawnBy naming o
+    → object_at naming (object_bytes o ++ rest) ≡ Ok (o, rest)
 unfolding object_at
 object-written naming o rest s = then-read _ _ (object-kind o rest) (behind-written naming o rest s)
 

@@ -1,5 +1,6 @@
 -- How many bytes there are of looks, labels and objects.
-use Rattle.std.proofs.Common.{◌≡◌, ℕ, ◌+◌, ◌-◌, ◌/◌, ◌%◌, ◌≤◌, Bool, true, false, cond, List, [], ◌∷◌, ◌++◌, length, Option, Some, None, refl, arith}
+use Rattle.std.proofs.Common.{◌≡◌, ℕ, ◌+◌, ◌-◌, ◌/◌, ◌%◌, ◌≤◌, Bool, true, false, cond, List, [], ◌∷◌, ◌++◌, length}
+use Rattle.std.proofs.Common.{Option, Some, None, refl, arith}
 use Rattle.std.specs.Prelude.{nat_le}
 use Rattle.std.proofs.lemmas.Bool.{le-leb}
 use Rattle.std.proofs.lemmas.List.{length-append}
@@ -12,7 +13,8 @@ use Rattle.gd_base.specs.declared.rank.Rank.{Rank}
 use Rattle.gd_base.specs.declared.rank.Rank.TheVariants.{Low, High}
 use Rattle.gd_base.specs.declared.ties.Tie.{Tie}
 use Rattle.gd_grammar.specs.FieldBytes.{stamp_bytes, word_bytes, signed_bytes, length_bytes, text_bytes}
-use Rattle.gd_grammar.specs.LookBytes.{fill_bytes, dash_byte, heads_byte, round_bytes, letters_bytes, align_byte, look_bytes}
+use Rattle.gd_grammar.specs.LookBytes.{fill_bytes, dash_byte, heads_byte, round_bytes, letters_bytes, align_byte}
+use Rattle.gd_grammar.specs.LookBytes.{look_bytes}
 use Rattle.gd_grammar.specs.Spelling.{kind_byte, flag_byte, ends_bytes, link_bytes, rank_bytes, object_bytes, tie_bytes}
 
 -- ---- looks

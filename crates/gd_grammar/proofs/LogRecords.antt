@@ -1,5 +1,6 @@
 -- An event of a log with its gate before it, and its check behind it, where the log's version has checks.
-use Rattle.std.proofs.Common.{◌≡◌, ◌≢◌, ◌∙◌, ℕ, ◌<◌, ◌^◌, Bool, true, false, cond, List, [], ◌∷◌, ◌++◌, length, Ok, Err, ap, refl, arith, append_assoc, eq-eqb, ne_eqb}
+use Rattle.std.proofs.Common.{◌≡◌, ◌≢◌, ◌∙◌, ℕ, ◌<◌, ◌^◌, Bool, true, false, cond, List, [], ◌∷◌, ◌++◌, length, Ok, Err}
+use Rattle.std.proofs.Common.{ap, refl, arith, append_assoc, eq-eqb, ne_eqb}
 use Rattle.std.specs.Prelude.{None, Some, ◌==◌}
 use Rattle.gd_base.specs.Stamps.{Stamp}
 use Rattle.gd_base.specs.declared.fault.LogWhy.{LogWhy}
@@ -14,7 +15,8 @@ use Rattle.gd_grammar.specs.Fields.{check_word_at}
 use Rattle.gd_grammar.specs.HeaderBytes.{Header}
 use Rattle.gd_grammar.specs.KindLaws.{KindLaws}
 use Rattle.gd_grammar.specs.Kinds.{LogKind, FitsIn, spelling}
-use Rattle.gd_grammar.specs.LogBytes.{in_log, turn_fault, left_of, with_check, checked, gate, is_closed, record_at, step_at, record_bytes}
+use Rattle.gd_grammar.specs.LogBytes.{in_log, turn_fault, left_of, with_check, checked, gate, is_closed, record_at}
+use Rattle.gd_grammar.specs.LogBytes.{step_at, record_bytes}
 use Rattle.gd_grammar.specs.Versions.{has_checks}
 use Rattle.gd_grammar.proofs.ExactEvent.{exact_event}
 use Rattle.gd_grammar.proofs.ExactFields.{exact_check_word}

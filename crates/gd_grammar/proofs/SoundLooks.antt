@@ -2,14 +2,16 @@
 use Rattle.std.proofs.Common.{◌≡◌, ℕ, Bool, true, false, Option, Some, None, refl, sym, subst}
 use Rattle.std.specs.Prelude.{◌&&◌, ◌||◌, is_none, is_some, unwrap_or}
 use Rattle.std.proofs.lemmas.Bool.{and_parts, and_from, or_parts}
-use Rattle.gd_base.specs.Looks.{no_looks, only_stroke, only_fill, only_width, are_marks, is_look, has_late_mark, has_mark, has_look, are_numbers, are_looks}
+use Rattle.gd_base.specs.Looks.{no_looks, only_stroke, only_fill, only_width, are_marks, is_look, has_late_mark}
+use Rattle.gd_base.specs.Looks.{has_mark, has_look, are_numbers, are_looks}
 use Rattle.gd_base.specs.Ranges.{is_colour, is_fill, is_letters, is_opacity, is_round, is_width}
 use Rattle.gd_base.specs.declared.look.Look.{Look}
 use Rattle.gd_base.specs.declared.look.Looks.{Looks}
 use Rattle.gd_grammar.specs.LookBytes.{lone, is_style}
 
 -- the numbers of a look in their ranges
-pub record InRange (stroke : ℕ) (fill : Option ℕ) (width : ℕ) (round : Option ℕ) (opacity : ℕ) (letters : Option ℕ) : Type 0 where
+pub record InRange (stroke : ℕ) (fill : Option ℕ) (width : ℕ) (round : Option ℕ) (opacity : ℕ) (letters : Option ℕ) :
+    Type 0 where
   pub stroke_in : is_colour stroke ≡ true
   pub fill_in : is_fill fill ≡ true
   pub width_in : is_width width ≡ true
@@ -24,7 +26,8 @@ IsLooked l = InRange l.stroke l.fill l.width l.round l.opacity l.letters
 -- those that are set
 abbrev pub AreSet : Looks → Type 0
 AreSet l =
-    InRange (unwrap_or l.stroke 0) (unwrap_or l.fill None) (unwrap_or l.width 1) (unwrap_or l.round None) (unwrap_or l.opacity 1)
+    InRange (unwrap_or l.stroke 0) (unwrap_or l.fill None) (unwrap_or l.width 1) (unwrap_or l.round None)
+    (unwrap_or l.opacity 1)
     (unwrap_or l.letters None)
 
 module _ (stroke : ℕ) (fill : Option ℕ) (width : ℕ) (round : Option ℕ) (opacity : ℕ) (letters : Option ℕ) where

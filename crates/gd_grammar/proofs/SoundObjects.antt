@@ -1,11 +1,13 @@
 -- A sound object and sound ties, said field by field, as reading meets the fields.
-use Rattle.std.proofs.Common.{◌≡◌, ℕ, ℤ, zero, suc, ◌≤◌, Bool, true, false, List, [], ◌∷◌, length, Option, Some, None, refl, arith}
+use Rattle.std.proofs.Common.{◌≡◌, ℕ, ℤ, zero, suc, ◌≤◌, Bool, true, false, List, [], ◌∷◌, length, Option, Some, None}
+use Rattle.std.proofs.Common.{refl, arith}
 use Rattle.std.specs.Prelude.{◌&&◌, ◌==◌, chars, not, map, nat_le, option_map}
 use Rattle.std.specs.List.{list_any}
 use Rattle.std.specs.Str.{is_utf8}
 use Rattle.std.proofs.lemmas.Bool.{and_parts, and_from, or_parts, or_from, leb-true, le-leb}
 use Rattle.gd_base.specs.Kinds.{are_ends_of, is_label_of}
-use Rattle.gd_base.specs.Labels.{is_control, is_strange, has_control, has_strange, is_plain, is_text, most_label, most_title, IsLabel}
+use Rattle.gd_base.specs.Labels.{is_control, is_strange, has_control, has_strange, is_plain, is_text, most_label}
+use Rattle.gd_base.specs.Labels.{most_title, IsLabel}
 use Rattle.gd_base.specs.Looks.{is_look}
 use Rattle.gd_base.specs.Ranges.{place_limit, size_limit, is_within}
 use Rattle.gd_base.specs.Ranks.{given_at}
@@ -18,7 +20,9 @@ use Rattle.gd_base.specs.declared.object.Link.{Link}
 use Rattle.gd_base.specs.Whole.{Object}
 use Rattle.gd_base.specs.declared.rank.Rank.{Rank}
 use Rattle.gd_base.specs.declared.ties.Tie.{Tie}
-use Rattle.gd_events.specs.Sound.{is_box_in_range, is_link_in_range, is_of_kind, is_object_in_range, are_ties_in_range, are_ends_before, is_link_before, is_object_before, is_tie_before, are_ties_before, is_above, rise_above}
+use Rattle.gd_events.specs.Sound.{is_box_in_range, is_link_in_range, is_of_kind, is_object_in_range, are_ties_in_range}
+use Rattle.gd_events.specs.Sound.{are_ends_before, is_link_before, is_object_before, is_tie_before, are_ties_before}
+use Rattle.gd_events.specs.Sound.{is_above, rise_above}
 use Rattle.gd_grammar.specs.Reading.{AllFollow}
 use Rattle.gd_grammar.specs.declared.naming.Naming.{Naming}
 use Rattle.gd_grammar.proofs.SoundLooks.{IsLooked, look-parts, parts-look}
@@ -85,7 +89,11 @@ pub record IsLabelBack (kind : Kind) (label : List ℕ) : Type 0 where
 pub label-back : (kind : Kind) (label : List ℕ) → IsOwnLabel kind label → IsLabelBack kind label
 label-back (Shape kind) label s = record { typed = s; own = refl }
 label-back Group label s =
-    record { typed = text-is-label most_title label (omega arith) s; own = and_from (nat_le (length label) most_title) (is_plain label) (le-leb _ _ s.fits) s.plain }
+    record {
+      typed = text-is-label most_title label (omega arith) s;
+      own
+          = and_from (nat_le (length label) most_title) (is_plain label) (le-leb _ _ s.fits) s.plain;
+    }
 label-back Connector label s = record { typed = s; own = refl }
 
 -- ---- what an object names
@@ -140,7 +148,8 @@ AreTies stamp last ties = AllFollow (IsTie stamp) (λ t. Some t.id) last ties
 
 -- ---- links and objects
 
-link-of : (stamp id : Stamp) (link : Option Link) → IsLinked link → is_link_in_range link ≡ true → is_link_before stamp id link ≡ true → IsLinkOf (Some (record { stamp = stamp; id = id })) link
+link-of : (stamp id : Stamp) (link : Option Link) → IsLinked link → is_link_in_range link ≡ true
+    → is_link_before stamp id link ≡ true → IsLinkOf (Some (record { stamp = stamp; id = id })) link
 link-of stamp id None typed range before = tt
 link-of stamp id (Some link) typed range before =
     let shift = and_parts (is_within place_limit link.dx) (is_within place_limit link.dy) range in
@@ -153,11 +162,19 @@ record IsLinkBack (stamp id : Stamp) (link : Option Link) : Type 0 where
   range : is_link_in_range link ≡ true
   before : is_link_before stamp id link ≡ true
 
-link-back : (stamp id : Stamp) (link : Option Link) → IsLinkOf (Some (record { stamp = stamp; id = id })) link → IsLinkBack stamp id link
+link-back : (stamp id : Stamp) (link : Option Link) → IsLinkOf (Some (record { stamp = stamp; id = id })) link
+    → IsLinkBack stamp id link
 link-back stamp id None s = record { typed = tt; range = refl; before = refl }
-link-back stamp id (Some link) s = record { typed = s.0.0.is_stamp; range = and_from _ _ s.1.within s.2.within; before = and_from _ _ s.0.1 s.0.0.before }
+link-back stamp id (Some link) s
+    = record {
+      typed = s.0.0.is_stamp;
+      range = and_from _ _ s.1.within s.2.within;
+      before
+          = and_from _ _ s.0.1 s.0.0.before;
+    }
 
-ends-of : (stamp : Stamp) (ends : Option Ends) → AreEnds ends → are_ends_before stamp ends ≡ true → AreEndsOf (Some stamp) ends
+ends-of : (stamp : Stamp) (ends : Option Ends) → AreEnds ends → are_ends_before stamp ends ≡ true
+    → AreEndsOf (Some stamp) ends
 ends-of stamp None typed before = tt
 ends-of stamp (Some ends) typed before =
     let p = and_parts (is_before ends.from stamp) (is_before ends.to stamp) before in
@@ -170,19 +187,26 @@ record AreEndsBack (stamp : Stamp) (ends : Option Ends) : Type 0 where
 
 ends-back : (stamp : Stamp) (ends : Option Ends) → AreEndsOf (Some stamp) ends → AreEndsBack stamp ends
 ends-back stamp None s = record { typed = tt; before = refl }
-ends-back stamp (Some ends) s = record { typed = (s.0.is_stamp, s.1.is_stamp); before = and_from _ _ s.0.before s.1.before }
+ends-back stamp (Some ends) s
+    = record { typed = (s.0.is_stamp, s.1.is_stamp); before = and_from _ _ s.0.before s.1.before }
 
-pub object-drawn : (stamp id : Stamp) (o : Object) → IsObject o → is_object_in_range o ≡ true → is_object_before stamp id o ≡ true → IsDrawnBy (Some (record { stamp = stamp; id = id })) o
+pub object-drawn : (stamp id : Stamp) (o : Object) → IsObject o → is_object_in_range o ≡ true
+    → is_object_before stamp id o ≡ true → IsDrawnBy (Some (record { stamp = stamp; id = id })) o
 object-drawn stamp id o typed range before =
-    let ranges = and_parts (is_box_in_range o.x o.y o.w o.h) (is_look o.look && (is_of_kind o && is_link_in_range o.link)) range in
-    let place = and_parts (is_within place_limit o.x) (is_within place_limit o.y && (is_within size_limit o.w && is_within size_limit o.h)) ranges.0 in
+    let ranges = and_parts (is_box_in_range o.x o.y o.w o.h)
+    (is_look o.look && (is_of_kind o && is_link_in_range o.link)) range in
+    let place = and_parts (is_within place_limit o.x)
+    (is_within place_limit o.y && (is_within size_limit o.w && is_within size_limit o.h)) ranges.0 in
     let rest = and_parts (is_within place_limit o.y) (is_within size_limit o.w && is_within size_limit o.h) place.1 in
     let size = and_parts (is_within size_limit o.w) (is_within size_limit o.h) rest.1 in
     let look = and_parts (is_look o.look) (is_of_kind o && is_link_in_range o.link) ranges.1 in
     let behind = and_parts (is_of_kind o) (is_link_in_range o.link) look.1 in
     let own = and_parts (is_label_of o.kind o.label) (are_ends_of o.kind o.ends) behind.0 in
-    let names = and_parts (is_before id stamp) (is_before (given_at o.rank) stamp && (are_ends_before stamp o.ends && is_link_before stamp id o.link)) before in
-    let tops = and_parts (is_before (given_at o.rank) stamp) (are_ends_before stamp o.ends && is_link_before stamp id o.link) names.1 in
+    let names = and_parts (is_before id stamp)
+    (is_before (given_at o.rank) stamp && (are_ends_before stamp o.ends && is_link_before stamp id o.link)) before
+    in
+    let tops = and_parts (is_before (given_at o.rank) stamp)
+    (are_ends_before stamp o.ends && is_link_before stamp id o.link) names.1 in
     let ends = and_parts (are_ends_before stamp o.ends) (is_link_before stamp id o.link) tops.1 in
     record {
       left = record { within = place.0 };
@@ -202,14 +226,16 @@ pub record IsObjectBack (stamp id : Stamp) (o : Object) : Type 0 where
   pub range : is_object_in_range o ≡ true
   pub before : is_object_before stamp id o ≡ true
 
-pub object-back : (stamp id : Stamp) (o : Object) → is_before id stamp ≡ true → IsDrawnBy (Some (record { stamp = stamp; id = id })) o → IsObjectBack stamp id o
+pub object-back : (stamp id : Stamp) (o : Object) → is_before id stamp ≡ true
+    → IsDrawnBy (Some (record { stamp = stamp; id = id })) o → IsObjectBack stamp id o
 object-back stamp id o named s =
     let link = link-back stamp id o.link s.link in
     let ends = ends-back stamp o.ends s.ends.given in
     let label = label-back o.kind o.label s.label in
     record {
       typed = record { label = label.typed; ends = ends.typed; link = link.typed; rank = s.rank.is_stamp };
-      range = and_from _ _ (and_from _ _ s.left.within (and_from _ _ s.top.within (and_from _ _ s.width.within s.height.within)))
+      range = and_from _ _ (and_from _ _ s.left.within
+          (and_from _ _ s.top.within (and_from _ _ s.width.within s.height.within)))
           (and_from _ _ (parts-look o.look s.look) (and_from _ _ (and_from _ _ label.own s.ends.joined) link.range));
       before = and_from _ _ named (and_from _ _ s.rank.before (and_from _ _ ends.before link.before));
     }
@@ -223,7 +249,8 @@ pub record KeepTies (stamp : Stamp) (last : Option Stamp) (ties : List Tie) : Ty
   pub before : are_ties_before stamp ties ≡ true
   pub rising : rise_above last (map (λ (t : Tie). t.id) ties) ≡ true
 
-pub ties-are : (stamp : Stamp) (last : Option Stamp) (ties : List Tie) → KeepTies stamp last ties → AreTies stamp last ties
+pub ties-are : (stamp : Stamp) (last : Option Stamp) (ties : List Tie) → KeepTies stamp last ties
+    → AreTies stamp last ties
 unfolding AllFollow rise_above
 ties-are stamp last [] k = tt
 ties-are stamp last (t ∷ ts) k =
@@ -232,8 +259,20 @@ ties-are stamp last (t ∷ ts) k =
     let before = and_parts (is_tie_before stamp t) (are_ties_before stamp ts) k.before in
     let named = and_parts (is_before t.id stamp) (is_link_before stamp t.id t.link) before.0 in
     let rising = and_parts (is_above last t.id) (rise_above (Some t.id) (map (λ (u : Tie). u.id) ts)) k.rising in (
-      record { is_id = record { is_stamp = typed.0; before = named.0 }; above = rising.0; link = link-of stamp t.id t.link typed.1 ranges.0 named.1 },
-      ties-are stamp (Some t.id) ts (record { tied = λ i d lt. k.tied (suc i) d (omega arith); ranges = ranges.1; before = before.1; rising = rising.1 }),
+      record {
+        is_id = record { is_stamp = typed.0; before = named.0 };
+        above = rising.0;
+        link
+            = link-of stamp t.id t.link typed.1 ranges.0 named.1;
+      },
+      ties-are stamp (Some t.id) ts
+          (record {
+            tied = λ i d lt. k.tied (suc i) d (omega arith);
+            ranges = ranges.1;
+            before = before.1;
+            rising
+                = rising.1;
+          }),
     )
 
 -- a tie of a stamp, in front of others
@@ -241,9 +280,11 @@ tied-more : (t : Tie) (ts : List Tie) → IsStamp t.id × IsLinked t.link → Ar
 tied-more t ts first more zero d lt = first
 tied-more t ts first more (suc k) d lt = more k d (omega arith)
 
-pub ties-keep : (stamp : Stamp) (last : Option Stamp) (ties : List Tie) → AreTies stamp last ties → KeepTies stamp last ties
+pub ties-keep : (stamp : Stamp) (last : Option Stamp) (ties : List Tie) → AreTies stamp last ties
+    → KeepTies stamp last ties
 unfolding AllFollow rise_above
-ties-keep stamp last [] s = record { tied = λ k d lt. absurd (omega arith); ranges = refl; before = refl; rising = refl }
+ties-keep stamp last [] s
+    = record { tied = λ k d lt. absurd (omega arith); ranges = refl; before = refl; rising = refl }
 ties-keep stamp last (t ∷ ts) s =
     let k = ties-keep stamp (Some t.id) ts s.1 in
     let link = link-back stamp t.id t.link s.0.link in

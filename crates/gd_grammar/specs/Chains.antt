@@ -1,5 +1,5 @@
--- The chain of checks of the events that one site made: C(0) is 0, and C(k) is the check of C(k - 1) and the spelled event k.
--- So C(k) is the CRC-32C of the first k events, spelled one behind the other. It finds accidents, not malice.
+-- The chain of checks of the events that one site made: C(0) is 0, and C(k) is the check of C(k - 1) and the spelled
+-- event k. So C(k) is the CRC-32C of the first k events, spelled one behind the other. It finds accidents, not malice.
 use Rattle.std.specs.Prelude.{◌≡◌, ℕ, ◌-◌, ◌≤◌, List, [], ◌∷◌, ◌==◌, length, replicate, slice_index, slice_set}
 use Rattle.std.specs.List.{filter}
 use Rattle.gd_base.specs.declared.ranges.TheConstants.{SITES}

@@ -1,6 +1,6 @@
--- How looks are read and spelled. A whole look, as an object has it, has all its parts one behind the other. What is set of a look
--- has in front of each part a byte 0 where it isn't set, or 1. A lone stroke, fill or width has other bytes, which there were
--- before: so those are no style.
+-- How looks are read and spelled. A whole look, as an object has it, has all its parts one behind the other. What is
+-- set of a look has in front of each part a byte 0 where it isn't set, or 1. A lone stroke, fill or width has other
+-- bytes, which there were before: so those are no style.
 use Rattle.std.specs.Prelude.{ℕ, Bool, ◌&&◌, ◌==◌, List, [], ◌∷◌, ◌++◌, Option, Some, None, is_none, if◌then◌else◌}
 use Rattle.std.specs.Int.{bytes_high_first}
 use Rattle.gd_base.specs.Looks.{has_look, has_mark}
@@ -52,7 +52,8 @@ unfoldable pub letters_at : Reader (Option ℕ)
 letters_at bytes = then_at half_at (λ n. ranged (is_letters (none_or 0 n)) (none_or 0 n) bytes) bytes
 
 abbrev pub align_rows : List (ℕ × Reader (Option Align))
-align_rows = (0, pure None) ∷ (1, pure (Some align.Start)) ∷ (2, pure (Some align.Middle)) ∷ (3, pure (Some align.End)) ∷ []
+align_rows = (0, pure None) ∷ (1, pure (Some align.Start)) ∷ (2, pure (Some align.Middle)) ∷ (3, pure (Some align.End))
+    ∷ []
 
 unfoldable pub align_at : Reader (Option Align)
 align_at = by_tag align_rows
@@ -163,7 +164,8 @@ unfoldable pub looks_bytes : Looks → List ℕ
 looks_bytes l =
     set_bytes word_bytes l.stroke ++ set_bytes fill_bytes l.fill ++ set_bytes (single (λ n. n)) l.width
     ++ set_bytes (single dash_byte) l.dash ++ set_bytes (single heads_byte) l.heads ++ set_bytes round_bytes l.round
-    ++ set_bytes (single (λ n. n)) l.opacity ++ set_bytes letters_bytes l.letters ++ set_bytes (single align_byte) l.align
+    ++ set_bytes (single (λ n. n)) l.opacity ++ set_bytes letters_bytes l.letters
+    ++ set_bytes (single align_byte) l.align
 
 -- ---- a lone part
 

@@ -1,8 +1,8 @@
--- How an object is read: in a snapshot, and where an operation restores it. A kind, the place, the size and the look; the label
--- behind its length, which of a group is a title; the ends, which a connector has, or a byte 0 for none; a link, or a byte 0 for none; whether it is dissolved; and the
--- rank. A field out of its range is Field at its first byte. Where an operation names the object, an end or a stamp of its rank that
--- isn't before the event's is FutureId at its first byte, and so is a group that isn't before the event's stamp and above the
--- object's id.
+-- How an object is read: in a snapshot, and where an operation restores it. A kind, the place, the size and the look;
+-- the label behind its length, which of a group is a title; the ends, which a connector has, or a byte 0 for none; a
+-- link, or a byte 0 for none; whether it is dissolved; and the rank. A field out of its range is Field at its first
+-- byte. Where an operation names the object, an end or a stamp of its rank that isn't before the event's is FutureId at
+-- its first byte, and so is a group that isn't before the event's stamp and above the object's id.
 use Rattle.std.specs.Prelude.{ℕ, Bool, true, false, Option, Some, None, List, [], ◌∷◌, option_map}
 use Rattle.gd_base.specs.Labels.{most_title}
 use Rattle.gd_base.specs.Ranges.{place_limit, size_limit}
@@ -25,7 +25,8 @@ use Rattle.gd_grammar.specs.declared.naming.Naming.{Naming}
 -- the kinds of shapes as in events, 5 for a group, and 6 for a connector
 abbrev pub kind_rows : List (ℕ × Reader Kind)
 kind_rows =
-    (1, pure (Shape Rect)) ∷ (2, pure (Shape Ellipse)) ∷ (3, pure (Shape Line)) ∷ (4, pure (Shape Text)) ∷ (5, pure Group)
+    (1, pure (Shape Rect)) ∷ (2, pure (Shape Ellipse)) ∷ (3, pure (Shape Line)) ∷ (4, pure (Shape Text))
+    ∷ (5, pure Group)
     ∷ (6, pure Connector) ∷ []
 
 unfoldable pub kind_at : Reader Kind

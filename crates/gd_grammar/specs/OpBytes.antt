@@ -1,8 +1,9 @@
--- The bytes of an operation on a drawing: a tag, and the fields by the tag. An id or the stamp of a rank that isn't before the
--- event's stamp is FutureId at its first byte, and so is a group that isn't above what is linked to it. That, and whether the id
--- of a member or of a tie is above that of the one before it, is judged before the fields behind the id. In version One a label
--- has at most 64 bytes, and in version Two at most 200, in neither with a line feed. Only a group is restored with ties. Since version Two an object is put at the bottom,
--- and since version Three there are connectors, looks of several parts, and what an undo does.
+-- The bytes of an operation on a drawing: a tag, and the fields by the tag. An id or the stamp of a rank that isn't
+-- before the event's stamp is FutureId at its first byte, and so is a group that isn't above what is linked to it.
+-- That, and whether the id of a member or of a tie is above that of the one before it, is judged before the fields
+-- behind the id. In version One a label has at most 64 bytes, and in version Two at most 200, in neither with a line
+-- feed. Only a group is restored with ties. Since version Two an object is put at the bottom, and since version Three
+-- there are connectors, looks of several parts, and what an undo does.
 use Rattle.std.specs.Prelude.{ℕ, true, false, List, [], ◌∷◌, Option, Some, None}
 use Rattle.gd_base.specs.Kinds.{most_ties}
 use Rattle.gd_base.specs.Ranges.{place_limit, size_limit}
@@ -17,7 +18,8 @@ use Rattle.gd_base.specs.declared.object.Ends.{Ends}
 use Rattle.gd_base.specs.declared.ties.Tie.{Tie}
 use Rattle.gd_base.specs.declared.version.Version.{Version}
 use Rattle.gd_events.specs.Ops.{Op, Done}
-use Rattle.gd_grammar.specs.EventBytes.{last_tag, shape_at, label_at, colour_at, fill_at, width_at, count_at, member_id_at}
+use Rattle.gd_grammar.specs.EventBytes.{last_tag, shape_at, label_at, colour_at, fill_at, width_at, count_at}
+use Rattle.gd_grammar.specs.EventBytes.{member_id_at}
 use Rattle.gd_grammar.specs.Fields.{id_at, signed_at}
 use Rattle.gd_grammar.specs.LookBytes.{all_looks_at, is_style}
 use Rattle.gd_base.specs.Looks.{only_fill, only_stroke, only_width}

@@ -3,7 +3,8 @@ use Rattle.std.specs.Prelude.{ℕ, Bool, nat_le}
 use Rattle.gd_base.specs.declared.version.Version.{Version}
 use Rattle.gd_base.specs.declared.version.Version.TheVariants.{One, Two, Three}
 
--- The byte of a version. That of the third is two bits from the others, so that no flipped bit makes one version another.
+-- The byte of a version. That of the third is two bits from the others, so that no flipped bit makes one version
+-- another.
 abbrev pub version_byte : Version → ℕ
 version_byte One = 1
 version_byte Two = 2

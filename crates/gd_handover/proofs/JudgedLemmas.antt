@@ -1,5 +1,6 @@
 -- Numbers, objects behind their ids and kept events are read and then judged.
-use Rattle.std.proofs.Common.{◌≡◌, ℕ, ◌+◌, ◌<◌, ◌≤◌, Bool, true, false, cond, List, Option, None, Some, Result, Ok, Err, refl}
+use Rattle.std.proofs.Common.{◌≡◌, ℕ, ◌+◌, ◌<◌, ◌≤◌, Bool, true, false, cond, List, Option, None, Some, Result, Ok, Err}
+use Rattle.std.proofs.Common.{refl}
 use Rattle.std.specs.Prelude.{nat_le}
 use Rattle.std.proofs.lemmas.Bool.{le-leb, lt-leb}
 use Rattle.gd_base.specs.Results.{◌>>=◌}
@@ -41,14 +42,19 @@ module _ (most before : ℕ) where
   unfolding number_within
   number-is bytes = view-step (word_at bytes) _ (λ n. judged-number bytes n.0 n.1) (λ n. refl)
 
-  pub number-stops : (e : SnapshotFault) {r s : Reader} {a b : SeenSource} → Part number (Err e) r s a b → Part whole-number (Err e) r s a b
+  pub number-stops : (e : SnapshotFault) {r s : Reader} {a b : SeenSource} → Part number (Err e) r s a b
+      → Part whole-number (Err e) r s a b
   number-stops e p = part-stops number judged-number whole-number number-is e p
 
-  pub number-high : (n : ℕ) {r s : Reader} {a b : SeenSource} → most < before + n → Part number (Ok n) r s a b → Part whole-number (Err (Bad r.place Field)) r s a b
-  number-high n high p = part-refused number judged-number whole-number number-is n Field (λ bytes rest. rw (lt-leb _ _ high) refl) p
+  pub number-high : (n : ℕ) {r s : Reader} {a b : SeenSource} → most < before + n → Part number (Ok n) r s a b
+      → Part whole-number (Err (Bad r.place Field)) r s a b
+  number-high n high p = part-refused number judged-number whole-number number-is n Field
+      (λ bytes rest. rw (lt-leb _ _ high) refl) p
 
-  pub number-read : (n : ℕ) {r s : Reader} {a b : SeenSource} → before + n ≤ most → Part number (Ok n) r s a b → Part whole-number (Ok n) r s a b
-  number-read n few p = part-ok number judged-number whole-number number-is n n (λ bytes rest. rw (le-leb _ _ few) refl) p
+  pub number-read : (n : ℕ) {r s : Reader} {a b : SeenSource} → before + n ≤ most → Part number (Ok n) r s a b
+      → Part whole-number (Ok n) r s a b
+  number-read n few p = part-ok number judged-number whole-number number-is n n (λ bytes rest. rw (le-leb _ _ few) refl)
+      p
 
 -- ---- objects behind their ids
 
@@ -69,21 +75,33 @@ module _ (last : Option Stamp) where
   unfolding placed_at
   placed-is bytes = refl
 
-  pub placed-stops : (e : SnapshotFault) {r s : Reader} {a b : SeenSource} → Part id (Err e) r s a b → Part (placed_at last) (Err e) r s a b
+  pub placed-stops : (e : SnapshotFault) {r s : Reader} {a b : SeenSource} → Part id (Err e) r s a b
+      → Part (placed_at last) (Err e) r s a b
   placed-stops e p = part-stops id judged-id (placed_at last) placed-is e p
 
-  pub placed-low : (i : Stamp) {r s : Reader} {a b : SeenSource} → is_above last i ≡ false → Part id (Ok i) r s a b → Part (placed_at last) (Err (Bad r.place Order)) r s a b
+  pub placed-low : (i : Stamp) {r s : Reader} {a b : SeenSource} → is_above last i ≡ false → Part id (Ok i) r s a b
+      → Part (placed_at last) (Err (Bad r.place Order)) r s a b
   placed-low i low p = part-refused id judged-id (placed_at last) placed-is i Order (λ bytes rest. rw low refl) p
 
   -- an id above the last one, and what follows it
-  placed-then : (i : Stamp) (result : Result Placed SnapshotFault) {r s t : Reader} {a b c : SeenSource} → is_above last i ≡ true → Part id (Ok i) r s a b → Part (behind-id i) result s t b c → Part (placed_at last) result r t a c
-  placed-then i result above p q = standing-then (part-standing id judged-id (placed_at last) placed-is i (behind-id i) (λ bytes rest. rw above refl) p) result q
+  placed-then : (i : Stamp) (result : Result Placed SnapshotFault) {r s t : Reader} {a b c : SeenSource}
+      → is_above last i ≡ true → Part id (Ok i) r s a b → Part (behind-id i) result s t b c
+      → Part (placed_at last) result r t a c
+  placed-then i result above p q
+      = standing-then (part-standing id judged-id (placed_at last) placed-is i (behind-id i)
+      (λ bytes rest. rw above refl) p) result q
 
-  pub placed-faulty : (i : Stamp) (e : SnapshotFault) {r s t : Reader} {a b c : SeenSource} → is_above last i ≡ true → Part id (Ok i) r s a b → Part object (Err e) s t b c → Part (placed_at last) (Err e) r t a c
-  placed-faulty i e above p q = placed-then i (Err e) above p (part-stops object (λ _ o rest. Ok ((i, o), rest)) (behind-id i) (λ bytes. refl) e q)
+  pub placed-faulty : (i : Stamp) (e : SnapshotFault) {r s t : Reader} {a b c : SeenSource} → is_above last i ≡ true
+      → Part id (Ok i) r s a b → Part object (Err e) s t b c → Part (placed_at last) (Err e) r t a c
+  placed-faulty i e above p q
+      = placed-then i (Err e) above p
+      (part-stops object (λ _ o rest. Ok ((i, o), rest)) (behind-id i) (λ bytes. refl) e q)
 
-  pub placed-read : (i : Stamp) (o : Object) {r s t : Reader} {a b c : SeenSource} → is_above last i ≡ true → Part id (Ok i) r s a b → Part object (Ok o) s t b c → Part (placed_at last) (Ok (i, o)) r t a c
-  placed-read i o above p q = placed-then i (Ok (i, o)) above p (part-ok object (λ _ o rest. Ok ((i, o), rest)) (behind-id i) (λ bytes. refl) o (i, o) (λ bytes rest. refl) q)
+  pub placed-read : (i : Stamp) (o : Object) {r s t : Reader} {a b c : SeenSource} → is_above last i ≡ true
+      → Part id (Ok i) r s a b → Part object (Ok o) s t b c → Part (placed_at last) (Ok (i, o)) r t a c
+  placed-read i o above p q
+      = placed-then i (Ok (i, o)) above p
+      (part-ok object (λ _ o rest. Ok ((i, o), rest)) (behind-id i) (λ bytes. refl) o (i, o) (λ bytes rest. refl) q)
 
   -- memory ran out behind it
   pub placed-memory : (i : Stamp) (o : Object) {r s t : Reader} {a b c : SeenSource} → is_above last i ≡ true
@@ -97,14 +115,19 @@ event bytes = in_view (event_at bytes)
 
 -- the two tests of an event
 abbrev by-tests : Bool → Bool → List ℕ → Event → List ℕ → Views Event
-by-tests above bounded bytes e rest = cond above (cond bounded (Ok (e, rest)) (Err (misread_at Bound bytes))) (Err (misread_at Order bytes))
+by-tests above bounded bytes e rest
+    = cond above (cond bounded (Ok (e, rest)) (Err (misread_at Bound bytes))) (Err (misread_at Order bytes))
 
-tests-refuse : (above bounded : Bool) (why : ViewWhy) (bytes : List ℕ) (e : Event) (rest : List ℕ) → cond above (cond bounded None (Some Bound)) (Some Order) ≡ Some why → by-tests above bounded bytes e rest ≡ Err (misread_at why bytes)
+tests-refuse : (above bounded : Bool) (why : ViewWhy) (bytes : List ℕ) (e : Event) (rest : List ℕ)
+    → cond above (cond bounded None (Some Bound)) (Some Order) ≡ Some why
+    → by-tests above bounded bytes e rest ≡ Err (misread_at why bytes)
 tests-refuse true true why bytes e rest h = absurd cc
 tests-refuse true false why bytes e rest h = let k : Bound ≡ why = cc in rw k refl
 tests-refuse false bounded why bytes e rest h = let k : Order ≡ why = cc in rw k refl
 
-tests-pass : (above bounded : Bool) (bytes : List ℕ) (e : Event) (rest : List ℕ) → cond above (cond bounded None (Some Bound)) (Some Order) ≡ None → by-tests above bounded bytes e rest ≡ Ok (e, rest)
+tests-pass : (above bounded : Bool) (bytes : List ℕ) (e : Event) (rest : List ℕ)
+    → cond above (cond bounded None (Some Bound)) (Some Order) ≡ None
+    → by-tests above bounded bytes e rest ≡ Ok (e, rest)
 tests-pass true true bytes e rest h = refl
 tests-pass true false bytes e rest h = absurd cc
 tests-pass false bounded bytes e rest h = absurd cc
@@ -117,11 +140,17 @@ module _ (known : List Known) (last : Option Stamp) where
   unfolding kept_at
   kept-is bytes = refl
 
-  pub kept-stops : (f : SnapshotFault) {r s : Reader} {a b : SeenSource} → Part event (Err f) r s a b → Part (kept_at known last) (Err f) r s a b
+  pub kept-stops : (f : SnapshotFault) {r s : Reader} {a b : SeenSource} → Part event (Err f) r s a b
+      → Part (kept_at known last) (Err f) r s a b
   kept-stops f p = part-stops event judged-event (kept_at known last) kept-is f p
 
-  pub kept-refused : (e : Event) (why : ViewWhy) {r s : Reader} {a b : SeenSource} → kept_fault known last e ≡ Some why → Part event (Ok e) r s a b → Part (kept_at known last) (Err (Bad r.place why)) r s a b
-  kept-refused e why h p = part-refused event judged-event (kept_at known last) kept-is e why (λ bytes rest. tests-refuse (is_above last e.stamp) (is_bounded known e) why bytes e rest h) p
+  pub kept-refused : (e : Event) (why : ViewWhy) {r s : Reader} {a b : SeenSource} → kept_fault known last e ≡ Some why
+      → Part event (Ok e) r s a b → Part (kept_at known last) (Err (Bad r.place why)) r s a b
+  kept-refused e why h p
+      = part-refused event judged-event (kept_at known last) kept-is e why
+      (λ bytes rest. tests-refuse (is_above last e.stamp) (is_bounded known e) why bytes e rest h) p
 
-  pub kept-read : (e : Event) {r s : Reader} {a b : SeenSource} → kept_fault known last e ≡ None → Part event (Ok e) r s a b → Part (kept_at known last) (Ok e) r s a b
-  kept-read e h p = part-ok event judged-event (kept_at known last) kept-is e e (λ bytes rest. tests-pass (is_above last e.stamp) (is_bounded known e) bytes e rest h) p
+  pub kept-read : (e : Event) {r s : Reader} {a b : SeenSource} → kept_fault known last e ≡ None
+      → Part event (Ok e) r s a b → Part (kept_at known last) (Ok e) r s a b
+  kept-read e h p = part-ok event judged-event (kept_at known last) kept-is e e
+      (λ bytes rest. tests-pass (is_above last e.stamp) (is_bounded known e) bytes e rest h) p

@@ -1,5 +1,6 @@
 -- Reading on for a piece of a snapshot, of which the bytes ahead aren't all, and what kept events are judged by.
-use Rattle.std.specs.Prelude.{◌≡◌, ◌<◌, ◌≤◌, ⊤, ℕ, ◌+◌, max, if◌then◌else◌, List, [], length, Option, None, Some, Result, Ok, Err, IsSome}
+use Rattle.std.specs.Prelude.{◌≡◌, ◌<◌, ◌≤◌, ⊤, ℕ, ◌+◌, max, if◌then◌else◌, List, [], length, Option, None, Some}
+use Rattle.std.specs.Prelude.{Result, Ok, Err, IsSome}
 use Rattle.gd_base.specs.Stamps.{Stamp}
 use Rattle.gd_base.specs.declared.fault.FieldFault.{FieldFault}
 use Rattle.gd_base.specs.declared.fault.FieldWhy.TheVariants.{Short}

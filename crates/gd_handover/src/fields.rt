@@ -1,5 +1,5 @@
-//! The fields at the front of snapshots. The first fault of each is returned, `Short` at the end of all bytes where it isn't
-//! whole.
+//! The fields at the front of snapshots. The first fault of each is returned, `Short` at the end of all bytes where it
+//! isn't whole.
 
 ghost use Rattle.std.specs.Prelude.{◌≡◌, ◌≤◌, IfOk};
 ghost use Rattle.gd_base.specs.Results.{Gives};

@@ -44,8 +44,8 @@ pub fn is_above(last: Option<Stamp>, id: Stamp) -> bool
     }
 }
 
-/// Whether the event is one of those that are held of its site, and lies above the line and no higher than its site's sure
-/// clock. The line is the least of the sure clocks.
+/// Whether the event is one of those that are held of its site, and lies above the line and no higher than its site's
+/// sure clock. The line is the least of the sure clocks.
 pub fn is_bounded(known: &[Known], line: u64, event: &Event) -> bool
     requires { line ≡ least_sure known.now }
     ensures { result ≡ is_bounded known.now event.now }
@@ -57,7 +57,8 @@ pub fn is_bounded(known: &[Known], line: u64, event: &Event) -> bool
     }
 }
 
-/// Whether an event with that number and clock is one of those of a site of which that is known, where the line is that.
+/// Whether an event with that number and clock is one of those of a site of which that is known, where the line is
+/// that.
 fn is_within(of: Known, line: u64, clock: u64, number: u16) -> bool
     ensures { result ≡ (nat_le number of.count && (nat_lt line clock && nat_le clock of.sure)) }
 {

@@ -2,7 +2,8 @@
 
 ghost use Rattle.std.specs.Prelude.{◌≡◌, ◌≤◌, ◌<◌, ◌+◌, ◌-◌, ◌*◌, ◌^◌, None, length, IfOk};
 ghost use Rattle.gd_base.specs.declared.ranges.TheConstants.{SITES};
-ghost use Rattle.gd_snapshots.specs.SnapshotBytes.{all_known_at, all_kept_at, in_view, kept_at, number_within, objects_at, placed_at};
+ghost use Rattle.gd_snapshots.specs.SnapshotBytes.{all_known_at, all_kept_at, in_view, kept_at, number_within};
+ghost use Rattle.gd_snapshots.specs.SnapshotBytes.{objects_at, placed_at};
 ghost use Rattle.gd_snapshots.specs.Snapshots.{least_sure};
 ghost use Rattle.gd_handover.specs.Parts.{Part};
 ghost use Rattle.gd_handover.specs.Pieces.{kept_fault};

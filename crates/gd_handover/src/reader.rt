@@ -35,8 +35,8 @@ impl Reader {
         }
     }
 
-    /// Reads the next piece. `least` is how many bytes the snapshot has at least from here on, where it is whole: no more than
-    /// that are read ahead, but one byte after the other where the piece needs more.
+    /// Reads the next piece. `least` is how many bytes the snapshot has at least from here on, where it is whole: no
+    /// more than that are read ahead, but one byte after the other where the piece needs more.
     ///
     /// `Read` where a read failed, and `Bad` at the piece's first fault. Bytes are judged before more are read.
     pub fn next<P: Piece, S: Source>(
@@ -82,8 +82,8 @@ impl Reader {
 
     /// Reads more bytes behind those ahead, which have that fault of a piece.
     ///
-    /// The fault, with its place, where they aren't just the beginning of the piece, and where nothing comes; `Read` where the
-    /// read failed. The bytes ahead then stay as they were.
+    /// The fault, with its place, where they aren't just the beginning of the piece, and where nothing comes; `Read`
+    /// where the read failed. The bytes ahead then stay as they were.
     fn read_on<S: Source>(
         &mut self,
         source: &mut S,

@@ -21,8 +21,8 @@ const LEAST_BYTES: usize = 27;
 
 /// Reads the snapshot at the front of a source's bytes, and takes no byte behind it, however reads cut them.
 ///
-/// `Read` where a read failed, `Bad` at the first fault of the bytes, which is judged before anything behind it is read, and
-/// `NoMemory` where memory ran out. What was taken until then is gone.
+/// `Read` where a read failed, `Bad` at the first fault of the bytes, which is judged before anything behind it is
+/// read, and `NoMemory` where memory ran out. What was taken until then is gone.
 pub fn read_snapshot<S: Source>(alloc: Global, source: &mut S) -> Result<Snapshot, SnapshotFault>
     ensures exact { IsSome (S.seen source.new).left
         → SnapshotIs result (told (S.seen source.old).left) (told (S.seen source.new).left) }

@@ -1,5 +1,6 @@
 -- Pairs that are spread over many sets: what stands in one of them stands in all together, and the other way round.
-use Rattle.std.proofs.Common.{◌≡◌, ◌≢◌, ℕ, ◌/◌, ◌%◌, ◌<◌, Bool, true, false, List, [], ◌∷◌, length, get_or, set, replicate, min, Option, refl, sym, ap, ◌∙◌, subst, zero, suc, arith, ◌==◌}
+use Rattle.std.proofs.Common.{◌≡◌, ◌≢◌, ℕ, ◌/◌, ◌%◌, ◌<◌, Bool, true, false, List, [], ◌∷◌, length, get_or, set}
+use Rattle.std.proofs.Common.{replicate, min, Option, refl, sym, ap, ◌∙◌, subst, zero, suc, arith, ◌==◌}
 use Rattle.std.proofs.lemmas.Bool.{eqb-true, eqb-false}
 use Rattle.std.proofs.lemmas.List.{get_or_read, get_or-set_same, get_or-set_other}
 use Rattle.gd_base.specs.Stamps.{Stamp}

@@ -11,13 +11,15 @@ use gd_base::Stamp;
 use std::alloc::{AllocError, Global};
 use std::marker::Model;
 
-/// How many sets there are: a prime, so that keys that rise by any step but its own come to all of them.
+/// How many sets there are: a prime, so that blocks that rise by any step but a multiple of it come to all of
+/// them.
 pub(crate) const SETS: usize = 251;
 
 /// How many keys in a row have their pairs in one set: a document gives the parts of one object keys of one block.
 pub(crate) const BLOCK: u64 = 32;
 
-/// Pairs of a key and the stamp of an event that has it, each in the set of its key. The sets are made with the first pair.
+/// Pairs of a key and the stamp of an event that has it, each in the set of its key. The sets are made with the first
+/// pair.
 #[derive(Drop)]
 pub(crate) struct Spread {
     alloc: Global,
@@ -69,8 +71,8 @@ impl Spread {
         self.sets[set_of(key)].take(key, stamp);
     }
 
-    /// The first stamp behind the floor that stands under the key, and a bound: none behind the floor stands under a key
-    /// between this one and the bound, which is none behind the key's block.
+    /// The first stamp behind the floor that stands under the key, and a bound: none behind the floor stands under a
+    /// key between this one and the bound, which is none behind the key's block.
     pub(crate) fn probe(&self, key: u64, floor: Stamp) -> (Option<Stamp>, u64)
         ensures behind { IfSome result.0 (λ t. IsTrue (is_before floor t)) }
         ensures first { IsNext self.now floor result.0 key }

@@ -3,7 +3,8 @@ use Rattle.std.proofs.Common.{◌≡◌, ◌≢◌, ℕ, zero, suc, ◌<◌, ◌
 use Rattle.std.proofs.lemmas.Bool.{ne_eqb, lt-ltb, le-ltb}
 use Rattle.std.proofs.lemmas.List.Elements.{All-head, All-tail}
 use Rattle.gd_input.specs.Cutting.{HasNoLf}
-use Rattle.gd_reference.specs.InputLines.{lf, Read, Over, onto, lines_of, longest_input_line, heard, before_lf, whole_lines}
+use Rattle.gd_reference.specs.InputLines.{lf, Read, Over, onto, lines_of, longest_input_line, heard, before_lf}
+use Rattle.gd_reference.specs.InputLines.{whole_lines}
 
 abbrev IsNoLf : ℕ → Type 0
 IsNoLf byte = byte ≢ lf
@@ -22,7 +23,8 @@ pub a_line_goes_up_to_lf : (line rest : List ℕ) → HasNoLf line → lines_of 
 unfolding lines_of
 a_line_goes_up_to_lf [] rest one = refl
 a_line_goes_up_to_lf (byte ∷ line) rest one =
-    onto_first byte (line ++ lf ∷ rest) (All-head IsNoLf byte line one) ∙ ap (onto byte) (a_line_goes_up_to_lf line rest (All-tail IsNoLf byte line one))
+    onto_first byte (line ++ lf ∷ rest) (All-head IsNoLf byte line one)
+    ∙ ap (onto byte) (a_line_goes_up_to_lf line rest (All-tail IsNoLf byte line one))
 
 pub the_last_line_goes_up_to_the_end : (line : List ℕ) → HasNoLf line → 0 < length line → lines_of line ≡ line ∷ []
 unfolding lines_of
@@ -30,7 +32,8 @@ the_last_line_goes_up_to_the_end [] one some = absurd (omega arith)
 the_last_line_goes_up_to_the_end (byte ∷ []) one some = onto_first byte [] (All-head IsNoLf byte [] one)
 the_last_line_goes_up_to_the_end (byte ∷ next ∷ line) one some =
     onto_first byte (next ∷ line) (All-head IsNoLf byte (next ∷ line) one)
-    ∙ ap (onto byte) (the_last_line_goes_up_to_the_end (next ∷ line) (All-tail IsNoLf byte (next ∷ line) one) (omega arith))
+    ∙ ap (onto byte) (the_last_line_goes_up_to_the_end (next ∷ line) (All-tail IsNoLf byte (next ∷ line) one)
+    (omega arith))
 
 -- a first line that is at least so long
 record BeginsWith (least : ℕ) (bytes : List ℕ) : Type 0 where
@@ -39,7 +42,8 @@ record BeginsWith (least : ℕ) (bytes : List ℕ) : Type 0 where
   is : lines_of bytes ≡ line ∷ lines
   long : least ≤ length line
 
-onto_some : (byte : ℕ) (lines : List (List ℕ)) → (line : List ℕ) × (rest : List (List ℕ)) × (onto byte lines ≡ (byte ∷ line) ∷ rest)
+onto_some : (byte : ℕ) (lines : List (List ℕ))
+    → (line : List ℕ) × (rest : List (List ℕ)) × (onto byte lines ≡ (byte ∷ line) ∷ rest)
 onto_some byte [] = ([], [], refl)
 onto_some byte (line ∷ lines) = (line, lines, refl)
 
@@ -47,7 +51,13 @@ begins_with : (front more : List ℕ) → HasNoLf front → 0 < length front →
 begins_with [] more one some = absurd (omega arith)
 begins_with (byte ∷ []) more one some =
     let p = onto_some byte (lines_of more) in
-    record { line = byte ∷ p.0; lines = p.1; is = onto_first byte more (All-head IsNoLf byte [] one) ∙ p.2; long = omega arith }
+    record {
+      line = byte ∷ p.0;
+      lines = p.1;
+      is = onto_first byte more (All-head IsNoLf byte [] one)
+          ∙ p.2;
+      long = omega arith;
+    }
 begins_with (byte ∷ next ∷ front) more one some =
     let b = begins_with (next ∷ front) more (All-tail IsNoLf byte (next ∷ front) one) (omega arith) in
     record {
@@ -68,18 +78,24 @@ module _ {A : Type 0} (read : List ℕ → A) where
   pub a_line_is_heard : (most : ℕ) (line : List ℕ) (lines : List (List ℕ)) → length line ≤ longest_input_line
       → heard read (suc most) (line ∷ lines) ≡ Read (read line) ∷ heard read most lines
   unfolding heard
-  a_line_is_heard most line lines fits = ap (λ b. cond b (Over ∷ []) (Read (read line) ∷ heard read most lines)) (le-ltb longest_input_line (length line) fits)
+  a_line_is_heard most line lines fits
+      = ap (λ b. cond b (Over ∷ []) (Read (read line) ∷ heard read most lines))
+      (le-ltb longest_input_line (length line) fits)
 
   pub one_line_too_many_is_over : (line : List ℕ) (lines : List (List ℕ)) → heard read 0 (line ∷ lines) ≡ Over ∷ []
   unfolding heard
   one_line_too_many_is_over line lines = refl
 
-  a_long_line_is_over : (most : ℕ) (line : List ℕ) (lines : List (List ℕ)) → longest_input_line < length line → heard read most (line ∷ lines) ≡ Over ∷ []
+  a_long_line_is_over : (most : ℕ) (line : List ℕ) (lines : List (List ℕ)) → longest_input_line < length line
+      → heard read most (line ∷ lines) ≡ Over ∷ []
   unfolding heard
   a_long_line_is_over zero line lines long = refl
-  a_long_line_is_over (suc most) line lines long = ap (λ b. cond b (Over ∷ []) (Read (read line) ∷ heard read most lines)) (lt-ltb longest_input_line (length line) long)
+  a_long_line_is_over (suc most) line lines long
+      = ap (λ b. cond b (Over ∷ []) (Read (read line) ∷ heard read most lines))
+      (lt-ltb longest_input_line (length line) long)
 
-  pub too_long_a_line_is_over : (most : ℕ) (front more : List ℕ) → HasNoLf front → longest_input_line < length front → heard read most (lines_of (front ++ more)) ≡ Over ∷ []
+  pub too_long_a_line_is_over : (most : ℕ) (front more : List ℕ) → HasNoLf front → longest_input_line < length front
+      → heard read most (lines_of (front ++ more)) ≡ Over ∷ []
   too_long_a_line_is_over most front more one long =
       let b = begins_with front more one (omega arith) in
       ap (heard read most) b.is ∙ a_long_line_is_over most b.line b.lines (omega (arith, b.long))
@@ -97,7 +113,8 @@ before_some byte (next ∷ line) rest = refl
 pub a_line_and_its_lf_are_whole : (line rest : List ℕ) → whole_lines (line ++ lf ∷ rest) ≡ line ++ lf ∷ whole_lines rest
 unfolding whole_lines
 a_line_and_its_lf_are_whole [] rest = before_some_lf (whole_lines rest)
-a_line_and_its_lf_are_whole (byte ∷ line) rest = ap (before_lf byte) (a_line_and_its_lf_are_whole line rest) ∙ before_some byte line (whole_lines rest)
+a_line_and_its_lf_are_whole (byte ∷ line) rest = ap (before_lf byte) (a_line_and_its_lf_are_whole line rest)
+    ∙ before_some byte line (whole_lines rest)
 
 pub without_lf_no_line_is_whole : (bytes : List ℕ) → HasNoLf bytes → whole_lines bytes ≡ []
 unfolding whole_lines

@@ -15,7 +15,8 @@ takes_then {p = p} h k = record {
 }
 
 -- what a reader has that failed to read
-pub reads_failed : {A E : Type 0} {p q : List ℕ} {a b : Option (List ℕ)} (read : List ℕ → A) (result : Result (Next A) E)
+pub reads_failed : {A E : Type 0} {p q : List ℕ} {a b : Option (List ℕ)} (read : List ℕ → A)
+    (result : Result (Next A) E)
     → IsErr result → Takes p a q b → HasNoLf q → Reads read p a result q b
 reads_failed read (Ok next) is takes no_lf = absurd (false≢true is)
 reads_failed read (Err failed) is takes no_lf = (takes, no_lf)

@@ -1,5 +1,6 @@
 -- How a line is cut off the front of bytes.
-use Rattle.std.specs.Prelude.{◌≡◌, ◌≢◌, ℕ, ◌+◌, ◌<◌, ◌≤◌, Bool, true, false, List, [], ◌∷◌, ◌++◌, All, length, take, drop}
+use Rattle.std.specs.Prelude.{◌≡◌, ◌≢◌, ℕ, ◌+◌, ◌<◌, ◌≤◌, Bool, true, false, List, [], ◌∷◌, ◌++◌, All, length, take}
+use Rattle.std.specs.Prelude.{drop}
 use Rattle.gd_reference.specs.InputLines.{lf, longest_input_line}
 use Rattle.gd_input.specs.declared.next.Next.{Next}
 use Rattle.gd_input.specs.declared.next.Next.TheVariants.{Line, TooLong, Finished}

@@ -1,6 +1,7 @@
 //! Reading lines.
 
-ghost use Rattle.std.specs.Prelude.{◌≡◌, ◌≤◌, ◌+◌, ◌-◌, [], length, take, drop, false, Ok, IfOk, IsErr, OnErr, MatchOption};
+ghost use Rattle.std.specs.Prelude.{◌≡◌, ◌≤◌, ◌+◌, ◌-◌, [], length, take, drop, false, Ok, IfOk, IsErr, OnErr};
+ghost use Rattle.std.specs.Prelude.{MatchOption};
 ghost use Rattle.gd_input.specs.Cutting.{HasNoLf, IsLineEnd, Cuts, is_end};
 ghost use Rattle.gd_input.specs.Reading.{IsAtEnd, Reads, Takes};
 ghost use Rattle.gd_input.specs.declared.reader.TheConstants.{LONGEST};
@@ -18,8 +19,8 @@ const LONGEST: usize = 65_536;
 /// The most bytes that are pending.
 const SIZE: usize = 73_728;
 
-/// Reads the lines of an input. Contracts see the bytes that were taken from the source and are in no line yet. No call takes
-/// memory.
+/// Reads the lines of an input. Contracts see the bytes that were taken from the source and are in no line yet. No call
+/// takes memory.
 #[derive(Drop)]
 pub struct LineReader {
     bytes: [u8; SIZE],
@@ -54,8 +55,8 @@ impl LineReader {
 
     /// Reads the next line, and asks the source for more bytes as long as no whole line is pending.
     ///
-    /// Fails where a read failed; what was taken before it stays pending. A line that is too long stays pending too, and is found
-    /// again. Behind the last line, and at the end, nothing is pending.
+    /// Fails where a read failed; what was taken before it stays pending. A line that is too long stays pending too,
+    /// and is found again. Behind the last line, and at the end, nothing is pending.
     pub fn next<T: TypedLine, S: Source>(&mut self, input: &mut S) -> Result<Next<T>, Failed>
         ensures reads { Reads T.read self.old (S.seen input.old).left
             result self.new (S.seen input.new).left }

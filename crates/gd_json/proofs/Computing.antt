@@ -10,5 +10,6 @@ use Rattle.gd_json.specs.EventsJson.{event_json, link_json, member_json, rank_js
 use Rattle.gd_json.specs.Values.{put_field}
 
 unfoldable pub computing : ⊤
-unfolding stamp_cmp inserted_by rank_cmp level_cmp digits colour_text hex_digit high_digits id_text nibble item_json put_field event_json link_json member_json rank_json tie_json
+unfolding stamp_cmp inserted_by rank_cmp level_cmp digits colour_text hex_digit high_digits id_text nibble item_json
+    put_field event_json link_json member_json rank_json tie_json
 computing = tt

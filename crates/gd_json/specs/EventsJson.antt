@@ -1,5 +1,6 @@
--- Events as one line of JSON: an array with an object for each event, in the list's order. Each object has `clock`, `seq` and
--- `site`, under `op` the name of the operation, and the operation's own keys. All keys stand in the order of their bytes.
+-- Events as one line of JSON: an array with an object for each event, in the list's order. Each object has `clock`,
+-- `seq` and `site`, under `op` the name of the operation, and the operation's own keys. All keys stand in the order of
+-- their bytes.
 use Rattle.std.specs.Prelude.{ℕ, ℤ, true, false, Option, Some, None, List, [], ◌∷◌, ◌++◌, map, codes, decimal}
 use Rattle.std.specs.Fmt.{signed_decimal}
 use Rattle.gd_base.specs.Stamps.{Stamp}
@@ -20,7 +21,8 @@ use Rattle.gd_base.specs.declared.ties.Tie.{Tie}
 use Rattle.gd_events.specs.Events.{Event}
 use Rattle.gd_events.specs.Ops.{Op, Done}
 use Rattle.gd_json.specs.Values.{Field, array, flag, in_order, null, object, plain, quoted}
-use Rattle.gd_json.specs.Parts.{align_or_null, colour_json, colour_or_null, dash_json, heads_json, id_json, kind_json, number_or_null, style_fields, two}
+use Rattle.gd_json.specs.Parts.{align_or_null, colour_json, colour_or_null, dash_json, heads_json, id_json, kind_json}
+use Rattle.gd_json.specs.Parts.{number_or_null, style_fields, two}
 
 abbrev pub id_field : Stamp → Field
 id_field id = (codes "id", id_json id)
@@ -34,7 +36,8 @@ count_field key count = (key, decimal count)
 -- a place and a size
 abbrev pub box_fields : ℤ → ℤ → ℤ → ℤ → List Field
 box_fields x y w h =
-    number_field (codes "x") x ∷ number_field (codes "y") y ∷ number_field (codes "w") w ∷ number_field (codes "h") h ∷ []
+    number_field (codes "x") x ∷ number_field (codes "y") y ∷ number_field (codes "w") w ∷ number_field (codes "h") h
+    ∷ []
 
 abbrev pub member_fields : Member → List Field
 member_fields m = number_field (codes "dx") m.dx ∷ number_field (codes "dy") m.dy ∷ id_field m.id ∷ []
@@ -72,12 +75,14 @@ ends_fields (Some ends) = both_fields ends
 
 -- to which group it is linked, whether it is dissolved, and how high it lies
 abbrev pub state_of : Object → List Field
-state_of o = (codes "link", link_json o.link) ∷ (codes "dissolved", flag o.dissolved) ∷ (codes "rank", rank_json o.rank) ∷ []
+state_of o = (codes "link", link_json o.link) ∷ (codes "dissolved", flag o.dissolved) ∷ (codes "rank", rank_json o.rank)
+    ∷ []
 
 -- the fields of an item, also of a group, and those of its state
 abbrev pub object_fields : Object → List Field
 object_fields o =
-    (codes "kind", kind_or_group o.kind) ∷ (codes "at", two o.x o.y) ∷ (codes "size", two o.w o.h) ∷ (codes "label", quoted o.label)
+    (codes "kind", kind_or_group o.kind) ∷ (codes "at", two o.x o.y) ∷ (codes "size", two o.w o.h)
+    ∷ (codes "label", quoted o.label)
     ∷ style_fields o.look ++ ends_fields o.ends ++ state_of o
 
 abbrev pub tie_fields : Tie → List Field
@@ -136,7 +141,8 @@ op_fields (Disband id ties) = named (codes "disband") (id_field id ∷ ties_fiel
 
 abbrev pub event_fields : Event → List Field
 event_fields e =
-    count_field (codes "clock") e.stamp.clock ∷ count_field (codes "seq") e.number ∷ count_field (codes "site") e.stamp.site
+    count_field (codes "clock") e.stamp.clock ∷ count_field (codes "seq") e.number
+    ∷ count_field (codes "site") e.stamp.site
     ∷ op_fields e.op
 
 unfoldable pub event_json : Event → List ℕ

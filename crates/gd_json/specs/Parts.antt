@@ -1,5 +1,5 @@
--- What drawings and events have in common. An id, a kind and a colour are strings, as they are printed in lines. Where there
--- is no parent or no fill stands null.
+-- What drawings and events have in common. An id, a kind and a colour are strings, as they are printed in lines. Where
+-- there is no parent or no fill stands null.
 use Rattle.std.specs.Prelude.{ℕ, ℤ, List, [], ◌∷◌, ◌++◌, ◌==◌, Option, Some, None, codes, decimal, if◌then◌else◌}
 use Rattle.std.specs.Fmt.{signed_decimal}
 use Rattle.gd_base.specs.Stamps.{Stamp}
@@ -84,5 +84,6 @@ align_field (Some a) = (codes "align", plain (align_word a)) ∷ []
 abbrev pub style_fields : Look → List Field
 style_fields l =
     (codes "stroke", colour_json l.stroke) ∷ (codes "fill", colour_or_null l.fill) ∷ (codes "width", decimal l.width)
-    ∷ dash_field l.dash ++ heads_field l.heads ++ round_field l.round ++ opacity_field l.opacity ++ letters_field l.letters
+    ∷ dash_field l.dash ++ heads_field l.heads ++ round_field l.round ++ opacity_field l.opacity
+    ++ letters_field l.letters
     ++ align_field l.align

@@ -1,6 +1,7 @@
--- JSON as bytes. It is compact: nothing stands between its parts. An object is a list of fields, each a key and a value that
--- is written already.
-use Rattle.std.specs.Prelude.{ℕ, Bool, true, false, ◌||◌, ◌==◌, List, [], ◌∷◌, ◌++◌, map, flat_map, codes, if◌then◌else◌}
+-- JSON as bytes. It is compact: nothing stands between its parts. An object is a list of fields, each a key and a value
+-- that is written already.
+use Rattle.std.specs.Prelude.{ℕ, Bool, true, false, ◌||◌, ◌==◌, List, [], ◌∷◌, ◌++◌, map, flat_map, codes}
+use Rattle.std.specs.Prelude.{if◌then◌else◌}
 use Rattle.std.specs.Cmp.Lexicographic.{slice_cmp}
 use Rattle.std.specs.List.{fold}
 use Rattle.std.specs.Ordering.{match_ordering, nat_cmp}

@@ -71,7 +71,13 @@ filled_line = record {
 }
 
 abbrev pub inner_group : Item
-inner_group = record { id = at_stamp 9 2; parent = Some (at_stamp 12 1); at = record { x = negsuc 2; y = pos 4 }; body = Group }
+inner_group = record {
+  id = at_stamp 9 2;
+  parent = Some (at_stamp 12 1);
+  at = record { x = negsuc 2; y = pos 4 };
+  body
+      = Group;
+}
 
 -- a shape with a label, in no group and with no fill
 abbrev pub lone_text : Item
@@ -83,7 +89,8 @@ lone_text = record {
     kind = Text;
     w = pos 3;
     h = pos 4;
-    look = record (new_look Bare) { stroke = 0x0A0B0C; width = 5; round = Some 0; letters = Some 24; align = Some Middle };
+    look = record (new_look Bare)
+        { stroke = 0x0A0B0C; width = 5; round = Some 0; letters = Some 24; align = Some Middle };
     label = codes "none";
   };
 }
@@ -100,7 +107,12 @@ arrow = record {
   id = at_stamp 5 1;
   parent = None;
   at = record { x = pos 0; y = pos 0 };
-  body = Joined record { ends = arrow_ends; look = record (new_look AtEnd) { dash = Dotted; opacity = 50 }; label = two_lines };
+  body = Joined record {
+    ends = arrow_ends;
+    look = record (new_look AtEnd) { dash = Dotted; opacity = 50 };
+    label
+        = two_lines;
+  };
 }
 
 -- items, each with its JSON
@@ -149,36 +161,80 @@ old_group = record {
 -- the connector, with all looks set
 abbrev pub old_arrow : Object
 old_arrow = record (new_connector (at_stamp 5 1) arrow_ends two_lines) {
-  look = record (new_look AtBoth) { dash = Dashed; round = Some 1000000; opacity = 1; letters = Some 1; align = Some End };
+  look = record (new_look AtBoth)
+      { dash = Dashed; round = Some 1000000; opacity = 1; letters = Some 1; align = Some End };
 }
 
 -- two ties, of which one leads to no group
 abbrev pub old_ties : List Tie
-old_ties = record { id = at_stamp 2 1; link = None } ∷ record { id = at_stamp 7 3; link = Some record { parent = at_stamp 9 2; dx = pos 10; dy = pos 0 } } ∷ []
+old_ties = record { id = at_stamp 2 1; link = None }
+    ∷ record { id = at_stamp 7 3; link = Some record { parent = at_stamp 9 2; dx = pos 10; dy = pos 0 } } ∷ []
 
 abbrev pub old_ties_json : List ℕ
-old_ties_json = codes "\"ties\":[{\"id\":\"2.1\",\"link\":null},{\"id\":\"7.3\",\"link\":{\"dx\":10,\"dy\":0,\"id\":\"9.2\"}}]"
+old_ties_json = codes
+    "\"ties\":[{\"id\":\"2.1\",\"link\":null},{\"id\":\"7.3\",\"link\":{\"dx\":10,\"dy\":0,\"id\":\"9.2\"}}]"
 
 -- each operation, with the JSON of its event
 abbrev pub events_of_json : List (Event × List ℕ)
 events_of_json = (
   event 7 3 1 (Create Text (negsuc 4) (pos 6) (pos 7) (negsuc 7) odd_label),
-  codes "{\"clock\":7,\"h\":-8,\"kind\":\"text\",\"label\":" ++ odd_label_json ++ codes ",\"op\":\"create\",\"seq\":1,\"site\":3,\"w\":7,\"x\":-5,\"y\":6}",
+  codes "{\"clock\":7,\"h\":-8,\"kind\":\"text\",\"label\":" ++ odd_label_json
+      ++ codes ",\"op\":\"create\",\"seq\":1,\"site\":3,\"w\":7,\"x\":-5,\"y\":6}",
 )
-    ∷ (event 8 3 2 (Delete (at_stamp 7 16)), codes "{\"clock\":8,\"id\":\"7.16\",\"op\":\"delete\",\"seq\":2,\"site\":3}")
-    ∷ (event 9 3 3 (Set (at_stamp 7 3) (ToPlace (pos 2147483647) (negsuc 2147483646))), codes "{\"clock\":9,\"id\":\"7.3\",\"op\":\"move\",\"seq\":3,\"site\":3,\"x\":2147483647,\"y\":-2147483647}")
-    ∷ (event 10 3 4 (Set (at_stamp 7 3) (ToSize (pos 11) (pos 12))), codes "{\"clock\":10,\"h\":12,\"id\":\"7.3\",\"op\":\"resize\",\"seq\":4,\"site\":3,\"w\":11}")
-    ∷ (event 11 3 5 (Set (at_stamp 7 3) (ToLooks (only_stroke 0x00AB0C))), codes "{\"clock\":11,\"id\":\"7.3\",\"op\":\"restyle\",\"seq\":5,\"site\":3,\"stroke\":\"00AB0C\"}")
-    ∷ (event 12 3 6 (Set (at_stamp 7 3) (ToLooks (only_fill (Some 0)))), codes "{\"clock\":12,\"fill\":\"000000\",\"id\":\"7.3\",\"op\":\"restyle\",\"seq\":6,\"site\":3}")
-    ∷ (event 13 3 7 (Set (at_stamp 7 3) (ToLooks (only_fill None))), codes "{\"clock\":13,\"fill\":null,\"id\":\"7.3\",\"op\":\"restyle\",\"seq\":7,\"site\":3}")
-    ∷ (event 14 3 8 (Set (at_stamp 7 3) (ToLooks (only_width 64))), codes "{\"clock\":14,\"id\":\"7.3\",\"op\":\"restyle\",\"seq\":8,\"site\":3,\"width\":64}")
-    ∷ (event 15 3 9 (Set (at_stamp 7 3) (ToText odd_label)), codes "{\"clock\":15,\"id\":\"7.3\",\"label\":" ++ odd_label_json ++ codes ",\"op\":\"retext\",\"seq\":9,\"site\":3}")
+    ∷ (
+      event 8 3 2 (Delete (at_stamp 7 16)),
+      codes
+          "{\"clock\":8,\"id\":\"7.16\",\"op\":\"delete\",\"seq\":2,\"site\":3}",
+    )
+    ∷ (
+      event 9 3 3 (Set (at_stamp 7 3) (ToPlace (pos 2147483647) (negsuc 2147483646))),
+      codes
+          "{\"clock\":9,\"id\":\"7.3\",\"op\":\"move\",\"seq\":3,\"site\":3,\"x\":2147483647,\"y\":-2147483647}",
+    )
+    ∷ (
+      event 10 3 4 (Set (at_stamp 7 3) (ToSize (pos 11) (pos 12))),
+      codes
+          "{\"clock\":10,\"h\":12,\"id\":\"7.3\",\"op\":\"resize\",\"seq\":4,\"site\":3,\"w\":11}",
+    )
+    ∷ (
+      event 11 3 5 (Set (at_stamp 7 3) (ToLooks (only_stroke 0x00AB0C))),
+      codes
+          "{\"clock\":11,\"id\":\"7.3\",\"op\":\"restyle\",\"seq\":5,\"site\":3,\"stroke\":\"00AB0C\"}",
+    )
+    ∷ (
+      event 12 3 6 (Set (at_stamp 7 3) (ToLooks (only_fill (Some 0)))),
+      codes
+          "{\"clock\":12,\"fill\":\"000000\",\"id\":\"7.3\",\"op\":\"restyle\",\"seq\":6,\"site\":3}",
+    )
+    ∷ (
+      event 13 3 7 (Set (at_stamp 7 3) (ToLooks (only_fill None))),
+      codes
+          "{\"clock\":13,\"fill\":null,\"id\":\"7.3\",\"op\":\"restyle\",\"seq\":7,\"site\":3}",
+    )
+    ∷ (
+      event 14 3 8 (Set (at_stamp 7 3) (ToLooks (only_width 64))),
+      codes
+          "{\"clock\":14,\"id\":\"7.3\",\"op\":\"restyle\",\"seq\":8,\"site\":3,\"width\":64}",
+    )
+    ∷ (
+      event 15 3 9 (Set (at_stamp 7 3) (ToText odd_label)),
+      codes "{\"clock\":15,\"id\":\"7.3\",\"label\":"
+          ++ odd_label_json ++ codes ",\"op\":\"retext\",\"seq\":9,\"site\":3}",
+    )
     ∷ (
       event 16 3 10 (Grouped (member 2 1 (pos 0) (negsuc 8) ∷ member 7 3 (pos 10) (pos 0) ∷ [])),
       codes "{\"clock\":16,\"members\":[{\"dx\":0,\"dy\":-9,\"id\":\"2.1\"},{\"dx\":10,\"dy\":0,\"id\":\"7.3\"}],\"op\":\"group\",\"seq\":10,\"site\":3}",
     )
-    ∷ (event 17 3 11 (Set (at_stamp 16 3) (ToFlag true)), codes "{\"clock\":17,\"id\":\"16.3\",\"op\":\"ungroup\",\"seq\":11,\"site\":3}")
-    ∷ (event 18 3 12 (Set (at_stamp 7 3) (ToRank (To Top))), codes "{\"clock\":18,\"id\":\"7.3\",\"op\":\"raise\",\"seq\":12,\"site\":3}")
+    ∷ (
+      event 17 3 11 (Set (at_stamp 16 3) (ToFlag true)),
+      codes
+          "{\"clock\":17,\"id\":\"16.3\",\"op\":\"ungroup\",\"seq\":11,\"site\":3}",
+    )
+    ∷ (
+      event 18 3 12 (Set (at_stamp 7 3) (ToRank (To Top))),
+      codes
+          "{\"clock\":18,\"id\":\"7.3\",\"op\":\"raise\",\"seq\":12,\"site\":3}",
+    )
     ∷ (
       event 19 3 13 (Restore (at_stamp 7 3) old_shape []),
       codes "{\"at\":[1,-2],\"clock\":19,\"dissolved\":false,\"fill\":\"FF8000\",\"id\":\"7.3\",\"kind\":\"line\",\"label\":" ++ odd_label_json
@@ -187,7 +243,8 @@ events_of_json = (
     ∷ (
       event 20 3 14 (Restore (at_stamp 9 2) old_group old_ties),
       codes "{\"at\":[0,0],\"clock\":20,\"dissolved\":true,\"fill\":null,\"id\":\"9.2\",\"kind\":\"group\",\"label\":\"\",\"link\":null,\"op\":\"restore\",\"rank\":{\"high\":\"9.2\"},"
-          ++ codes "\"seq\":14,\"site\":3,\"size\":[0,0],\"stroke\":\"000000\"," ++ old_ties_json ++ codes ",\"width\":1}",
+          ++ codes "\"seq\":14,\"site\":3,\"size\":[0,0],\"stroke\":\"000000\"," ++ old_ties_json
+          ++ codes ",\"width\":1}",
     )
     ∷ (
       event 20 3 14 (Restore (at_stamp 5 1) old_arrow []),
@@ -195,14 +252,39 @@ events_of_json = (
           ++ codes "\"label\":\"a\\nb\",\"letters\":1,\"link\":null,\"op\":\"restore\",\"opacity\":1,\"rank\":{\"high\":\"5.1\"},\"round\":1000000,\"seq\":14,\"site\":3,"
           ++ codes "\"size\":[0,0],\"stroke\":\"000000\",\"ties\":[],\"to\":\"9.2\",\"width\":1}",
     )
-    ∷ (event 20 3 14 (Connect arrow_ends two_lines), codes "{\"clock\":20,\"from\":\"3.1\",\"label\":\"a\\nb\",\"op\":\"connect\",\"seq\":14,\"site\":3,\"to\":\"9.2\"}")
-    ∷ (event 20 3 14 (Set (at_stamp 5 1) (ToEnds (Some arrow_ends))), codes "{\"clock\":20,\"from\":\"3.1\",\"id\":\"5.1\",\"op\":\"reconnect\",\"seq\":14,\"site\":3,\"to\":\"9.2\"}")
     ∷ (
-      event 20 3 14 (Set (at_stamp 5 1) (ToLooks (record no_looks { stroke = Some 1; round = Some None; letters = Some None; align = Some None }))),
+      event 20 3 14 (Connect arrow_ends two_lines),
+      codes
+          "{\"clock\":20,\"from\":\"3.1\",\"label\":\"a\\nb\",\"op\":\"connect\",\"seq\":14,\"site\":3,\"to\":\"9.2\"}",
+    )
+    ∷ (
+      event 20 3 14 (Set (at_stamp 5 1) (ToEnds (Some arrow_ends))),
+      codes
+          "{\"clock\":20,\"from\":\"3.1\",\"id\":\"5.1\",\"op\":\"reconnect\",\"seq\":14,\"site\":3,\"to\":\"9.2\"}",
+    )
+    ∷ (
+      event 20 3 14 (Set (at_stamp 5 1)
+          (ToLooks (record no_looks { stroke = Some 1; round = Some None; letters = Some None; align = Some None }))),
       codes "{\"align\":null,\"clock\":20,\"id\":\"5.1\",\"letters\":null,\"op\":\"restyle\",\"round\":null,\"seq\":14,\"site\":3,\"stroke\":\"000001\"}",
     )
-    ∷ (event 21 3 15 (Disband (at_stamp 9 2) old_ties), codes "{\"clock\":21,\"id\":\"9.2\",\"op\":\"disband\",\"seq\":15,\"site\":3," ++ old_ties_json ++ codes "}")
-    ∷ (event 22 3 16 (Set (at_stamp 7 3) (ToRank (At (High (at_stamp 7 3))))), codes "{\"clock\":22,\"id\":\"7.3\",\"op\":\"rerank\",\"rank\":{\"high\":\"7.3\"},\"seq\":16,\"site\":3}")
-    ∷ (event 23 3 17 (Set (at_stamp 9 2) (ToFlag false)), codes "{\"clock\":23,\"id\":\"9.2\",\"op\":\"reopen\",\"seq\":17,\"site\":3}")
-    ∷ (event 281474976710655 16 65535 (Set (at_stamp 7 3) (ToRank (To Bottom))), codes "{\"clock\":281474976710655,\"id\":\"7.3\",\"op\":\"lower\",\"seq\":65535,\"site\":16}")
+    ∷ (
+      event 21 3 15 (Disband (at_stamp 9 2) old_ties),
+      codes
+          "{\"clock\":21,\"id\":\"9.2\",\"op\":\"disband\",\"seq\":15,\"site\":3," ++ old_ties_json ++ codes "}",
+    )
+    ∷ (
+      event 22 3 16 (Set (at_stamp 7 3) (ToRank (At (High (at_stamp 7 3))))),
+      codes
+          "{\"clock\":22,\"id\":\"7.3\",\"op\":\"rerank\",\"rank\":{\"high\":\"7.3\"},\"seq\":16,\"site\":3}",
+    )
+    ∷ (
+      event 23 3 17 (Set (at_stamp 9 2) (ToFlag false)),
+      codes
+          "{\"clock\":23,\"id\":\"9.2\",\"op\":\"reopen\",\"seq\":17,\"site\":3}",
+    )
+    ∷ (
+      event 281474976710655 16 65535 (Set (at_stamp 7 3) (ToRank (To Bottom))),
+      codes
+          "{\"clock\":281474976710655,\"id\":\"7.3\",\"op\":\"lower\",\"seq\":65535,\"site\":16}",
+    )
     ∷ []

@@ -33,10 +33,12 @@ moved_none id a b h = unmoved_by id (is_within place_limit a && is_within place_
 abbrev shifted : Stamp → ℤ × ℤ → Member
 shifted id shift = record { id = id; dx = shift.0; dy = shift.1 }
 
-shifted_by : (id : Stamp) (t : Bool) (p q : ℤ × ℤ) → cond t (Some p) None ≡ Some q → Some (shifted id q) ≡ cond t (Some (shifted id p)) None
+shifted_by : (id : Stamp) (t : Bool) (p q : ℤ × ℤ) → cond t (Some p) None ≡ Some q
+    → Some (shifted id q) ≡ cond t (Some (shifted id p)) None
 shifted_by id true p q h = let e : p ≡ q = cc in ap (λ (r : ℤ × ℤ). Some (shifted id r)) (sym e)
 shifted_by id false p q h = cc
 
 pub shifted_some : (id : Stamp) (a b x y : ℤ) → in_range a b ≡ Some (x, y)
-    → Some (shifted id (x, y)) ≡ cond (is_within place_limit a && is_within place_limit b) (Some (shifted id (a, b))) None
+    → Some (shifted id (x, y))
+    ≡ cond (is_within place_limit a && is_within place_limit b) (Some (shifted id (a, b))) None
 shifted_some id a b x y h = shifted_by id (is_within place_limit a && is_within place_limit b) (a, b) (x, y) h

@@ -6,7 +6,8 @@ ghost use Rattle.gd_base.specs.Ranges.{place_limit, is_within};
 ghost use Rattle.gd_base.specs.declared.ranges.TheConstants.{SESSION_EVENTS};
 ghost use Rattle.gd_model.specs.Board.{listed};
 ghost use Rattle.gd_slots.specs.Slots.{board_of};
-ghost use Rattle.gd_reference.specs.Judging.{between, judged_over, moved_of, moved_to, of_drawn, of_group, of_shape, reconnected, set_in, target, with_target};
+ghost use Rattle.gd_reference.specs.Judging.{between, judged_over, moved_of, moved_to, of_drawn, of_group, of_shape};
+ghost use Rattle.gd_reference.specs.Judging.{reconnected, set_in, target, with_target};
 ghost use Rattle.gd_model.specs.Objects.{is_connector, is_placed};
 ghost use Rattle.gd_judging.specs.Targets.{told, in_range};
 
@@ -23,8 +24,9 @@ use gd_view::{Shown, shown};
 /// `NoObject` where an object that it names isn't shown; `NotShape` where it wants a shape and the object is a group,
 /// and `NotGroup` where it wants a group and the object is none; `NotPlaced` where it wants a place and the object is a
 /// connector, and `NotConnector` where it wants a connector and the object is none; `SameMember` where a group names an
-/// object twice, or both ends are one; `NotTop` where a group names an object that is in a group; `TooFar` where the own
-/// place of a moved object, or the shift of a member, would leave its range. No other refusal comes. It takes no memory.
+/// object twice, or both ends are one; `NotTop` where a group names an object that is in a group; `TooFar` where the
+/// own place of a moved object, or the shift of a member, would leave its range. No other refusal comes. It takes no
+/// memory.
 ///
 /// Places of new shapes, sizes, looks and the number of ids are taken as they are.
 pub fn judge(canvas: &Canvas, edit: &Edit) -> Result<Op, EditRefusal>

@@ -1,6 +1,7 @@
--- The edits that lines ask for: a row for each. A label is everything behind the one space behind the last word in front of it,
--- and is judged last.
-use Rattle.std.specs.Prelude.{ℕ, zero, suc, ◌-◌, ◌/◌, ◌%◌, ℤ, pos, neg_ℤ, Bool, true, ◌&&◌, ◌==◌, nat_le, List, [], ◌∷◌, ◌++◌, drop, Option, Some, codes}
+-- The edits that lines ask for: a row for each. A label is everything behind the one space behind the last word in
+-- front of it, and is judged last.
+use Rattle.std.specs.Prelude.{ℕ, zero, suc, ◌-◌, ◌/◌, ◌%◌, ℤ, pos, neg_ℤ, Bool, true, ◌&&◌, ◌==◌, nat_le, List, [], ◌∷◌}
+use Rattle.std.specs.Prelude.{◌++◌, drop, Option, Some, codes}
 use Rattle.gd_base.specs.Contents.{Said}
 use Rattle.gd_base.specs.Ranges.{place_limit, size_limit}
 use Rattle.gd_base.specs.Stamps.{Stamp}
@@ -13,15 +14,18 @@ use Rattle.gd_base.specs.declared.op.Op.TheVariants.{Create, Delete, Set, Group,
 use Rattle.gd_base.specs.Looks.{no_looks}
 use Rattle.gd_base.specs.declared.look.Looks.{Looks}
 use Rattle.gd_base.specs.declared.object.Ends.{Ends}
-use Rattle.gd_base.specs.declared.ranges.TheConstants.{LETTERS_LIMIT, MOST_MEMBERS, OPACITY_LIMIT, ROUND_LIMIT, WIDTH_LIMIT}
-use Rattle.gd_base.specs.declared.refusal.LineFault.TheVariants.{BadKind, BadNumber, BadId, BadColour, BadLook, BadLabel}
+use Rattle.gd_base.specs.declared.ranges.TheConstants.{LETTERS_LIMIT, MOST_MEMBERS, OPACITY_LIMIT, ROUND_LIMIT}
+use Rattle.gd_base.specs.declared.ranges.TheConstants.{WIDTH_LIMIT}
+use Rattle.gd_base.specs.declared.refusal.LineFault.TheVariants.{BadKind, BadNumber, BadId, BadColour, BadLook}
+use Rattle.gd_base.specs.declared.refusal.LineFault.TheVariants.{BadLabel}
 use Rattle.gd_base.specs.declared.shape.Shape.{Shape}
 use Rattle.gd_lines.specs.declared.command.Command.{Command}
 use Rattle.gd_lines.specs.declared.command.Command.TheVariants as command
 use Rattle.gd_lines.specs.Readers.{◌>>=◌}
 use Rattle.gd_lines.specs.Reading.{Reader, next, or_fault, pure}
 use Rattle.gd_lines.specs.Rows.{Row, at_least, exactly, from_to, row}
-use Rattle.gd_lines.specs.WordKinds.{number_in, natural_in, id, colour, fill, kind, dash, heads, alignment, new_name, label}
+use Rattle.gd_lines.specs.WordKinds.{number_in, natural_in, id, colour, fill, kind, dash, heads, alignment, new_name}
+use Rattle.gd_lines.specs.WordKinds.{label}
 use Rattle.gd_lines.specs.declared.look_name.LookName.{LookName}
 use Rattle.gd_lines.specs.declared.look_name.LookName.TheVariants as look
 

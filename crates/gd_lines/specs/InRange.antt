@@ -16,8 +16,8 @@ use Rattle.gd_lines.specs.declared.command.Command.TheVariants as command
 use Rattle.gd_lines.specs.declared.command.ScriptLine.{ScriptLine}
 use Rattle.gd_lines.specs.declared.command.ScriptLine.TheVariants as script
 
--- the numbers of the edit are in their ranges, its ids are stamps, its label is one, and its group has 2 to 32 members. Nobody asks
--- for the rest
+-- the numbers of the edit are in their ranges, its ids are stamps, its label is one, and its group has 2 to 32 members.
+-- Nobody asks for the rest
 abbrev pub IsEdit : Edit → Type 0
 IsEdit (op.Create kind x y w h label) =
     (is_within place_limit x && (is_within place_limit y

@@ -1,5 +1,5 @@
--- The lines that people type, and what they ask for: a row for each command. Words that are read have no meaning beyond their
--- value, so every list of bytes has exactly one outcome: a command or a fault.
+-- The lines that people type, and what they ask for: a row for each command. Words that are read have no meaning beyond
+-- their value, so every list of bytes has exactly one outcome: a command or a fault.
 use Rattle.std.specs.Prelude.{ℕ, List, ◌∷◌, Option, Result, codes}
 use Rattle.gd_base.specs.Stamps.{Stamp}
 use Rattle.gd_base.specs.declared.refusal.LineFault.{LineFault}

@@ -1,6 +1,7 @@
--- An operation as it is printed: in the words of the line that asks for it, where there is one. A move has the place of the event,
--- which is that in what stands above the object, and a group the shift of each member.
-use Rattle.std.specs.Prelude.{ℕ, ℤ, true, false, Bool, List, [], ◌++◌, ◌∷◌, Option, Some, None, codes, decimal, length, ◌==◌, if◌then◌else◌}
+-- An operation as it is printed: in the words of the line that asks for it, where there is one. A move has the place of
+-- the event, which is that in what stands above the object, and a group the shift of each member.
+use Rattle.std.specs.Prelude.{ℕ, ℤ, true, false, Bool, List, [], ◌++◌, ◌∷◌, Option, Some, None, codes, decimal, length}
+use Rattle.std.specs.Prelude.{◌==◌, if◌then◌else◌}
 use Rattle.std.specs.Fmt.{signed_decimal}
 use Rattle.std.specs.List.{flat_map}
 use Rattle.gd_base.specs.Stamps.{Stamp}
@@ -24,7 +25,8 @@ use Rattle.gd_base.specs.declared.rank.Rank.{Rank}
 use Rattle.gd_base.specs.declared.rank.Rank.TheVariants.{Low, High}
 use Rattle.gd_base.specs.declared.ties.Tie.{Tie}
 use Rattle.gd_events.specs.Ops.{Done, Op}
-use Rattle.gd_lines.specs.Text.{align_word, colour_text, escaped, fill_text, id_text, label_text, marks_text, shape_word}
+use Rattle.gd_lines.specs.Text.{align_word, colour_text, escaped, fill_text, id_text, label_text, marks_text}
+use Rattle.gd_lines.specs.Text.{shape_word}
 
 -- ---- words, each behind a space
 
@@ -105,7 +107,8 @@ part_of name text (Some value) = (name, text value) ∷ []
 -- the parts that are set, by their names
 abbrev pub parts_of : Looks → List (List ℕ × List ℕ)
 parts_of l =
-    part_of (codes "stroke") colour_text l.stroke ++ part_of (codes "fill") fill_text l.fill ++ part_of (codes "width") decimal l.width
+    part_of (codes "stroke") colour_text l.stroke ++ part_of (codes "fill") fill_text l.fill
+    ++ part_of (codes "width") decimal l.width
     ++ part_of (codes "dash") dash_word l.dash ++ part_of (codes "heads") heads_word l.heads
     ++ part_of (codes "round") number_or_none l.round ++ part_of (codes "opacity") decimal l.opacity
     ++ part_of (codes "size") number_or_none l.letters ++ part_of (codes "align") align_or_none l.align

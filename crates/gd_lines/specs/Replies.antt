@@ -1,5 +1,7 @@
--- The printed lines: `reply_text`, at the end, has a row for each. Each line ends with LF. Numbers are decimal without leading zeros.
-use Rattle.std.specs.Prelude.{ℕ, List, [], ◌++◌, Option, Some, None, Bool, true, false, ◌==◌, if◌then◌else◌, codes, decimal}
+-- The printed lines: `reply_text`, at the end, has a row for each. Each line ends with LF. Numbers are decimal without
+-- leading zeros.
+use Rattle.std.specs.Prelude.{ℕ, List, [], ◌++◌, Option, Some, None, Bool, true, false, ◌==◌, if◌then◌else◌, codes}
+use Rattle.std.specs.Prelude.{decimal}
 use Rattle.gd_base.specs.Stamps.{Stamp}
 use Rattle.gd_base.specs.declared.refusal.Refusal.{Refusal}
 use Rattle.gd_base.specs.declared.refusal.Refusal.TheVariants as why
@@ -13,7 +15,11 @@ use Rattle.gd_base.specs.declared.site_status.SiteStatus.{SiteStatus}
 use Rattle.gd_events.specs.Ops.{Op}
 use Rattle.gd_lines.specs.OpText.{op_text, spaced}
 use Rattle.gd_lines.specs.declared.reply.Reply.{Reply}
-use Rattle.gd_lines.specs.declared.reply.Reply.TheVariants.{Ready, Done, Refused, Item, End, Status, Noted, Who, Applied, Dropped, Reworked, Backdated, BadFrame, NotTaken, Parted, LongFrame, Polled, LinkFault, Mail, Delivered, BadLog, Usage, LineLimit, OtherJournal, BadView, Arrivals, SiteLine, Churned, Same}
+use Rattle.gd_lines.specs.declared.reply.Reply.TheVariants.{Ready, Done, Refused, Item, End, Status, Noted, Who}
+use Rattle.gd_lines.specs.declared.reply.Reply.TheVariants.{Applied, Dropped, Reworked, Backdated, BadFrame, NotTaken}
+use Rattle.gd_lines.specs.declared.reply.Reply.TheVariants.{Parted, LongFrame, Polled, LinkFault, Mail, Delivered}
+use Rattle.gd_lines.specs.declared.reply.Reply.TheVariants.{BadLog, Usage, LineLimit, OtherJournal, BadView, Arrivals}
+use Rattle.gd_lines.specs.declared.reply.Reply.TheVariants.{SiteLine, Churned, Same}
 use Rattle.gd_lines.specs.Text.{id_text, parent_text, item_line, end_line, bad_log_line, bad_view_line}
 
 -- why a line is refused

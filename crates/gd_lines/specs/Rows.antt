@@ -1,6 +1,8 @@
--- Lines by rows, one for each name that a line may begin with. The faults of a line come in one order: it has more than 1,024
--- bytes; its first word is no row's name; it has too few or too many words; and then its words from left to right.
-use Rattle.std.specs.Prelude.{ℕ, ◌-◌, List, [], ◌∷◌, Bool, ◌&&◌, Result, Ok, Err, length, ◌==◌, nat_le, nat_lt, if◌then◌else◌}
+-- Lines by rows, one for each name that a line may begin with. The faults of a line come in one order: it has more than
+-- 1,024 bytes; its first word is no row's name; it has too few or too many words; and then its words from left to
+-- right.
+use Rattle.std.specs.Prelude.{ℕ, ◌-◌, List, [], ◌∷◌, Bool, ◌&&◌, Result, Ok, Err, length, ◌==◌, nat_le, nat_lt}
+use Rattle.std.specs.Prelude.{if◌then◌else◌}
 use Rattle.std.specs.Str.{bytes_eq}
 use Rattle.gd_base.specs.declared.refusal.LineFault.{LineFault}
 use Rattle.gd_base.specs.declared.refusal.LineFault.TheVariants.{LongLine, UnknownCommand, WrongCount}

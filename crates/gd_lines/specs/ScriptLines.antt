@@ -1,5 +1,6 @@
--- The lines of a rehearsal, and what they ask for. `at` is followed by a site and a command, whose name is known and whose words
--- are counted before the site is read: the faults of the whole line come in the same order as those of a command.
+-- The lines of a rehearsal, and what they ask for. `at` is followed by a site and a command, whose name is known and
+-- whose words are counted before the site is read: the faults of the whole line come in the same order as those of a
+-- command.
 use Rattle.std.specs.Prelude.{ℕ, ◌-◌, ◌^◌, List, [], ◌∷◌, Result, Ok, Err, codes}
 use Rattle.gd_base.specs.declared.ranges.TheConstants.{SITES}
 use Rattle.gd_base.specs.declared.refusal.LineFault.{LineFault}

@@ -1,6 +1,7 @@
--- The lines of a drawing, which are a line for each shown object in printed order and then the number of these lines; and
--- the line of bytes that are no log.
-use Rattle.std.specs.Prelude.{ℕ, ◌+◌, ◌/◌, ◌%◌, ℤ, List, [], ◌∷◌, ◌++◌, length, map, Option, Some, None, ◌==◌, nat_lt, nat_le, codes, decimal, if◌then◌else◌}
+-- The lines of a drawing, which are a line for each shown object in printed order and then the number of these lines;
+-- and the line of bytes that are no log.
+use Rattle.std.specs.Prelude.{ℕ, ◌+◌, ◌/◌, ◌%◌, ℤ, List, [], ◌∷◌, ◌++◌, length, map, Option, Some, None, ◌==◌, nat_lt}
+use Rattle.std.specs.Prelude.{nat_le, codes, decimal, if◌then◌else◌}
 use Rattle.std.specs.Fmt.{signed_decimal}
 use Rattle.std.specs.List.{flat_map}
 use Rattle.gd_base.specs.Stamps.{Stamp}

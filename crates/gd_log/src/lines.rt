@@ -36,8 +36,8 @@ pub enum Lines {
     Json(JsonText),
 }
 
-/// Lets the events arrive, and makes what is printed of them. `AllocError` where memory runs out: the events before that have
-/// taken their steps then.
+/// Lets the events arrive, and makes what is printed of them. `AllocError` where memory runs out: the events before
+/// that have taken their steps then.
 pub fn lines_of<L: Ledger>(
     alloc: Global,
     events: EventList,

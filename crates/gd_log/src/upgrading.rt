@@ -21,12 +21,12 @@ use gd_reading::refuse;
 use gd_wire::{Chains, Drawings, HeaderBytes, LogHeader, write_header};
 use std::alloc::Global;
 
-/// Reads a log to its end, and writes it with a header of the newest version: the header, each event with its check behind an open
-/// gate, and a closed gate. It takes no steps.
+/// Reads a log to its end, and writes it with a header of the newest version: the header, each event with its check
+/// behind an open gate, and a closed gate. It takes no steps.
 ///
-/// `Done` after the log, and `BadLog` after the line of the first fault where the bytes are no log. `ReadFault` where a read
-/// failed and `NoMemory` where memory ran out, both with nothing written, and `WriteFault` where a write failed, with a
-/// prefix written.
+/// `Done` after the log, and `BadLog` after the line of the first fault where the bytes are no log. `ReadFault` where a
+/// read failed and `NoMemory` where memory ran out, both with nothing written, and `WriteFault` where a write failed,
+/// with a prefix written.
 pub fn upgrade<S: Source, K: Sink>(alloc: Global, source: &mut S, output: &mut K) -> Status
     ensures ends { (journal : SeenJournal) (link : SeenLink) (steps : ℕ)
         → EndsAs (IsSome (S.seen source.new).left)

@@ -21,25 +21,29 @@ pub on_err_map : {T E P Q : Type 0} (r : Result T E) → (P → Q) → OnErr r P
 on_err_map (Ok x) f p = tt
 on_err_map (Err e) f p = f p
 
-pub on_ok_where : {T E A Q : Type 0} (r : Result T E) (now there before : A) → now ≡ (if is_ok r then there else before) → (now ≡ there → Q)
+pub on_ok_where : {T E A Q : Type 0} (r : Result T E) (now there before : A) → now ≡ (if is_ok r then there else before)
+    → (now ≡ there → Q)
     → OnOk r Q
 on_ok_where (Ok x) now there before is f = f is
 on_ok_where (Err e) now there before is f = tt
 
 -- pieces that are put one after another, each with a closed gate that the next one opens or takes, are one piece
-pub put_at-joined : (old a b : List ℕ) (place : ℕ) → place ≤ length old → put_at (put_at old place (a ++ 0 ∷ [])) (place + length a) (b ++ 0 ∷ []) ≡ put_at old place ((a ++ b) ++ 0 ∷ [])
+pub put_at-joined : (old a b : List ℕ) (place : ℕ) → place ≤ length old
+    → put_at (put_at old place (a ++ 0 ∷ [])) (place + length a) (b ++ 0 ∷ []) ≡ put_at old place ((a ++ b) ++ 0 ∷ [])
 put_at-joined old a b place inside =
     let front = take place old in
     let rest = drop (place + length (a ++ 0 ∷ [])) old in
     let mid : put_at old place (a ++ 0 ∷ []) ≡ (front ++ a) ++ 0 ∷ rest =
     ap (λ (l : List ℕ). l ++ rest) (sym (append_assoc front a (0 ∷ []))) ∙ append_assoc (front ++ a) (0 ∷ []) rest in
-    let at : place + length a ≡ length (front ++ a) = omega (arith, length-append front a, length-take-le place old inside) in
+    let at : place + length a
+    ≡ length (front ++ a) = omega (arith, length-append front a, length-take-le place old inside) in
     let before : (front ++ a) ++ (b ++ 0 ∷ []) ≡ front ++ ((a ++ b) ++ 0 ∷ []) =
     append_assoc front a (b ++ 0 ∷ []) ∙ ap (λ (l : List ℕ). front ++ l) (sym (append_assoc a b (0 ∷ []))) in
     let longer : length (b ++ 0 ∷ []) ≡ suc (length b) = omega (arith, length-append b (0 ∷ [])) in
     let behind : drop (length (b ++ 0 ∷ [])) (0 ∷ rest) ≡ drop (place + length ((a ++ b) ++ 0 ∷ [])) old =
     ap (λ (n : ℕ). drop n (0 ∷ rest)) longer ∙ drop-drop (length b) (place + length (a ++ 0 ∷ [])) old
-    ∙ ap (λ (n : ℕ). drop n old) (omega (arith, length-append a (0 ∷ []), length-append (a ++ b) (0 ∷ []), length-append a b)) in
+    ∙ ap (λ (n : ℕ). drop n old)
+    (omega (arith, length-append a (0 ∷ []), length-append (a ++ b) (0 ∷ []), length-append a b)) in
     ap (λ (l : List ℕ). put_at l (place + length a) (b ++ 0 ∷ [])) mid
     ∙ put_at-front (front ++ a) (0 ∷ rest) (b ++ 0 ∷ []) (place + length a) at
     ∙ ap₂ (λ (l r : List ℕ). l ++ r) before behind
@@ -97,7 +101,8 @@ module _ {O : Type 0} (kind : LogKind O) where
   pub records-none : (seen : List (EventValue O)) (bytes chains before : List ℕ) → bytes ≡ [] → chains ≡ before
       → AreChains kind before seen → AreRecords kind seen [] (record { bytes = bytes; chains = chains })
   unfolding gated_bytes
-  records-none seen bytes chains before none same are = record { spelled = none; chained = rw (append-nil seen, same) are }
+  records-none seen bytes chains before none same are
+      = record { spelled = none; chained = rw (append-nil seen, same) are }
 
   -- and one more
   pub records-more : (seen events : List (EventValue O)) (e : EventValue O) (before after : Records) (one : List ℕ)

@@ -13,20 +13,23 @@ use Rattle.gd_grammar.specs.Versions.{has_version}
 use Rattle.gd_outside.specs.Seen.{SeenJournal}
 
 -- each event is sound, can be spelled in the header's version, and is the next one behind these and those before it
-unfoldable pub AreNext : {O : Type 0} → (Stamp → O → Type 0) → LogKind O → Header → List (EventValue O) → List (EventValue O) → Type 0
+unfoldable pub AreNext : {O : Type 0} → (Stamp → O → Type 0) → LogKind O → Header → List (EventValue O)
+    → List (EventValue O) → Type 0
 AreNext IsOp kind h seen [] = Unit {0}
 AreNext IsOp kind h seen (e ∷ es) =
     FitsIn IsOp kind h.version e × (turn_fault h.n seen e ≡ None) × AreNext IsOp kind h (seen ++ e ∷ []) es
 
 -- the header and the events obey the log's rules
-pub record IsRuled {O : Type 0} (IsOp : Stamp → O → Type 0) (kind : LogKind O) (h : Header) (events : List (EventValue O)) : Type 0 where
+pub record IsRuled {O : Type 0} (IsOp : Stamp → O → Type 0) (kind : LogKind O) (h : Header)
+    (events : List (EventValue O)) : Type 0 where
   pub header : IsHeader h
   pub session : h.session < 2 ^ 32
   pub version : has_version kind.newest h.version ≡ true
   pub next : AreNext IsOp kind h [] events
 
 -- an event that fits isn't the next one behind these events, for this reason
-pub record BreaksRule {O : Type 0} (IsOp : Stamp → O → Type 0) (kind : LogKind O) (h : Header) (events : List (EventValue O)) (e : EventValue O) (why : LogWhy) : Type 0 where
+pub record BreaksRule {O : Type 0} (IsOp : Stamp → O → Type 0) (kind : LogKind O) (h : Header)
+    (events : List (EventValue O)) (e : EventValue O) (why : LogWhy) : Type 0 where
   pub fits : FitsIn IsOp kind h.version e
   pub broken : turn_fault h.n events e ≡ Some why
 

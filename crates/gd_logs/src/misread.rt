@@ -8,7 +8,8 @@ use crate::stopped::LogFault;
 use gd_base::{FieldFault, FieldWhy, LogWhy};
 use gd_wire::PackError;
 
-/// Why there is no record: memory ran out, or the bytes are none. `left` is how many bytes stand from the fault's place on.
+/// Why there is no record: memory ran out, or the bytes are none. `left` is how many bytes stand from the fault's place
+/// on.
 #[derive(Clone, Copy, Debug, PartialEq, Eq)]
 pub enum RecordError {
     Memory,
@@ -57,8 +58,8 @@ pub fn field_fault(first: u64, bytes: &[u8], fault: FieldFault) -> LogFault
     }
 }
 
-/// The error of an event that isn't next in turn, where so many bytes stand from its first byte on. It stands at the event's site
-/// byte, its number, or its first byte.
+/// The error of an event that isn't next in turn, where so many bytes stand from its first byte on. It stands at the
+/// event's site byte, its number, or its first byte.
 pub fn turn_error(why: LogWhy, left: usize) -> RecordError
     requires { 9 ≤ left }
     ensures { result ≡ RecordError.Misread why (left_of why left) }

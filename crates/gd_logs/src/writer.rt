@@ -36,8 +36,8 @@ pub enum AppendFault {
 /// Writes a log of a drawing.
 pub type LogWriter = KindWriter<Drawings>;
 
-/// Writes a log of some kind into a journal, one event after another or several together, in the kind's newest version. Contracts see
-/// the place of the log's closing gate, and for each site the check of its events.
+/// Writes a log of some kind into a journal, one event after another or several together, in the kind's newest version.
+/// Contracts see the place of the log's closing gate, and for each site the check of its events.
 #[derive(Drop)]
 pub struct KindWriter<K: LogKind> {
     place: u64,
@@ -140,13 +140,14 @@ impl<K: LogKind> KindWriter<K> {
         self.put_behind(journal, record.as_slice(), chains)
     }
 
-    /// Adds several events to the log, behind one gate: first all of their bytes, the gates between them open, and a closed gate,
-    /// behind the closing one, and a sync; and then that one is opened, and a sync. What stood behind the closing gate is written
-    /// over, or stays behind the new one. The events were put together for this log, with the checks of those that it has.
+    /// Adds several events to the log, behind one gate: first all of their bytes, the gates between them open, and a
+    /// closed gate, behind the closing one, and a sync; and then that one is opened, and a sync. What stood behind the
+    /// closing gate is written over, or stays behind the new one. The events were put together for this log, with the
+    /// checks of those that it has.
     ///
-    /// `Memory` where memory ran out, and then nothing was done. `Journal` where a call on the journal failed, which is only
-    /// where its count of faults rises. A log that obeyed the rules then reads as before, or with all of the new events, and the
-    /// place is as it was. So reads what a crash leaves at any moment of the call.
+    /// `Memory` where memory ran out, and then nothing was done. `Journal` where a call on the journal failed, which is
+    /// only where its count of faults rises. A log that obeyed the rules then reads as before, or with all of the new
+    /// events, and the place is as it was. So reads what a crash leaves at any moment of the call.
     pub fn append_all<J: Journal>(
         &mut self,
         journal: &mut J,
@@ -253,8 +254,8 @@ fn show_ranges(header: &LogHeader)
 
 /// Writes the piece at `pos`, and syncs it to the device. A crash then leaves the contents.
 ///
-/// Fails only where the journal's count of faults rises, and leaves then what a failed write may leave. What a crash leaves
-/// may have any bytes in the piece's range, but for one byte over another one.
+/// Fails only where the journal's count of faults rises, and leaves then what a failed write may leave. What a crash
+/// leaves may have any bytes in the piece's range, but for one byte over another one.
 fn put<J: Journal>(journal: &mut J, pos: u64, piece: &[u8]) -> Result<(), Failed>
     requires { IsSome (J.seen journal.old).contents
         → pos ≤ length (told (J.seen journal.old).contents) }

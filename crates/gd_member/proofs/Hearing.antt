@@ -1,5 +1,6 @@
 -- What is put with the unwritten events, and what is said, of events that stand one after another.
-use Rattle.std.proofs.Common.{◌≡◌, ℕ, ◌+◌, ◌<◌, ◌≤◌, nat_le, Bool, true, false, cond, List, [], ◌∷◌, ◌++◌, drop, get_or, length, min, refl, sym, ◌∙◌, ap, ap₂, append-nil, append_assoc, arith, subst}
+use Rattle.std.proofs.Common.{◌≡◌, ℕ, ◌+◌, ◌<◌, ◌≤◌, nat_le, Bool, true, false, cond, List, [], ◌∷◌, ◌++◌, drop, get_or}
+use Rattle.std.proofs.Common.{length, min, refl, sym, ◌∙◌, ap, ap₂, append-nil, append_assoc, arith, subst}
 use Rattle.std.proofs.lemmas.Bool.{leb-false, leb-true}
 use Rattle.std.proofs.lemmas.Grind.{flat_map-append}
 use Rattle.std.proofs.lemmas.List.{at_drop_all, at_drop_more}

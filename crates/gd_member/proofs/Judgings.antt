@@ -1,5 +1,6 @@
 -- The lines of a gesture, judged one after another, and the gesture that they make.
-use Rattle.std.proofs.Common.{◌≡◌, ℕ, ◌+◌, ◌<◌, ◌≤◌, Bool, true, false, cond, List, [], ◌∷◌, ◌++◌, drop, length, take, refl, sym, ◌∙◌, ap, subst, append-nil, append_assoc, length-append, arith}
+use Rattle.std.proofs.Common.{◌≡◌, ℕ, ◌+◌, ◌<◌, ◌≤◌, Bool, true, false, cond, List, [], ◌∷◌, ◌++◌, drop, length, take}
+use Rattle.std.proofs.Common.{refl, sym, ◌∙◌, ap, subst, append-nil, append_assoc, length-append, arith}
 use Rattle.std.proofs.lemmas.List.{drop-drop, length-drop}
 use Rattle.std.proofs.lemmas.List.Sums.{prefix_len-le-length}
 use Rattle.std.specs.Prelude.{not}
@@ -19,7 +20,8 @@ use Rattle.gd_lines.specs.declared.reply.Reply.TheVariants as reply
 use Rattle.gd_member.proofs.Cuts.{line_first}
 use Rattle.gd_member.proofs.Texts.{text, text_push}
 use Rattle.gd_member.specs.Cutting.{is_lf, line_end}
-use Rattle.gd_member.specs.Gestures.{AreJudged, CarriesOut, IsCarriedOut, IsGesture, Judged, Judges, MakesIt, Parts, asked_in, next_asked, parts, with_line, with_lines}
+use Rattle.gd_member.specs.Gestures.{AreJudged, CarriesOut, IsCarriedOut, IsGesture, Judged, Judges, MakesIt, Parts}
+use Rattle.gd_member.specs.Gestures.{asked_in, next_asked, parts, with_line, with_lines}
 use Rattle.gd_member.specs.Lines.{PaysUpTo}
 use Rattle.gd_member.specs.Members.{MemberValue, IsLive}
 use Rattle.gd_member.specs.Standing.{Stands}
@@ -342,7 +344,8 @@ pub carried_out : (slow : SlowSite) (written others : List Event) (asked : List 
     → AreUnwritten written (others ++ es) unwritten
     → (then : List ℕ) → then ≡ now ++ reply_text (reply.End count) → (refused : ℕ) → refused + length es ≡ count
     → IsCarriedOut slow written others asked refused (parts site kept unwritten) told then before after
-carried_out slow written others asked {count} {site} {gesture} {told} {now} old backs kept stands s keeps es is u are then says refused counts =
+carried_out slow written others asked {count} {site} {gesture} {told} {now} old backs kept stands s keeps es is u are
+    then says refused counts =
     let same : es ≡ made slow asked = is ∙ s.has.events in
     record {
       refused_are = sym (ap (λ (l : List Event). refused + length l) same) ∙ counts ∙ s.counted;

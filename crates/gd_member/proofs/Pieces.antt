@@ -1,5 +1,6 @@
 -- The bytes of events that aren't in the journal yet.
-use Rattle.std.proofs.Common.{◌≡◌, ◌∙◌, ℕ, ◌+◌, ◌-◌, ◌<◌, List, [], ◌∷◌, ◌++◌, length, get_or, take, refl, sym, ap, subst, arith, append-nil, append_assoc, length-append}
+use Rattle.std.proofs.Common.{◌≡◌, ◌∙◌, ℕ, ◌+◌, ◌-◌, ◌<◌, List, [], ◌∷◌, ◌++◌, length, get_or, take, refl, sym, ap}
+use Rattle.std.proofs.Common.{subst, arith, append-nil, append_assoc, length-append}
 use Rattle.std.proofs.lemmas.List.{take_at, take_more}
 use Rattle.gd_base.specs.declared.version.Version.TheVariants.{Three}
 use Rattle.gd_events.specs.Events.{Event}

@@ -1,5 +1,7 @@
 -- How a member goes on standing for a reference site.
-use Rattle.std.proofs.Common.{◌≡◌, ◌≢◌, ◌∙◌, ℕ, ◌+◌, ◌<◌, ◌≤◌, ◌^◌, Bool, true, false, cond, List, [], ◌∷◌, ◌++◌, length, refl, sym, ap, subst, arith, append-nil, append_assoc, length-append, ◌==◌, eqb-true}
+use Rattle.std.proofs.Common.{◌≡◌, ◌≢◌, ◌∙◌, ℕ, ◌+◌, ◌<◌, ◌≤◌, ◌^◌, Bool, true, false, cond, List, [], ◌∷◌, ◌++◌}
+use Rattle.std.proofs.Common.{length, refl, sym, ap, subst, arith, append-nil, append_assoc, length-append, ◌==◌}
+use Rattle.std.proofs.Common.{eqb-true}
 use Rattle.std.proofs.lemmas.List.{append_cancel_left}
 use Rattle.std.specs.Prelude.{Option, Result, Ok, nat_le}
 use Rattle.gd_backs.proofs.NextEvents.{with_events-is}
@@ -88,7 +90,8 @@ record SameBut (slow then : SlowSite) : Type 0 where
 
 noted_same : (slow : SlowSite) (note : Note) → SameBut slow (noted slow note)
 noted_same slow note =
-    by (nat_le most_notes (slow.notes slow.me).number) (record slow { notes = _ }) (record { held = refl; backs = refl })
+    by (nat_le most_notes (slow.notes slow.me).number) (record slow { notes = _ })
+    (record { held = refl; backs = refl })
   where
     by : (full : Bool) (then : SlowSite) → SameBut slow then → SameBut slow (cond full slow then)
     by true then same = record { held = refl; backs = refl }

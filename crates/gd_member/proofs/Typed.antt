@@ -1,5 +1,6 @@
 -- What a typed line comes to, and what a call leaves.
-use Rattle.std.proofs.Common.{◌≡◌, ℕ, ◌+◌, Bool, true, false, cond, List, [], ◌∷◌, ◌++◌, length, refl, sym, ◌∙◌, ap, subst, append-nil, arith}
+use Rattle.std.proofs.Common.{◌≡◌, ℕ, ◌+◌, Bool, true, false, cond, List, [], ◌∷◌, ◌++◌, length, refl, sym, ◌∙◌, ap}
+use Rattle.std.proofs.Common.{subst, append-nil, arith}
 use Rattle.std.specs.List.{flat_map}
 use Rattle.std.specs.Prelude.{Option, None, Some, Result, Ok, Err, IfOk, IsErr, OnErr, OnOk, nat_le, option_map}
 use Rattle.std.specs.declared.alloc.AllocError.{AllocError}
@@ -31,7 +32,8 @@ use Rattle.gd_reference.specs.Judging.{edit}
 use Rattle.gd_reference.specs.NodeRun.{ReadLine, received, who_replies}
 use Rattle.gd_reference.specs.SiteEffects.{done_replies, edit_reply, note_reply, turn_replies, turned}
 use Rattle.gd_reference.specs.SlowSite.{SlowSite, status}
-use Rattle.gd_reference.specs.TakeBack.{BackRefusal, after_edit, after_turn, back_refusal, backs_of, events_in, turn, with_events, with_made, with_turned}
+use Rattle.gd_reference.specs.TakeBack.{BackRefusal, after_edit, after_turn, back_refusal, backs_of, events_in, turn}
+use Rattle.gd_reference.specs.TakeBack.{with_events, with_made, with_turned}
 use Rattle.gd_reference.specs.World.{after_line, most_notes}
 use Rattle.gd_site.specs.Answers.{EditIs, next_note}
 use Rattle.gd_site.specs.declared.answers.EditFault.{EditFault}

@@ -1,5 +1,6 @@
 -- Lines that are made one gesture.
-use Rattle.std.specs.Prelude.{◌≡◌, ◌+◌, ◌++◌, ℕ, List, [], ◌∷◌, length, true, Option, None, Some, Result, Ok, Err, nat_le, if◌then◌else◌}
+use Rattle.std.specs.Prelude.{◌≡◌, ◌+◌, ◌++◌, ℕ, List, [], ◌∷◌, length, true, Option, None, Some, Result, Ok, Err}
+use Rattle.std.specs.Prelude.{nat_le, if◌then◌else◌}
 use Rattle.std.specs.List.{AllByRecursion, flat_map}
 use Rattle.std.specs.declared.alloc.AllocError.{AllocError}
 use Rattle.gd_base.specs.declared.refusal.Refusal.{Refusal}
@@ -27,8 +28,8 @@ use Rattle.gd_takeback.specs.Standing.{StandsWith}
 
 -- ---- the lines
 
--- With one line more: as it waits at a node between `begin` and `end`. Both words, and `quit`, are refused as every command that is
--- no edit.
+-- With one line more: as it waits at a node between `begin` and `end`. Both words, and `quit`, are refused as every
+-- command that is no edit.
 abbrev pub with_line : List Asked → ReadLine → List Asked
 with_line asked (Ok command.Quit) = with_asked asked (Err InGesture)
 with_line asked line = with_waiting asked line
@@ -44,8 +45,8 @@ asked_in bytes = with_lines [] (lines_of bytes)
 
 -- ---- what a call leaves
 
--- The gesture was made: the member stands for the site after it, what is said of each line was said, and how many there were, each
--- event took a step, and so many lines were refused.
+-- The gesture was made: the member stands for the site after it, what is said of each line was said, and how many there
+-- were, each event took a step, and so many lines were refused.
 pub record IsGesture (slow : SlowSite) (written : List Event) (asked : List Asked) (refused : ℕ) (m : MemberValue)
     (told now : List ℕ) (before after : ℕ) : Type 0 where
   pub refused_are : refused + length (made slow asked) ≡ length asked

@@ -1,4 +1,5 @@
--- What a member does with a line that its user typed: what a node does with it, where it polls nothing and shows nothing.
+-- What a member does with a line that its user typed: what a node does with it, where it polls nothing and shows
+-- nothing.
 use Rattle.std.specs.Prelude.{◌≡◌, ◌≤◌, ◌+◌, ◌++◌, ℕ, List, [], ◌∷◌, length, Result, Ok, Err, nat_le, if◌then◌else◌}
 use Rattle.std.specs.List.{flat_map}
 use Rattle.std.specs.declared.alloc.AllocError.{AllocError}

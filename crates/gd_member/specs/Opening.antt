@@ -9,8 +9,8 @@ use Rattle.gd_reference.specs.SlowSite.{resumed}
 use Rattle.gd_rejoin.specs.Faults.{IsFound}
 use Rattle.gd_rejoin.specs.declared.fault.ResumeFault.{ResumeFault}
 
--- Where events are found, it is a member that begins anew with them, all of which its journal has. Else it is what is found, or
--- memory ran out; there is no other fault.
+-- Where events are found, it is a member that begins anew with them, all of which its journal has. Else it is what is
+-- found, or memory ran out; there is no other fault.
 abbrev pub OpenIs : ℕ → ℕ → ℕ → Found → Result MemberValue ResumeFault → Type 0
 OpenIs me sites session there (Ok m) =
     (events : List Event) × (there ≡ Events events) × Stands (resumed me sites session events) events m

@@ -12,7 +12,8 @@ use Rattle.gd_site.specs.Sites.{IsOtherOf}
 abbrev pub start_of : SlowSite → ℕ → ℕ → ℕ
 start_of slow to behind = max behind (slow.acked to)
 
--- The frame for another site where the journal has all events, and how many own ones that site has then. Else the bytes stay.
+-- The frame for another site where the journal has all events, and how many own ones that site has then. Else the bytes
+-- stay.
 abbrev pub FrameIs : SlowSite → List Event → ℕ → ℕ → Result ℕ SendFault → List ℕ → List ℕ → Type 0
 FrameIs slow written to behind (Ok brought) old new =
     IsOtherOf slow to × (slow.held ≡ written) × (new ≡ frame_bytes (frame_behind slow to (start_of slow to behind)))

@@ -6,8 +6,8 @@ use Rattle.gd_member.specs.Unwritten.{AreUnwritten}
 use Rattle.gd_reference.specs.SlowSite.{SlowSite}
 use Rattle.gd_takeback.specs.Standing.{StandsWith}
 
--- The member stands for this reference site, and isn't spent. Of the events that it holds the journal has the first ones, and the
--- others are kept as the bytes that follow.
+-- The member stands for this reference site, and isn't spent. Of the events that it holds the journal has the first
+-- ones, and the others are kept as the bytes that follow.
 pub record Stands (slow : SlowSite) (written : List Event) (m : MemberValue) : Type 0 where
   pub live : IsLive m
   pub stands : StandsWith slow m.site m.backs

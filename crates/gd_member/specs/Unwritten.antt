@@ -7,16 +7,16 @@ use Rattle.gd_grammar.specs.Closing.{gate_place}
 use Rattle.gd_grammar.specs.Drawings.{drawings}
 use Rattle.gd_grammar.specs.LogBytes.{gated_bytes}
 
--- the place of the journal's closing gate, the bytes that follow there, for each site the check of its events, those of these
--- bytes too, and for how many bytes more there is room
+-- the place of the journal's closing gate, the bytes that follow there, for each site the check of its events, those of
+-- these bytes too, and for how many bytes more there is room
 pub record UnwrittenValue : Type 0 where
   pub place : ℕ
   pub bytes : List ℕ
   pub chains : List ℕ
   pub spare : ℕ
 
--- the bytes of events behind those that the journal has, to be put over its closing gate: each behind an open gate, and a closed
--- one; nothing where there are none
+-- the bytes of events behind those that the journal has, to be put over its closing gate: each behind an open gate, and
+-- a closed one; nothing where there are none
 abbrev pub piece_of : List Event → List Event → List ℕ
 piece_of written [] = []
 piece_of written (e ∷ es) = gated_bytes drawings Three written (e ∷ es) ++ 0 ∷ []

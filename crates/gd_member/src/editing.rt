@@ -19,11 +19,12 @@ impl Member {
     ghost use Rattle.gd_member.specs.Members.{IsLive};
     ghost use Rattle.gd_member.specs.Standing.{Stands};
 
-    /// Carries out an edit of the member's user, and returns the stamp of the event that it became, which is unwritten then.
+    /// Carries out an edit of the member's user, and returns the stamp of the event that it became, which is unwritten
+    /// then.
     ///
-    /// `ClockEnd`, `SessionFull`, `NoObject`, `NotShape`, `NotGroup`, `NotPlaced`, `NotConnector`, `SameMember`, `NotTop` and
-    /// `TooFar` are decided in this order, whether there is memory or not; `NoMemory` where there was none for the event. After
-    /// each of them the member and the steps are as before.
+    /// `ClockEnd`, `SessionFull`, `NoObject`, `NotShape`, `NotGroup`, `NotPlaced`, `NotConnector`, `SameMember`,
+    /// `NotTop` and `TooFar` are decided in this order, whether there is memory or not; `NoMemory` where there was none
+    /// for the event. After each of them the member and the steps are as before.
     pub fn edit<L: Ledger>(&mut self, edit: &Edit, steps: &mut Steps<L>) -> Result<Stamp, EditFault>
         requires live { IsLive self.old }
         requires ranged { IsEdit edit.now }

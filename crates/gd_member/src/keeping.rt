@@ -22,11 +22,11 @@ impl Member {
         self.unwritten.place()
     }
 
-    /// The bytes of the events that the caller's journal doesn't have yet, each behind an open gate, and a closed gate; nothing
-    /// where there are none. They are put over the journal's closing gate.
+    /// The bytes of the events that the caller's journal doesn't have yet, each behind an open gate, and a closed gate;
+    /// nothing where there are none. They are put over the journal's closing gate.
     ///
-    /// A journal that is to outlive a crash takes all of them but the first, which is the open gate, at the place behind it, and is
-    /// synced; then it takes the first at its place, and is synced.
+    /// A journal that is to outlive a crash takes all of them but the first, which is the open gate, at the place
+    /// behind it, and is synced; then it takes the first at its place, and is synced.
     pub fn unwritten(&self) -> &[u8]
         ensures { (slow : SlowSite) (written others : List Event) → Stands slow written self.now
             → slow.held ≡ written ++ others → result.now ≡ piece_of written others }

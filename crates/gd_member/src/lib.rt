@@ -1,5 +1,5 @@
-//! A member of a session in memory: it takes edits, gives frames and takes those of others, and gives its log as the bytes that a
-//! journal takes. It touches nothing outside: where the bytes go is its caller's.
+//! A member of a session in memory: it takes edits, gives frames and takes those of others, and gives its log as the
+//! bytes that a journal takes. It touches nothing outside: where the bytes go is its caller's.
 #![tactic(auto)]
 
 mod asking;

@@ -13,10 +13,12 @@ use gd_takeback::TakeBack;
 use std::alloc::{AllocError, Global};
 use std::marker::Model;
 
-/// A member of a session: its site, what takes its last gestures back, and the events that its caller's journal doesn't have yet.
+/// A member of a session: its site, what takes its last gestures back, and the events that its caller's journal doesn't
+/// have yet.
 ///
-/// Contracts see these, and whether the member is spent: memory ran out in the midst of something that it can't take back. Then its
-/// caller drops it, and opens it anew from the journal. A member that isn't spent stands for a reference site.
+/// Contracts see these, and whether the member is spent: memory ran out in the midst of something that it can't take
+/// back. Then its caller drops it, and opens it anew from the journal. A member that isn't spent stands for a reference
+/// site.
 #[derive(Drop)]
 pub struct Member {
     pub(crate) alloc: Global,
@@ -56,8 +58,8 @@ impl Member {
     ghost use Rattle.gd_member.specs.Members.{IsLive};
     ghost use Rattle.gd_member.specs.Standing.{IsMet, Stands};
 
-    /// Member `me` of the `sites` of a session, which holds no event. Its journal begins with `journal_head`. `AllocError` where
-    /// memory ran out.
+    /// Member `me` of the `sites` of a session, which holds no event. Its journal begins with `journal_head`.
+    /// `AllocError` where memory ran out.
     pub fn new(alloc: Global, me: u8, sites: u8, session: u32) -> Result<Member, AllocError>
         requires from { 1 ≤ me }
         requires to { me ≤ sites }
@@ -83,7 +85,8 @@ impl Member {
         self.spent
     }
 
-    /// Brings the type's invariant into a proof: a member that isn't spent stands for a reference site. It has no effect at run time.
+    /// Brings the type's invariant into a proof: a member that isn't spent stands for a reference site. It has no
+    /// effect at run time.
     pub fn stands(&self)
         requires { IsLive self.now }
         ensures { IsMet self.now }
@@ -125,7 +128,8 @@ impl Member {
         self.site.made()
     }
 
-    /// How many events it holds, how many of them lie above its line, the line, its clock, and from how many sites it has parted.
+    /// How many events it holds, how many of them lie above its line, the line, its clock, and from how many sites it
+    /// has parted.
     pub fn status(&self) -> SiteStatus
         ensures { (slow : SlowSite) (written : List Event) → Stands slow written self.now
             → result ≡ status slow }

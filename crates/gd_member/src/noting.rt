@@ -14,8 +14,8 @@ impl Member {
     ghost use Rattle.gd_member.specs.Members.{IsLive};
     ghost use Rattle.gd_member.specs.Standing.{Stands};
 
-    /// Gives the own note its next number, which is returned, and this name; its focus stays. `NoteEnd` where there is no next
-    /// number, and then the member is as before. It takes no memory.
+    /// Gives the own note its next number, which is returned, and this name; its focus stays. `NoteEnd` where there is
+    /// no next number, and then the member is as before. It takes no memory.
     pub fn set_name(&mut self, name: Name) -> Result<u16, NoteEnd>
         requires { IsLive self.old }
         ensures answer { (slow : SlowSite) (written : List Event) → Stands slow written self.old
@@ -26,8 +26,8 @@ impl Member {
         self.site.set_name(name)
     }
 
-    /// Gives the own note its next number, which is returned, and this focus; its name stays. `NoteEnd` where there is no next
-    /// number, and then the member is as before. It takes no memory.
+    /// Gives the own note its next number, which is returned, and this focus; its name stays. `NoteEnd` where there is
+    /// no next number, and then the member is as before. It takes no memory.
     pub fn set_focus(&mut self, focus: Option<Stamp>) -> Result<u16, NoteEnd>
         requires { IsLive self.old }
         ensures answer { (slow : SlowSite) (written : List Event) → Stands slow written self.old

@@ -32,11 +32,11 @@ impl Member {
     ghost use Rattle.gd_member.specs.Members.{IsLive};
     ghost use Rattle.gd_member.specs.Standing.{Stands};
 
-    /// The member that goes on from the bytes of its journal, whatever follows its closing gate: it holds the events of its log, all
-    /// of which the journal has. The steps rise by what the arrivals of the events cost.
+    /// The member that goes on from the bytes of its journal, whatever follows its closing gate: it holds the events of
+    /// its log, all of which the journal has. The steps rise by what the arrivals of the events cost.
     ///
-    /// `Bad` where the bytes are no log with its closing gate, at the first fault, and `Other` where they are a log of another
-    /// session, site, or number of sites. `NoMemory` where memory ran out. `Journal` never.
+    /// `Bad` where the bytes are no log with its closing gate, at the first fault, and `Other` where they are a log of
+    /// another session, site, or number of sites. `NoMemory` where memory ran out. `Journal` never.
     pub fn open<L: Ledger>(
         alloc: Global,
         journal: Vec<u8>,

@@ -23,9 +23,10 @@ impl Member {
     ghost use Rattle.gd_member.specs.Members.{IsLive};
     ghost use Rattle.gd_member.specs.Standing.{Stands};
 
-    /// Writes the frame for another site that begins behind so many of the own events, or behind those that the site has
-    /// acknowledged, where these are more, in place of the bytes that were there. Returns how many of the own events the site has
-    /// once it took that frame and all those before: while these are fewer than `made`, a further frame begins there.
+    /// Writes the frame for another site that begins behind so many of the own events, or behind those that the site
+    /// has acknowledged, where these are more, in place of the bytes that were there. Returns how many of the own
+    /// events the site has once it took that frame and all those before: while these are fewer than `made`, a further
+    /// frame begins there.
     ///
     /// `NoSuchSite` and `Unwritten` are decided in this order, and then the bytes stay. It takes no memory.
     pub fn write_frame(&self, to: u8, behind: u16, out: &mut FrameBytes) -> Result<u16, SendFault>

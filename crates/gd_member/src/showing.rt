@@ -54,8 +54,8 @@ impl Member {
         }
     }
 
-    /// The bytes of a snapshot of the drawing, with which a viewer, or a new member of the session, begins without its history. The
-    /// member stays as it is; the steps rise by one for each event above its line.
+    /// The bytes of a snapshot of the drawing, with which a viewer, or a new member of the session, begins without its
+    /// history. The member stays as it is; the steps rise by one for each event above its line.
     ///
     /// `AllocError` where memory ran out; some of the steps were then taken.
     pub fn snapshot<L: Ledger>(&self, steps: &mut Steps<L>) -> Result<Vec<u8>, AllocError>

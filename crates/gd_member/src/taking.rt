@@ -32,8 +32,8 @@ impl Member {
     ghost use Rattle.gd_member.specs.Members.{IsLive};
     ghost use Rattle.gd_member.specs.Standing.{Stands};
 
-    /// Takes a datagram: a frame, or none. What comes of its events is said behind what was said, and so is why it isn't taken. The
-    /// events that are taken are unwritten then. Returns whose frame it was, if it was taken.
+    /// Takes a datagram: a frame, or none. What comes of its events is said behind what was said, and so is why it
+    /// isn't taken. The events that are taken are unwritten then. Returns whose frame it was, if it was taken.
     ///
     /// `AllocError` where memory ran out. Then the member is as before, or it is spent.
     pub fn take<L: Ledger>(
@@ -113,9 +113,9 @@ fn say_alone(reply: &Reply, said: &mut Said) -> Result<Option<u8>, AllocError>
     Ok(None)
 }
 
-/// Has the site take a frame, puts what is taken of it with the unwritten events, and says what came of each event. Of a frame
-/// that isn't taken it says why, or that the site has parted from its sender; nothing where that was said. Returns the sender, if
-/// the frame was taken. `AllocError` where memory ran out.
+/// Has the site take a frame, puts what is taken of it with the unwritten events, and says what came of each event. Of
+/// a frame that isn't taken it says why, or that the site has parted from its sender; nothing where that was said.
+/// Returns the sender, if the frame was taken. `AllocError` where memory ran out.
 fn take_into<L: Ledger>(
     site: &mut Site,
     unwritten: &mut Unwritten,

@@ -24,8 +24,8 @@ impl Member {
     ghost use Rattle.gd_member.specs.Members.{IsLive};
     ghost use Rattle.gd_member.specs.Standing.{Stands};
 
-    /// Takes the last gesture back that wasn't taken back yet, or does the last one again that was. Returns how many events it
-    /// became, which are unwritten then.
+    /// Takes the last gesture back that wasn't taken back yet, or does the last one again that was. Returns how many
+    /// events it became, which are unwritten then.
     ///
     /// `Nothing`, `ClockEnd` and `SessionFull` are decided in this order, and then the member is as before.
     /// `NoMemory` where memory ran out, and then the member is spent.
@@ -84,8 +84,8 @@ fn is_memory(fault: BackFault) -> bool
     matches!(fault, BackFault::NoMemory)
 }
 
-/// Takes a site's last gesture back, or does the last one again that was taken back, and puts its events with the unwritten ones.
-/// `NoMemory` where memory ran out.
+/// Takes a site's last gesture back, or does the last one again that was taken back, and puts its events with the
+/// unwritten ones. `NoMemory` where memory ran out.
 fn turn_into<L: Ledger>(
     site: &mut Site,
     backs: &mut TakeBack,

@@ -18,8 +18,8 @@ use std::marker::Model;
 /// One more event takes at most so many bytes: it, its check, its gate, and the closing gate.
 pub(crate) const ROOM: usize = EVENT_BYTES + 6;
 
-/// The events that aren't in the caller's journal yet, as the bytes that are put over its closing gate. Contracts see the place of
-/// that gate, the bytes, for each site the check of its events, and for how many bytes more there is room.
+/// The events that aren't in the caller's journal yet, as the bytes that are put over its closing gate. Contracts see
+/// the place of that gate, the bytes, for each site the check of its events, and for how many bytes more there is room.
 #[derive(Drop)]
 pub(crate) struct Unwritten {
     place: u64,
@@ -49,7 +49,8 @@ impl Unwritten {
         Unwritten::behind(alloc, HEADER_BYTES as u64, Chains::new())
     }
 
-    /// None, behind a journal whose closing gate stands at that place, and whose events have these checks. It takes no memory.
+    /// None, behind a journal whose closing gate stands at that place, and whose events have these checks. It takes no
+    /// memory.
     pub(crate) fn behind(alloc: Global, place: u64, chains: Chains) -> Unwritten
         ensures { (written : List EventValue) → place ≡ gate_place drawings version.Three written
             → AreChains drawings chains written → AreUnwritten written [] result }

@@ -1,6 +1,7 @@
--- What takes an operation back: its before-value, as an operation that an event at any stamp may have. It names what was there as
--- it was: nothing is made anew, and no id and no rank is new. So the back of a raise is the old rank, the back of that is the rank
--- that the raise gave, and the back of a group takes the group away and gives each member the link that it had.
+-- What takes an operation back: its before-value, as an operation that an event at any stamp may have. It names what
+-- was there as it was: nothing is made anew, and no id and no rank is new. So the back of a raise is the old rank, the
+-- back of that is the rank that the raise gave, and the back of a group takes the group away and gives each member the
+-- link that it had.
 use Rattle.std.specs.Prelude.{List, [], ◌∷◌, unwrap_or}
 use Rattle.std.specs.FinMap as map_of
 use Rattle.gd_base.specs.Contents.{content_map}
@@ -26,6 +27,7 @@ op_of (Sets id content) = Set id (content_map (λ label. label) (λ looks. looks
 op_of (Puts id object ties) = Restore id object ties
 op_of (Takes id ties) = taking id ties
 
--- what takes an operation at that stamp back, on a board: its before-value, or the operation again where it changes nothing
+-- what takes an operation at that stamp back, on a board: its before-value, or the operation again where it changes
+-- nothing
 unfoldable pub back : Stamp → Op → Board → Op
 back stamp op b = let f = form stamp op in op_of (unwrap_or (before_by f (map_of.get b)) f)

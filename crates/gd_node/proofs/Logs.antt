@@ -1,5 +1,6 @@
 -- The log in a node's journal: events are added together, once or several times.
-use Rattle.std.proofs.Common.{◌≡◌, ℕ, ◌+◌, ◌==◌, true, false, eqb-true, List, [], ◌∷◌, ◌++◌, length, take, drop, refl, sym, ◌∙◌, ap, subst, append-nil, append_assoc, inl, inr, arith}
+use Rattle.std.proofs.Common.{◌≡◌, ℕ, ◌+◌, ◌==◌, true, false, eqb-true, List, [], ◌∷◌, ◌++◌, length, take, drop, refl}
+use Rattle.std.proofs.Common.{sym, ◌∙◌, ap, subst, append-nil, append_assoc, inl, inr, arith}
 use Rattle.std.proofs.lemmas.Bool.{eqb-false}
 use Rattle.std.proofs.lemmas.List.{take_at}
 use Rattle.std.specs.Prelude.{IsSome, Result, Ok, Err}
@@ -37,18 +38,21 @@ log_or other (Ok found) = found
 log_or other (Err fault) = other
 
 -- it stands for one log
-same_log : (h k : Header) (es fs : List Event) (journal : SeenJournal) → Stands drawings h es journal → Stands drawings k fs journal → (h ≡ k) × (es ≡ fs)
+same_log : (h k : Header) (es fs : List Event) (journal : SeenJournal) → Stands drawings h es journal
+    → Stands drawings k fs journal → (h ≡ k) × (es ≡ fs)
 same_log h k es fs journal a b =
     let same = ap (log_or (h, es)) (sym a.contents.read ∙ b.contents.read) in
     (ap (λ x. x.0) same, ap (λ x. x.1) same)
 
 -- a writer may go on with it
-pub standing : (header : Header) (events : List Event) (writer : Writer) (journal : SeenJournal) → HasLog header events writer journal
+pub standing : (header : Header) (events : List Event) (writer : Writer) (journal : SeenJournal)
+    → HasLog header events writer journal
     → IsSome journal.contents → IsStanding drawings writer.place journal
 standing header events writer journal has t = (header, events, has.stands t, has.gate)
 
 -- with events put over its closing gate, from an open gate on, it is the log of those too
-closes_put : (h : Header) (events es : List Event) (old : List ℕ) → IsRuled IsOp drawings h (events ++ es) → Closes drawings h events old
+closes_put : (h : Header) (events es : List Event) (old : List ℕ) → IsRuled IsOp drawings h (events ++ es)
+    → Closes drawings h events old
     → Closes drawings h (events ++ es)
     (put_at old (gate_place drawings h.version events) (gated_bytes drawings h.version events es ++ 0 ∷ []))
 closes_put h events es old ruled c =
@@ -64,7 +68,8 @@ closes_put h events es old ruled c =
     ∙ ap (λ l. front ++ l) (append_assoc gated (0 ∷ []) rest))
 
 -- how far one event brings the gate
-pub one_place : (seen : List Event) (e : Event) (place place' : ℕ) → place' ≡ place + 1 + length (record_bytes drawings Three seen e)
+pub one_place : (seen : List Event) (e : Event) (place place' : ℕ)
+    → place' ≡ place + 1 + length (record_bytes drawings Three seen e)
     → place' ≡ place + length (gated_bytes drawings Three seen (e ∷ []))
 one_place seen e place place' at = omega (arith, at, ap length (gated-one drawings Three seen e))
 
@@ -89,7 +94,8 @@ module _ (slow : SlowSite) (es : List Event) (records : Records) (are : AreRecor
   none_recorded none = ap (recording slow) (no_events none)
 
   pub none_more : {writer : Writer} {journal : SeenJournal} → (length records.bytes == 0) ≡ true
-      → HasLog (journal_header slow) slow.held writer journal → HasLog (journal_header slow) (slow.held ++ es) writer journal
+      → HasLog (journal_header slow) slow.held writer journal
+      → HasLog (journal_header slow) (slow.held ++ es) writer journal
   none_more {writer} {journal} none has =
       subst (λ fs. HasLog (journal_header slow) fs writer journal)
       (sym (ap (λ fs. slow.held ++ fs) (no_events none) ∙ append-nil slow.held)) has
@@ -104,7 +110,8 @@ some_recorded slow (e ∷ es) records are some = refl
 -- ---- events more
 
 module _ (slow : SlowSite) (es : List Event) (writer : Writer) (old new : SeenJournal)
-    (has : HasLog (journal_header slow) slow.held writer old) (ruled : IsRuled IsOp drawings (journal_header slow) (slow.held ++ es)) where
+    (has : HasLog (journal_header slow) slow.held writer old)
+    (ruled : IsRuled IsOp drawings (journal_header slow) (slow.held ++ es)) where
   -- they were added
   module _ (was : IsSome new.contents → IsSome old.contents)
       (added : IsSome new.contents → AddsEvents IsOp drawings slow.held es old new) where
@@ -113,7 +120,8 @@ module _ (slow : SlowSite) (es : List Event) (writer : Writer) (old new : SeenJo
     adds t stands = added t (journal_header slow) refl ruled stands
 
     pub has_more : (writer' : Writer) → writer'.place ≡ writer.place + length (gated_bytes drawings Three slow.held es)
-        → AreChains drawings writer'.chains (slow.held ++ es) → HasLog (journal_header slow) (slow.held ++ es) writer' new
+        → AreChains drawings writer'.chains (slow.held ++ es)
+        → HasLog (journal_header slow) (slow.held ++ es) writer' new
     has_more writer' at chained =
         let there : writer'.place ≡ gate_place drawings Three (slow.held ++ es) =
         omega (arith, at, has.gate, gate_place-all drawings Three slow.held es) in
@@ -127,7 +135,8 @@ module _ (slow : SlowSite) (es : List Event) (writer : Writer) (old new : SeenJo
         }
 
     -- whatever log the journal is said to stand for
-    adds_any : IsSome new.contents → (h : Header) (fs : List Event) → Stands drawings h fs old → Adds drawings h fs (es ∷ []) old new
+    adds_any : IsSome new.contents → (h : Header) (fs : List Event) → Stands drawings h fs old
+        → Adds drawings h fs (es ∷ []) old new
     adds_any t h fs stands =
         let same = same_log (journal_header slow) h slow.held fs old (has.stands (was t)) stands in
         subst (λ k. Adds drawings k fs (es ∷ []) old new) same.0
@@ -135,12 +144,15 @@ module _ (slow : SlowSite) (es : List Event) (writer : Writer) (old new : SeenJo
 
     pub does_record : {failed : Type 0} → JournalCalled old new failed
         → (IsSome new.contents
-        → told new.contents ≡ put_at (told old.contents) writer.place (gated_bytes drawings Three slow.held es ++ 0 ∷ []))
+        → told new.contents ≡ put_at (told old.contents) writer.place
+        (gated_bytes drawings Three slow.held es ++ 0 ∷ []))
         → (input : SeenSource) (output : SeenSink) (link : SeenLink) (steps : ℕ)
-        → DoesAll (outside input output old link steps) (Record (log_end slow) slow.held es ∷ []) (outside input output new link steps)
+        → DoesAll (outside input output old link steps) (Record (log_end slow) slow.held es ∷ [])
+        (outside input output new link steps)
     does_record called put input output link steps =
         one_record tt old new called input output link steps (log_end slow) slow.held es
-        (λ t. put t ∙ ap (λ p. put_at (told old.contents) p (gated_bytes drawings Three slow.held es ++ 0 ∷ [])) has.gate) adds_any
+        (λ t. put t ∙ ap (λ p. put_at (told old.contents) p (gated_bytes drawings Three slow.held es ++ 0 ∷ []))
+        has.gate) adds_any
 
   -- the journal failed
   module _ (was : IsSome new.contents → IsSome old.contents)
@@ -154,7 +166,8 @@ module _ (slow : SlowSite) (es : List Event) (writer : Writer) (old new : SeenJo
     crash_torn t h fs stands =
         let same = same_log (journal_header slow) h slow.held fs old (has.stands (was t)) stands in
         subst (λ k. AddsTorn drawings k fs [] (es ∷ []) old new) same.0
-        (subst (λ gs. AddsTorn drawings (journal_header slow) gs [] (es ∷ []) old new) same.1 (torn t (has.stands (was t))))
+        (subst (λ gs. AddsTorn drawings (journal_header slow) gs [] (es ∷ []) old new) same.1
+        (torn t (has.stands (was t))))
 
     pub left_torn : IsSome new.contents
         → IsWithOrWithout (told old.contents) (Record (log_end slow) slow.held es) (told new.contents)
@@ -171,5 +184,6 @@ module _ (slow : SlowSite) (es : List Event) (writer : Writer) (old new : SeenJo
         with_or_without (f ∷ []) back split read =
             let first : f ≡ es = cc in
             inr (read ∙ rw (append-nil, append-nil, first)
-            (sym (closes_put (journal_header slow) slow.held es (told old.contents) ruled (has.stands (was t)).contents).read))
+            (sym (closes_put (journal_header slow) slow.held es (told old.contents) ruled
+            (has.stands (was t)).contents).read))
         with_or_without (f ∷ g ∷ front) back split read = absurd cc

@@ -23,7 +23,8 @@ use Rattle.gd_grammar.specs.Fields.{check_word_at}
 use Rattle.gd_grammar.specs.HeaderBytes.{Header, header_at, header_bytes}
 use Rattle.gd_grammar.specs.Kinds.{event_at, spelling}
 use Rattle.gd_grammar.specs.LogBytes as logs
-use Rattle.gd_grammar.specs.LogBytes.{LogMisread, checked, events_at, gate, in_log, is_closed, record_at, settled, step_at}
+use Rattle.gd_grammar.specs.LogBytes.{LogMisread, checked, events_at, gate, in_log, is_closed, record_at, settled}
+use Rattle.gd_grammar.specs.LogBytes.{step_at}
 use Rattle.gd_grammar.specs.LogBytes.{turn_fault, with_check}
 use Rattle.gd_grammar.specs.Versions.{has_checks}
 use Rattle.gd_logs.proofs.CheckLemmas.{in_log-ok}
@@ -67,7 +68,8 @@ module _ (h : Header) where
   record_behind seen bytes x are e = go (event_at drawings h.version bytes) refl e
     where
       go : (r : Result (Event × List ℕ) FieldFault) → event_at drawings h.version bytes ≡ r
-          → (in_log r >>= λ y. settled (turn_fault h.n seen y.0) (length bytes) y >>= λ y. checked drawings h.version seen y)
+          → (in_log r >>= λ y. settled (turn_fault h.n seen y.0) (length bytes) y >>= λ y. checked drawings h.version
+          seen y)
           ≡ Ok x → Behind h seen x
       go (Ok y) is k =
           let turned = bind_ok (settled (turn_fault h.n seen y.0) (length bytes) y) _ x k in
@@ -91,7 +93,8 @@ module _ (h : Header) where
   step_behind seen (b ∷ bytes) x are e = go (b == gate) (is_closed h.version b) (record_at drawings h seen bytes) refl e
     where
       go : (open_gate closed : Bool) (r : Result (Event × List ℕ) LogMisread) → record_at drawings h seen bytes ≡ r
-          → cond open_gate (r >>= λ y. Ok (Some y)) (cond closed (Ok None) (Err (fault_by reason.Behind (length (b ∷ bytes)))))
+          → cond open_gate (r >>= λ y. Ok (Some y))
+          (cond closed (Ok None) (Err (fault_by reason.Behind (length (b ∷ bytes)))))
           ≡ Ok (Some x) → Behind h seen x
       go true closed (Ok y) is k =
           let same : y ≡ x = cc in

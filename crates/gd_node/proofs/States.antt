@@ -24,7 +24,8 @@ use Rattle.gd_reference.specs.TakeBack.{Asked}
 
 -- ---- what waits stays in its ranges
 
-ranged_after : (slow : SlowSite) (waiting : Option (List Asked)) (entries : List Entry) (line : ReadLine) → IsRead line → AreAskedOf waiting
+ranged_after : (slow : SlowSite) (waiting : Option (List Asked)) (entries : List Entry) (line : ReadLine) → IsRead line
+    → AreAskedOf waiting
     → AreAskedOf (after_line_of slow waiting entries line).waiting
 ranged_after slow None entries (Ok command.Begin) read are = tt
 ranged_after slow None entries line read are = tt
@@ -33,32 +34,40 @@ ranged_after slow (Some asked) entries line read are = ranged-waiting asked line
 
 -- ---- the lines that wait
 
-waits_after : (slow : SlowSite) (waiting : Option (List Asked)) (entries : List Entry) (line : ReadLine) → (after_line_of slow waiting entries line).waiting ≡ waits_behind waiting line
+waits_after : (slow : SlowSite) (waiting : Option (List Asked)) (entries : List Entry) (line : ReadLine)
+    → (after_line_of slow waiting entries line).waiting ≡ waits_behind waiting line
 waits_after slow None entries (Ok command.Begin) = refl
 waits_after slow None entries line = refl
 waits_after slow (Some asked) entries (Ok command.End) = refl
 waits_after slow (Some asked) entries line = refl
 
 -- a line that ends a gesture owes what the gesture does, and any other nothing
-within_end : (asked : List Asked) (line : ReadLine) → ends_gesture line ≡ true → for_within asked line ≡ for_gesture asked
+within_end : (asked : List Asked) (line : ReadLine) → ends_gesture line ≡ true
+    → for_within asked line ≡ for_gesture asked
 within_end asked (Ok command.End) e = refl
 within_end asked line e = cc
 
-within_wait : (asked : List Asked) (line : ReadLine) → ends_gesture line ≡ false → for_within asked line ≡ without_entries (λ slow. []) (λ slow. slow)
+within_wait : (asked : List Asked) (line : ReadLine) → ends_gesture line ≡ false
+    → for_within asked line ≡ without_entries (λ slow. []) (λ slow. slow)
 within_wait asked (Ok command.End) e = cc
 within_wait asked line e = refl
 
-pub carries_end : (asked : List Asked) (line : ReadLine) → ends_gesture line ≡ true → {T : Type 0} (r : Result T End) {a b : Node} → Carries (for_gesture asked) r a b
+pub carries_end : (asked : List Asked) (line : ReadLine) → ends_gesture line ≡ true
+    → {T : Type 0} (r : Result T End) {a b : Node} → Carries (for_gesture asked) r a b
     → Carries (for_within asked line) r a b
-carries_end asked line is r {a} {b} h = subst (λ (owed : NodeOwed). Carries owed r a b) (sym (within_end asked line is)) h
+carries_end asked line is r {a} {b} h
+    = subst (λ (owed : NodeOwed). Carries owed r a b) (sym (within_end asked line is)) h
 
-pub carries_wait : (asked : List Asked) (line : ReadLine) → ends_gesture line ≡ false → {T : Type 0} (v : T) (a : Node) → Carries (for_within asked line) (Ok v) a a
-carries_wait asked line is v a = subst (λ (owed : NodeOwed). Carries owed (Ok v) a a) (sym (within_wait asked line is)) (carries_nothing v a)
+pub carries_wait : (asked : List Asked) (line : ReadLine) → ends_gesture line ≡ false → {T : Type 0} (v : T) (a : Node)
+    → Carries (for_within asked line) (Ok v) a a
+carries_wait asked line is v a
+    = subst (λ (owed : NodeOwed). Carries owed (Ok v) a a) (sym (within_wait asked line is)) (carries_nothing v a)
 
 -- ---- the state
 
 -- what was read is in its ranges
-pub read_ranged : (bytes : List ℕ) → ((wanted : Command) → read bytes ≡ Ok wanted → IsCommand wanted) → (line : ReadLine) → line ≡ read bytes → IsRead line
+pub read_ranged : (bytes : List ℕ) → ((wanted : Command) → read bytes ≡ Ok wanted → IsCommand wanted)
+    → (line : ReadLine) → line ≡ read bytes → IsRead line
 read_ranged bytes law (Ok wanted) is = law wanted (sym is)
 read_ranged bytes law (Err fault) is = tt
 
@@ -69,22 +78,29 @@ on_both P Q (Err e) p q = tt
 abbrev state_of : SlowSite → Option (List Asked) → NodeState
 state_of slow waiting = record { site = slow; waiting = waiting }
 
-met_as : {state : NodeState} {old : Conversation} {journal : SeenJournal} {waiting : Option (List Asked)} → waiting ≡ old.waiting → MeetsState state old journal
+met_as : {state : NodeState} {old : Conversation} {journal : SeenJournal} {waiting : Option (List Asked)}
+    → waiting ≡ old.waiting → MeetsState state old journal
     → state ≡ state_of state.site waiting
 met_as {state} is m = λ i. state_of state.site (sym (is ∙ m.waiting) i)
 
 -- the member did what it owes where these lines waited, and those wait that the state has then
-pub carries_state : {T : Type 0} (r : Result T End) (line : ReadLine) → IsRead line → (old new : Conversation) (waiting : Option (List Asked)) → waiting ≡ old.waiting
+pub carries_state : {T : Type 0} (r : Result T End) (line : ReadLine) → IsRead line
+    → (old new : Conversation) (waiting : Option (List Asked)) → waiting ≡ old.waiting
     → {output output' : SeenSink} {journal journal' : SeenJournal} {link link' : SeenLink} {steps steps' : ℕ}
-    → Carries (for_waiting waiting line) r (node old.member output journal link steps) (node new.member output' journal' link' steps')
+    → Carries (for_waiting waiting line) r (node old.member output journal link steps)
+    (node new.member output' journal' link' steps')
     → OnOk r (new.waiting ≡ waits_behind waiting line)
-    → owing.Carries MeetsState (answering.for_line node_manner line) r (at old output journal link steps) (at new output' journal' link' steps')
+    → owing.Carries MeetsState (answering.for_line node_manner line) r (at old output journal link steps)
+    (at new output' journal' link' steps')
 carries_state r line ranged old new waiting was {link = link} h waits = record {
-  does = λ state m input. does_as (ap (λ (s : NodeState). node_manner.effects s (told link.entries) line) (met_as was m)) (h.does state.site m.member input);
+  does = λ state m input. does_as
+      (ap (λ (s : NodeState). node_manner.effects s (told link.entries) line) (met_as was m))
+      (h.does state.site m.member input);
   goes = on_ok_map r (λ both state m.
       let es = told link.entries in
       let g = both.0 state.site m.member in
-      let now : new.waiting ≡ (after_line_of state.site waiting es line).waiting = both.1 ∙ sym (waits_after state.site waiting es line) in
+      let now : new.waiting ≡ (after_line_of state.site waiting es line).waiting = both.1
+      ∙ sym (waits_after state.site waiting es line) in
       let are = subst AreAskedOf (sym (was ∙ m.waiting)) m.ranged in
       record {
         reached = state_of g.reached new.waiting;
@@ -95,7 +111,8 @@ carries_state r line ranged old new waiting was {link = link} h waits = record {
         };
         is = λ t.
             let is = g.is t in (
-              (λ i. state_of (is.0 i) (now i)) ∙ ap (λ (s : NodeState). node_manner.state s es line) (sym (met_as was m)),
+              (λ i. state_of (is.0 i) (now i))
+                  ∙ ap (λ (s : NodeState). node_manner.state s es line) (sym (met_as was m)),
               is.1 ∙ ap (λ (s : NodeState). node_manner.left s es line) (sym (met_as was m)),
             );
       }) (on_both _ _ r h.goes waits);

@@ -7,7 +7,9 @@ use Rattle.gd_node.specs.Meeting.{Meets}
 use Rattle.gd_node.specs.Owing.{NodeOwed}
 use Rattle.gd_node.specs.declared.conversation.Conversation.{Conversation}
 use Rattle.gd_outside.specs.Seen.{SeenJournal}
-use Rattle.gd_reference.specs.NodeRun.{NodeState, ReadLine, after_line_alone, after_line_of, after_line_within, entries_after, entries_left_of, of_line_alone, of_line_of, of_line_within, with_waiting}
+use Rattle.gd_reference.specs.NodeRun.{NodeState, ReadLine, after_line_alone, after_line_of, after_line_within}
+use Rattle.gd_reference.specs.NodeRun.{entries_after, entries_left_of, of_line_alone, of_line_of, of_line_within}
+use Rattle.gd_reference.specs.NodeRun.{with_waiting}
 use Rattle.gd_reference.specs.TakeBack.{Asked}
 
 -- ---- what it stands for

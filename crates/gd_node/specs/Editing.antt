@@ -43,16 +43,17 @@ pub record IsAhead (slow : SlowSite) (es : List Event) (member : Member) (journa
 abbrev pub of_made : SlowSite → List Event → List Reply → List Effect
 of_made slow es replies = recording slow es ++ all_said replies ++ tries_with slow es
 
--- A call at a node did that, or until its early end a part of it. The log has the events then, and nothing else of the member
--- has changed.
-pub record Announces (es : List Event) (replies : List Reply) (result : Result (Unit {0}) End) (old new : Node) : Type 0 where
-  pub does : (slow : SlowSite) → IsAhead slow es old.answerer old.journal → (input : SeenSource)
-      → Does result (beside input old) (of_made slow es replies) (beside input new)
-  pub log : OnOk result ((slow : SlowSite) → IsAhead slow es old.answerer old.journal
-      → HasLog (journal_header slow) (slow.held ++ es) new.answerer.log new.journal)
-  pub keeps : (slow : SlowSite) → IsAhead slow es old.answerer old.journal
-      → KeepsLogs old.journal new.journal
-  pub site : new.answerer.site ≡ old.answerer.site
-  pub backs : new.answerer.backs ≡ old.answerer.backs
-  pub takes : TakesNone old.link new.link
-  pub name : Stays old.journal.name new.journal.name
+-- A call at a node did that, or until its early end a part of it. The log has the events then, and nothing else of the
+-- member has changed.
+pub record Announces (es : List Event) (replies : List Reply) (result : Result (Unit {0}) End) (old new : Node) : Type 0
+  where
+    pub does : (slow : SlowSite) → IsAhead slow es old.answerer old.journal → (input : SeenSource)
+        → Does result (beside input old) (of_made slow es replies) (beside input new)
+    pub log : OnOk result ((slow : SlowSite) → IsAhead slow es old.answerer old.journal
+        → HasLog (journal_header slow) (slow.held ++ es) new.answerer.log new.journal)
+    pub keeps : (slow : SlowSite) → IsAhead slow es old.answerer old.journal
+        → KeepsLogs old.journal new.journal
+    pub site : new.answerer.site ≡ old.answerer.site
+    pub backs : new.answerer.backs ≡ old.answerer.backs
+    pub takes : TakesNone old.link new.link
+    pub name : Stays old.journal.name new.journal.name

@@ -40,13 +40,15 @@ pub record Judges (slow : SlowSite) (asked : Asked) (said : Reply) (old new : Ma
 -- ---- all of them
 
 -- the events of these lines were made, in a step each, and this is said
-pub record AreMade (slow : SlowSite) (asked : List Asked) (replies : List Reply) (m : Making) (told now : List ℕ) (before after : ℕ) : Type 0 where
+pub record AreMade (slow : SlowSite) (asked : List Asked) (replies : List Reply) (m : Making) (told now : List ℕ)
+    (before after : ℕ) : Type 0 where
   pub has : HasMade slow (made slow asked) m
   pub said : now ≡ told ++ flat_map reply_text replies
   pub steps : after ≡ before + length (made slow asked)
 
 -- they were, or where memory ran out a front of them
-abbrev pub JudgesAll : SlowSite → List Asked → List Reply → Result GestureValue End → SiteValue → List ℕ → List ℕ → ℕ → ℕ → Type 0
+abbrev pub JudgesAll : SlowSite → List Asked → List Reply → Result GestureValue End → SiteValue → List ℕ → List ℕ → ℕ
+    → ℕ → Type 0
 JudgesAll slow asked replies (Ok gesture) site told now before after =
     AreMade slow asked replies (making site gesture) told now before after
 JudgesAll slow asked replies (Err end) site told now before after =

@@ -9,8 +9,8 @@ use Rattle.gd_reference.specs.NodeRun.{HeardLine, IsEntry, IsHeard, site_after}
 use Rattle.gd_reference.specs.Rejoin.{node_header}
 use Rattle.gd_reference.specs.SlowSite.{SlowSite, resumed}
 
--- a node's number, how many sites there are, the session, the bytes of its journal, the events that they are read as, what its
--- link gives, and its lines as they are heard
+-- a node's number, how many sites there are, the session, the bytes of its journal, the events that they are read as,
+-- what its link gives, and its lines as they are heard
 pub record GoingOn : Type 0 where
   pub me : ℕ
   pub sites : ℕ

@@ -24,9 +24,9 @@ use gd_wire::Drawings;
 use gd_words::Reply;
 use std::alloc::{AllocError, Global};
 
-/// Adds an event that the member's site has made to the log, prints it as done, and tries a frame for each other site for which it
-/// is in that frame. It takes no memory for that. `JournalFault` and `WriteFault` where a call on that object failed; no other end
-/// comes.
+/// Adds an event that the member's site has made to the log, prints it as done, and tries a frame for each other site
+/// for which it is in that frame. It takes no memory for that. `JournalFault` and `WriteFault` where a call on that
+/// object failed; no other end comes.
 pub(crate) fn announce<K: Sink, J: Journal, N: Link>(
     member: &mut Member,
     event: &Event,
@@ -45,11 +45,11 @@ pub(crate) fn announce<K: Sink, J: Journal, N: Link>(
     Ok(())
 }
 
-/// Adds events that the member's site has made to the log, behind one gate, prints what is said of them, and tries a frame for each
-/// other site for which one of them is in that frame. Where there are none it prints alone.
+/// Adds events that the member's site has made to the log, behind one gate, prints what is said of them, and tries a
+/// frame for each other site for which one of them is in that frame. Where there are none it prints alone.
 ///
-/// `NoMemory` where memory ran out, and then nothing was done. `JournalFault` and `WriteFault` where a call on that object failed;
-/// no other end comes.
+/// `NoMemory` where memory ran out, and then nothing was done. `JournalFault` and `WriteFault` where a call on that
+/// object failed; no other end comes.
 pub(crate) fn announce_all<K: Sink, J: Journal, N: Link>(
     member: &mut Member,
     events: &[ListedEvent],

@@ -42,11 +42,12 @@ pub(crate) fn wait(
     }
 }
 
-/// Carries out the lines of a gesture, at its end: judges each edit where those before it have been made, adds all events to the log
-/// behind one gate, prints what is said of each line, and how many there were, and tries a frame for each other site for which one
-/// of them is in that frame.
+/// Carries out the lines of a gesture, at its end: judges each edit where those before it have been made, adds all
+/// events to the log behind one gate, prints what is said of each line, and how many there were, and tries a frame for
+/// each other site for which one of them is in that frame.
 ///
-/// `NoMemory` where memory ran out, `JournalFault` and `WriteFault` where a call on that object failed; no other end comes.
+/// `NoMemory` where memory ran out, `JournalFault` and `WriteFault` where a call on that object failed; no other end
+/// comes.
 pub(crate) fn carry_out<K: Sink, J: Journal, N: Link, L: Ledger>(
     member: &mut Member,
     waiting: &Waiting,
@@ -67,8 +68,8 @@ pub(crate) fn carry_out<K: Sink, J: Journal, N: Link, L: Ledger>(
     announce_all(member, events.as_slice(), &said, output, journal, link)
 }
 
-/// Judges the lines of a gesture: makes their events, and says of each line what came of it, and how many there were. `NoMemory`
-/// where memory ran out; no other end comes.
+/// Judges the lines of a gesture: makes their events, and says of each line what came of it, and how many there were.
+/// `NoMemory` where memory ran out; no other end comes.
 fn judge<L: Ledger>(
     alloc: Global,
     site: &mut Site,
@@ -89,8 +90,8 @@ fn judge<L: Ledger>(
     Ok(gesture)
 }
 
-/// Makes the events of these lines, one after another, and says of each line what came of it. `NoMemory` where memory ran out; no
-/// other end comes.
+/// Makes the events of these lines, one after another, and says of each line what came of it. `NoMemory` where memory
+/// ran out; no other end comes.
 fn make_all<L: Ledger>(
     alloc: Global,
     site: &mut Site,
@@ -111,8 +112,8 @@ fn make_all<L: Ledger>(
     Ok(gesture)
 }
 
-/// Makes the event of a line, if it becomes one, and returns what is said of it. `NoMemory` where memory ran out, and then the
-/// steps are as before; no other end comes.
+/// Makes the event of a line, if it becomes one, and returns what is said of it. `NoMemory` where memory ran out, and
+/// then the steps are as before; no other end comes.
 fn make<L: Ledger>(
     gesture: &mut Gesture,
     site: &mut Site,

@@ -29,8 +29,8 @@ use gd_outside::{End, Journal, Sink};
 use gd_wire::{Drawings, LogHeader};
 use gd_words::Reply;
 
-/// Begins a journal of that name with the log of this header. `JournalFault` where a call on the journal failed; no other
-/// end comes.
+/// Begins a journal of that name with the log of this header. `JournalFault` where a call on the journal failed; no
+/// other end comes.
 pub(crate) fn start_log<J: Journal>(
     journal: &mut J,
     name: &str,
@@ -50,7 +50,8 @@ pub(crate) fn start_log<J: Journal>(
     }
 }
 
-/// Adds an event to the log. It takes no memory for that. `JournalFault` where a call on the journal failed; no other end comes.
+/// Adds an event to the log. It takes no memory for that. `JournalFault` where a call on the journal failed; no other
+/// end comes.
 pub(crate) fn record<J: Journal>(
     log: &mut LogWriter,
     journal: &mut J,
@@ -76,8 +77,8 @@ pub(crate) fn record<J: Journal>(
     }
 }
 
-/// Adds several events to the log, behind one gate, if there are any. `NoMemory` where memory ran out, and then nothing was
-/// done; `JournalFault` where a call on the journal failed; no other end comes.
+/// Adds several events to the log, behind one gate, if there are any. `NoMemory` where memory ran out, and then nothing
+/// was done; `JournalFault` where a call on the journal failed; no other end comes.
 fn record_all<J: Journal>(
     log: &mut LogWriter,
     journal: &mut J,

@@ -1,5 +1,5 @@
-//! What holds of nodes that go on from a log, whatever lines and datagrams they are handed: contracts of functions that do
-//! nothing.
+//! What holds of nodes that go on from a log, whatever lines and datagrams they are handed: contracts of functions that
+//! do nothing.
 
 ghost use Rattle.std.specs.Prelude.{◌≡◌, ℕ, List, Ok};
 ghost use Rattle.gd_events.specs.Events.{Event};
@@ -17,7 +17,8 @@ ghost use Rattle.gd_reference.specs.SlowSite.{resumed};
 
 use gd_protocol::nodes::nodes_that_hold_the_same_show_the_same;
 
-/// A log of a node's header, whoever wrote it, gives a site that keeps itself well, and it stays so in a run that goes on from it.
+/// A log of a node's header, whoever wrote it, gives a site that keeps itself well, and it stays so in a run that goes
+/// on from it.
 pub fn a_log_gives_a_well_site()
     ensures begun { (me sites session : ℕ) (contents : List ℕ) (events : List Event)
         → AreBytes contents → log contents ≡ Ok (node_header me sites session, events)
@@ -25,7 +26,8 @@ pub fn a_log_gives_a_well_site()
     ensures stays { (n : GoingOn) → IsGoingOn n → IsWell (site_of n) }
 {}
 
-/// A node that goes on from a log prints the same text as any other that holds the same events: one that goes on, or a new one.
+/// A node that goes on from a log prints the same text as any other that holds the same events: one that goes on, or a
+/// new one.
 pub fn nodes_that_go_on_show_the_same()
     ensures both { (n m : GoingOn) → IsGoingOn n → IsGoingOn m
         → HoldSame (site_of n).held (site_of m).held

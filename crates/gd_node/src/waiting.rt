@@ -47,8 +47,8 @@ impl Waiting {
         }
     }
 
-    /// Puts a line last, of which it is said that the gesture is full where 512 wait. `AllocError` where memory ran out, or there
-    /// are too many lines to count them.
+    /// Puts a line last, of which it is said that the gesture is full where 512 wait. `AllocError` where memory ran
+    /// out, or there are too many lines to count them.
     pub(crate) fn add(&mut self, asked: Asked) -> Result<(), AllocError>
         ensures { OnOk result (self.new ≡ with_asked self.old asked) }
     {

@@ -16,19 +16,30 @@ use Rattle.gd_outside.specs.Records.{contents_of, disk_of, first_shot, image_of,
 use Rattle.gd_outside.specs.Records.{shot_kind, shot_after}
 use Rattle.gd_outside.proofs.RecordLemmas.{calls_of-size, marks_size}
 
-length-put_at : (old piece : List ℕ) (pos : ℕ) → length (put_at old pos piece) ≡ min pos (length old) + length piece + (length old - (pos + length piece))
+length-put_at : (old piece : List ℕ) (pos : ℕ)
+    → length (put_at old pos piece) ≡ min pos (length old) + length piece + (length old - (pos + length piece))
 length-put_at old piece pos =
-    omega (arith, length-append (take pos old ++ piece) (drop (pos + length piece) old), length-append (take pos old) piece, length-take pos old, length-drop (pos + length piece) old)
+    omega (
+      arith,
+      length-append (take pos old ++ piece) (drop (pos + length piece) old),
+      length-append (take pos old)
+          piece,
+      length-take pos old,
+      length-drop (pos + length piece) old,
+    )
 
 -- ---- a write that succeeded, or that failed and left all as it was
 
-put-behind : (old piece : List ℕ) (pos : ℕ) (short : Bool) → ltb (length old) pos ≡ short → drop (pos + length piece) (put_at old pos piece) ≡ drop (pos + length piece) old
+put-behind : (old piece : List ℕ) (pos : ℕ) (short : Bool) → ltb (length old) pos ≡ short
+    → drop (pos + length piece) (put_at old pos piece) ≡ drop (pos + length piece) old
 put-behind old piece pos true e =
     let less = ltb-true _ _ e in
-    drop_all (pos + length piece) (put_at old pos piece) (omega (arith, length-put_at old piece pos)) ∙ sym (drop_all (pos + length piece) old (omega arith))
+    drop_all (pos + length piece) (put_at old pos piece) (omega (arith, length-put_at old piece pos))
+    ∙ sym (drop_all (pos + length piece) old (omega arith))
 put-behind old piece pos false e =
     let more = ltb-false _ _ e in
-    drop_at (take pos old ++ piece) (drop (pos + length piece) old) (pos + length piece) (omega (arith, length-append (take pos old) piece, length-take pos old))
+    drop_at (take pos old ++ piece) (drop (pos + length piece) old) (pos + length piece)
+    (omega (arith, length-append (take pos old) piece, length-take pos old))
 
 put-front : (old piece : List ℕ) (pos : ℕ) → take (min pos (length old)) (put_at old pos piece) ≡ take pos old
 put-front old piece pos =
@@ -51,7 +62,8 @@ fill-torn old piece filled pos long byte = record {
 put-torn : (old piece : List ℕ) (pos : ℕ) → IsTorn pos piece old (put_at old pos piece)
 put-torn old piece pos = fill-torn old piece piece pos refl (λ one inside. inr refl)
 
-same-front : (old : List ℕ) (pos : ℕ) (short : Bool) → ltb (length old) pos ≡ short → take (min pos (length old)) old ≡ take pos old
+same-front : (old : List ℕ) (pos : ℕ) (short : Bool) → ltb (length old) pos ≡ short
+    → take (min pos (length old)) old ≡ take pos old
 same-front old pos true e =
     let less = ltb-true _ _ e in
     take_all (min pos (length old)) old (omega arith) ∙ sym (take_all pos old (omega arith))
@@ -115,7 +127,8 @@ record Fits (s : State) (t : Shot) : Type 0 where
   same : s.contents ≡ t.contents
   image : IsImage s.disk.now t.image
 
-fits-kind : (kind : Kind) (s : State) (t : Shot) (pos : ℕ) (piece : List ℕ) → Fits s t → Fits (after_kind kind s pos piece) (shot_kind kind t pos piece)
+fits-kind : (kind : Kind) (s : State) (t : Shot) (pos : ℕ) (piece : List ℕ) → Fits s t
+    → Fits (after_kind kind s pos piece) (shot_kind kind t pos piece)
 fits-kind Created s t pos piece f = record { same = refl; image = tt }
 fits-kind NotCreated s t pos piece f = record { same = f.same; image = tt }
 fits-kind Put s t pos piece f = record {
@@ -125,9 +138,11 @@ fits-kind Put s t pos piece f = record {
 fits-kind NotPut s t pos piece f = record { same = f.same; image = (t.image, f.image, landed-torn t piece pos) }
 fits-kind Synced s t pos piece f = record { same = f.same; image = sym f.same }
 
-fits-calls : (calls : List DiskCall) (s : State) (t : Shot) → Fits s t → Fits (fold after_call s calls) (fold shot_after t calls)
+fits-calls : (calls : List DiskCall) (s : State) (t : Shot) → Fits s t
+    → Fits (fold after_call s calls) (fold shot_after t calls)
 fits-calls [] s t f = f
-fits-calls (call ∷ calls) s t f = fits-calls calls (after_call s call) (shot_after t call) (fits-kind call.kind s t call.pos call.piece f)
+fits-calls (call ∷ calls) s t f
+    = fits-calls calls (after_call s call) (shot_after t call) (fits-kind call.kind s t call.pos call.piece f)
 
 pub image-is : (k fill : ℕ) (calls : List DiskCall) → IsImage (disk_of calls).now (image_of k fill calls)
 image-is k fill calls = (fits-calls calls at_first (first_shot k fill) (record { same = refl; image = refl })).image
@@ -149,9 +164,11 @@ short-landed s pos piece size h = by (nat_lt s.count s.whole) (is_byte_over s.im
   by false true = omega (arith, h)
   by false false = omega (arith, h, length-put_at s.image (filled s piece) pos, length-replicate (length piece) s.fill)
 
-short-kind : (kind : Kind) (s : Shot) (pos : ℕ) (piece : List ℕ) (size : ℕ) → Short size s → Short (size + length piece) (shot_kind kind s pos piece)
+short-kind : (kind : Kind) (s : Shot) (pos : ℕ) (piece : List ℕ) (size : ℕ) → Short size s
+    → Short (size + length piece) (shot_kind kind s pos piece)
 short-kind Created s pos piece size f = record { contents = omega arith; image = omega arith }
-short-kind NotCreated s pos piece size f = record { contents = omega (arith, f.contents); image = omega (arith, f.image) }
+short-kind NotCreated s pos piece size f
+    = record { contents = omega (arith, f.contents); image = omega (arith, f.image) }
 short-kind Put s pos piece size f = record {
   contents = omega (arith, f.contents, length-put_at s.contents piece pos);
   image = short-landed s pos piece size f.image;
@@ -160,18 +177,27 @@ short-kind NotPut s pos piece size f = record {
   contents = omega (arith, f.contents);
   image = short-landed s pos piece size f.image;
 }
-short-kind Synced s pos piece size f = record { contents = omega (arith, f.contents); image = omega (arith, f.contents) }
+short-kind Synced s pos piece size f
+    = record { contents = omega (arith, f.contents); image = omega (arith, f.contents) }
 
-short-calls : (calls : List DiskCall) (s : Shot) (size : ℕ) → Short size s → length (fold shot_after s calls).image ≤ size + pieces_size calls
+short-calls : (calls : List DiskCall) (s : Shot) (size : ℕ) → Short size s
+    → length (fold shot_after s calls).image ≤ size + pieces_size calls
 short-calls [] s size f = omega (arith, f.image)
 short-calls (call ∷ calls) s size f =
-    omega (arith, short-calls calls (shot_after s call) (size + length call.piece) (short-kind call.kind s call.pos call.piece size f), sum_by-cons (λ (c : DiskCall). length c.piece) call calls)
+    omega (
+      arith,
+      short-calls calls (shot_after s call) (size + length call.piece)
+          (short-kind call.kind s call.pos call.piece size f),
+      sum_by-cons (λ (c : DiskCall). length c.piece) call calls,
+    )
 
 pub length-image_of : (k fill : ℕ) (calls : List DiskCall) → length (image_of k fill calls) ≤ pieces_size calls
-length-image_of k fill calls = omega (arith, short-calls calls (first_shot k fill) 0 (record { contents = omega arith; image = omega arith }))
+length-image_of k fill calls
+    = omega (arith, short-calls calls (first_shot k fill) 0 (record { contents = omega arith; image = omega arith }))
 
 -- the image of a record fits into its room
-pub image-fits : (r : Recorded) (marks : List Mark) (pieces : List ℕ) (room k fill : ℕ) → record { calls = calls_of marks pieces; room = room } ≡ r → marks_size marks ≡ length pieces
+pub image-fits : (r : Recorded) (marks : List Mark) (pieces : List ℕ) (room k fill : ℕ)
+    → record { calls = calls_of marks pieces; room = room } ≡ r → marks_size marks ≡ length pieces
     → length pieces ≤ room → length (image_of k fill r.calls) ≤ r.room
 image-fits r marks pieces room k fill v h few =
     rw (← v) (omega (arith, length-image_of k fill (calls_of marks pieces), calls_of-size marks pieces h, few))

@@ -1,5 +1,5 @@
--- What a crash may leave of a journal's contents. A disk has a clock, which counts the calls that changed what a crash may
--- leave, and for each moment of it the images that a crash at that moment may leave.
+-- What a crash may leave of a journal's contents. A disk has a clock, which counts the calls that changed what a crash
+-- may leave, and for each moment of it the images that a crash at that moment may leave.
 use Rattle.std.specs.Prelude.{◌≡◌, ◌≤◌, ◌+◌, ℕ, min, List, [], ◌∷◌, ◌++◌, length, take, drop, ◌⊎◌}
 use Rattle.gd_outside.specs.Journals.{IsWholeByte}
 

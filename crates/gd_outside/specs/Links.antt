@@ -10,12 +10,14 @@ use Rattle.gd_outside.specs.Told.{told}
 -- than the buffer; a pause, or nothing at the end of the entries; a failure.
 abbrev pub Took : List Entry → Received → List ℕ → List Entry → Type 0
 Took old (got.Datagram k) buffer new = old ≡ Packet (take k buffer) ∷ new
-Took old got.TooLong buffer new = (datagram : List ℕ) × (length buffer < length datagram) × (old ≡ Packet datagram ∷ new)
+Took old got.TooLong buffer new = (datagram : List ℕ) × (length buffer < length datagram)
+    × (old ≡ Packet datagram ∷ new)
 Took old got.Nothing buffer new = ((old ≡ []) × (new ≡ [])) ⊎ (old ≡ Pause ∷ new)
 Took old got.Failed buffer new = old ≡ Failure ∷ new
 
 -- the same of entries that are told
-pub record Takes (old : Option (List Entry)) (received : Received) (buffer : List ℕ) (new : Option (List Entry)) : Type 0 where
+pub record Takes (old : Option (List Entry)) (received : Received) (buffer : List ℕ) (new : Option (List Entry)) : Type
+    0 where
   pub was : IsSome new → IsSome old
   pub now : IsSome new → Took (told old) received buffer (told new)
 
@@ -44,8 +46,8 @@ pub record IsOpen (all : List (List ℕ)) (own : ℕ) (link : SeenLink) : Type 0
   pub addresses : IsSome link.addresses → told link.addresses ≡ all
   pub me : IsSome link.me → link.me ≡ Some own
 
--- What comes together at each call on a link: what isn't told before it isn't told after it, its count of faults doesn't
--- fall, and a failure has its cause.
+-- What comes together at each call on a link: what isn't told before it isn't told after it, its count of faults
+-- doesn't fall, and a failure has its cause.
 pub record LinkCalled (old new : SeenLink) (failed : Type 0) : Type 0 where
   pub entries_was : IsSome new.entries → IsSome old.entries
   pub tried_was : IsSome new.tried → IsSome old.tried

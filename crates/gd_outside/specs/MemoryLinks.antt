@@ -1,5 +1,6 @@
 -- What the links in memory hold, and what they tell of it.
-use Rattle.std.specs.Prelude.{ℕ, ◌+◌, Bool, true, false, ◌||◌, nat_lt, if◌then◌else◌, List, [], ◌∷◌, ◌++◌, length, drop, sum_by, Option, None, Some}
+use Rattle.std.specs.Prelude.{ℕ, ◌+◌, Bool, true, false, ◌||◌, nat_lt, if◌then◌else◌, List, [], ◌∷◌, ◌++◌, length, drop}
+use Rattle.std.specs.Prelude.{sum_by, Option, None, Some}
 use Rattle.gd_outside.specs.declared.fail.Fail.{Fail}
 use Rattle.gd_outside.specs.declared.link.Received.{Received}
 use Rattle.gd_outside.specs.declared.link.Received.TheVariants as got
@@ -25,8 +26,8 @@ new_link room = record { entries = []; addresses = []; me = 0; tried = []; room 
 abbrev pub frames_size : List Tried → ℕ
 frames_size tried = sum_by (λ t. length t.frame + 1) tried
 
--- addresses are kept in place of those that were there, while all addresses and frames fit; from the first that don't on
--- none are
+-- addresses are kept in place of those that were there, while all addresses and frames fit; from the first that don't
+-- on none are
 abbrev pub with_addresses : KeptLink → List (List ℕ) → ℕ → KeptLink
 with_addresses k addresses me =
     if k.is_past || nat_lt k.room (texts_size addresses + frames_size k.tried)
@@ -64,8 +65,8 @@ seen_kept k faults = record {
 abbrev pub seen_sure_link : KeptLink → SeenLink
 seen_sure_link k = seen_kept k 0
 
--- what is kept, which calls fail, how many there were of each kind, and how many failed, the receives that an entry made
--- fail among them
+-- what is kept, which calls fail, how many there were of each kind, and how many failed, the receives that an entry
+-- made fail among them
 pub record ListedLink : Type 0 where
   pub kept : KeptLink
   pub fails : List Fail

@@ -20,4 +20,5 @@ abbrev pub answered : List Entry → ℕ → Received
 answered [] size = got.Nothing
 answered (Pause ∷ entries) size = got.Nothing
 answered (Failure ∷ entries) size = got.Failed
-answered (Packet datagram ∷ entries) size = if nat_le (length datagram) size then got.Datagram (length datagram) else got.TooLong
+answered (Packet datagram ∷ entries) size = if nat_le (length datagram) size then got.Datagram (length datagram)
+    else got.TooLong

@@ -54,8 +54,8 @@ disk_of calls = (after_calls calls).disk
 abbrev pub pieces_size : List DiskCall → ℕ
 pieces_size calls = sum_by (λ call. length call.piece) calls
 
--- A record in a room has room for one more call, with a piece of that length: the room is for the bytes of all pieces, and
--- there may be three calls more than that. A journal that is made of contents takes three.
+-- A record in a room has room for one more call, with a piece of that length: the room is for the bytes of all pieces,
+-- and there may be three calls more than that. A journal that is made of contents takes three.
 abbrev pub fits_record : ℕ → List DiskCall → ℕ → Bool
 fits_record room calls more = nat_lt (length calls) (room + 3) && nat_le (pieces_size calls + more) room
 
@@ -109,7 +109,8 @@ shot_after s call = shot_kind call.kind s call.pos call.piece
 abbrev pub first_shot : ℕ → ℕ → Shot
 first_shot k fill = record { whole = k; fill = fill; contents = []; image = []; count = 0 }
 
--- The image of a crash after these calls in which the first k writes since the last sync that succeeded stand as written,
--- and the range of each later one holds one byte alone; but a byte that goes alone over another one isn't there.
+-- The image of a crash after these calls in which the first k writes since the last sync that succeeded stand as
+-- written, and the range of each later one holds one byte alone; but a byte that goes alone over another one isn't
+-- there.
 abbrev pub image_of : ℕ → ℕ → List DiskCall → List ℕ
 image_of k fill calls = (fold shot_after (first_shot k fill) calls).image

@@ -3,7 +3,8 @@
 ghost use Rattle.std.specs.List.{AllByRecursion};
 ghost use Rattle.std.specs.Prelude.{◌≡◌, ◌||◌, ◌∷◌, [], ℕ, Bool, List, Some, IsTrue, drop, length};
 ghost use Rattle.gd_outside.specs.Links.{IsOpen, LinkCalled, StaysOpen};
-ghost use Rattle.gd_outside.specs.MemoryLinks.{faults_after, seen_kept, seen_sure_link, with_addresses, with_frame, without_entry};
+ghost use Rattle.gd_outside.specs.MemoryLinks.{faults_after, seen_kept, seen_sure_link, with_addresses, with_frame};
+ghost use Rattle.gd_outside.specs.MemoryLinks.{without_entry};
 ghost use Rattle.gd_outside.specs.Receives.{Answer, IsAnswer, answered};
 ghost use Rattle.gd_outside.specs.Seen.{Entry, Packet, SeenLink};
 ghost use Rattle.gd_outside.specs.WorkedLinks.{full_link, seen_full_link, untold};

@@ -40,18 +40,23 @@ uncut_once other old new u p = absurd u
 
 -- what it holds then is what it found and recorded
 held_found : (c : ConfigValue) (events : List Event) (entries : List Entry) (input : List ℕ)
-    → (site_after (resumed_by c events) entries (node_lines input)).held ≡ events ++ recorded (gone_on c (resumed_by c events) entries input)
+    → (site_after (resumed_by c events) entries (node_lines input)).held
+    ≡ events ++ recorded (gone_on c (resumed_by c events) entries input)
 unfolding resumed
 held_found c events entries input = held_of_answers (resumed_by c events) entries (node_lines input)
 
 -- the log that was found has what was recorded besides
-pub closes_found : (c : ConfigValue) (there : Found) (entries : List Entry) (input : List ℕ) (s : Status) (a b : Outside) → IsUncut s → IsToldAll b
+pub closes_found : (c : ConfigValue) (there : Found) (entries : List Entry) (input : List ℕ) (s : Status)
+    (a b : Outside) → IsUncut s → IsToldAll b
     → OnceFound s a b (IsToldAll b → KeepsFound c there entries input s a b)
-    → ClosesFound there (header_of c) (rejoined_held c.me (length c.addresses) c.session there entries (node_lines input)) b.journal
+    → ClosesFound there (header_of c)
+    (rejoined_held c.me (length c.addresses) c.session there entries (node_lines input)) b.journal
 closes_found c (Events events) entries input s a b u t once = λ some.
     let k = uncut_once s a b u once t in
     let slow = resumed_by c events in
     let journal = (did_whole s k.ends t.told u).0.journal in
-    let adds = journal.crash some (no_head_of_answers slow entries (node_lines input)) (header_of c) events (k.stands (journal.was some)) in
-    subst (λ es. Closes drawings (header_of c) es (told b.journal.contents)) (sym (held_found c events entries input)) adds.stands.contents
+    let adds = journal.crash some (no_head_of_answers slow entries (node_lines input)) (header_of c) events
+    (k.stands (journal.was some)) in
+    subst (λ es. Closes drawings (header_of c) es (told b.journal.contents)) (sym (held_found c events entries input))
+    adds.stands.contents
 closes_found c other entries input s a b u t once = tt

@@ -11,8 +11,8 @@ use Rattle.gd_program.specs.Commands.{HoldsLogOf, IsEnd, IsUnread, Keeps, Named,
 use Rattle.gd_program.specs.Runs.{IsToldFor}
 
 pub record Carried (asked : Option Command) (status : Status) (before after : Outside) : Type 0 where
-  -- What was done is what is owed, and so is the status, where nothing cuts the run short; a fault has its cause. Or the journal
-  -- to go on from failed before anything was found in it.
+  -- What was done is what is owed, and so is the status, where nothing cuts the run short; a fault has its cause. Or
+  -- the journal to go on from failed before anything was found in it.
   pub ends :
       let contents = told before.journal.contents in
       let bytes = told before.input.left in

@@ -77,14 +77,15 @@ abbrev pub config : ℕ → ℕ → List ℕ → List (List ℕ) → ConfigValue
 config session site journal addresses =
     record { session = session; me = site; journal = journal; addresses = addresses }
 
--- the journal, where it is told, is a log of that header and these events with its closing gate, if there was one to go on from
+-- the journal, where it is told, is a log of that header and these events with its closing gate, if there was one to go
+-- on from
 abbrev pub ClosesFound : Found → Header → List Event → SeenJournal → Type 0
 ClosesFound (Events found) h held journal =
     IsSome journal.contents → Closes drawings h held (told journal.contents)
 ClosesFound other h held journal = Unit {0}
 
--- The journal, where it is told, is the log of what the slow site of a node holds after its lines. Of one that goes on from its
--- journal the closing gate may be any byte but the open one, and anything may follow it.
+-- The journal, where it is told, is the log of what the slow site of a node holds after its lines. Of one that goes on
+-- from its journal the closing gate may be any byte but the open one, and anything may follow it.
 abbrev pub HasLogOf : Option Command → List ℕ → List ℕ → List Entry → SeenJournal → Type 0
 HasLogOf (Some (Node session site journal addresses)) contents input entries after =
     let slow = node_after site (length addresses) session entries (node_lines input) in
@@ -96,8 +97,8 @@ HasLogOf (Some (Rejoin session site journal addresses)) contents input entries a
     (rejoined_held site (length addresses) session there entries (node_lines input)) after
 HasLogOf other contents input entries after = Unit {0}
 
--- Once a node has begun its log, or found it, and before that it opens the link at most, and reads what it goes on from, a crash
--- leaves that log with a front of the gestures that were recorded.
+-- Once a node has begun its log, or found it, and before that it opens the link at most, and reads what it goes on
+-- from, a crash leaves that log with a front of the gestures that were recorded.
 abbrev pub Keeps : Option Command → Status → Outside → Outside → Type 0
 Keeps (Some (Node session site journal addresses)) status before after =
     OnceLogged status before after
@@ -110,8 +111,8 @@ Keeps (Some (Rejoin session site journal addresses)) status before after =
     (told before.link.entries) (told before.input.left) status before after)
 Keeps other status before after = Unit {0}
 
--- Once a node has begun its log, or found it, the journal, where it is told, holds a log of that header with the found events
--- first, and so does whatever a crash leaves: whatever comes, and whatever the input and the link tell.
+-- Once a node has begun its log, or found it, the journal, where it is told, holds a log of that header with the found
+-- events first, and so does whatever a crash leaves: whatever comes, and whatever the input and the link tell.
 abbrev pub HoldsLogOf : Option Command → Status → Outside → Outside → Type 0
 HoldsLogOf (Some (Node session site journal addresses)) status before after =
     OnceLogged status before after
@@ -142,7 +143,8 @@ abbrev pub IfBegun : Status → Outside → Outside → Type 0 → Type 0
 IfBegun NoMemory before after P = (after ≡ before) ⊎ P
 IfBegun other before after P = P
 
--- The link's addresses and own number are those of the words, and so is the journal's path once its log is begun, or found.
+-- The link's addresses and own number are those of the words, and so is the journal's path once its log is begun, or
+-- found.
 abbrev pub Named : Option Command → Status → Outside → Outside → Type 0
 Named (Some (Node session site journal addresses)) status before after =
     IfBegun status before after (IsNamed (config session site journal addresses) status before after)

@@ -1,4 +1,5 @@
--- The headline, sentence by sentence: whatever lines and datagrams the program is handed, what it leaves is the slow run's.
+-- The headline, sentence by sentence: whatever lines and datagrams the program is handed, what it leaves is the slow
+-- run's.
 use Rattle.std.specs.Prelude.{◌≡◌, ◌+◌, ◌≤◌, ◌⊎◌}
 use Rattle.gd_commands.specs.Plain.{IsPlain, Plain, plain_words}
 use Rattle.gd_effects.specs.Done.{DidFront, DidHalfPrint, DidTornRecord, Journals, NoneFell}
@@ -6,8 +7,10 @@ use Rattle.gd_effects.specs.Effects.{cost, printed, tried}
 use Rattle.gd_effects.specs.Endings.{Causes, DidRead, Unopened}
 use Rattle.gd_outside.specs.Causes.{Rose}
 use Rattle.gd_outside.specs.Told.{told, Grows}
-use Rattle.gd_outside.specs.declared.status.Status.TheVariants.{Usage, ReadFault, WriteFault, JournalFault, LinkFault, NoMemory}
-use Rattle.gd_program.specs.Commands.{HasLogOf, HoldsLogOf, IsEnd, IsUnread, Keeps, Named, OpensFirst, Silent, Untouched, left_of}
+use Rattle.gd_outside.specs.declared.status.Status.TheVariants.{Usage, ReadFault, WriteFault, JournalFault, LinkFault}
+use Rattle.gd_outside.specs.declared.status.Status.TheVariants.{NoMemory}
+use Rattle.gd_program.specs.Commands.{HasLogOf, HoldsLogOf, IsEnd, IsUnread, Keeps, Named, OpensFirst, Silent}
+use Rattle.gd_program.specs.Commands.{Untouched, left_of}
 use Rattle.gd_program.specs.Runs.{Run, Told, Whole, asked, contents, entries, input}
 use Rattle.gd_program.specs.Runs.{owed, owed_for_part, owed_status}
 
@@ -39,29 +42,30 @@ pub record Headline (run : Run) : Type 0 where
       → DidFront run.before (owed run) run.after × DidRead run.before (owed_for_part run) run.after
   -- after a failed write, a front, and a front of the next line
   pub write : Told run → run.status ≡ WriteFault → DidHalfPrint run.before (owed run) run.after
-  -- After a failed call of the journal, a front; and the journal is a log with the next gesture, all events of it, or without.
-  -- Where nothing was found yet in a journal to go on from, nothing was done, and its contents are as before.
+  -- After a failed call of the journal, a front; and the journal is a log with the next gesture, all events of it, or
+  -- without. Where nothing was found yet in a journal to go on from, nothing was done, and its contents are as before.
   pub torn : Told run → run.status ≡ JournalFault
       → DidTornRecord run.before (owed run) run.after
       ⊎ IsUnread (asked run) run.status run.before run.after
   -- where the link wasn't opened, nothing, and no entry was taken
   pub unopened : run.status ≡ LinkFault → Unopened run.before run.after
   pub opens_first : OpensFirst run.status run.before run.after
-  -- Once a node has begun its log, or found it, whatever crash comes leaves that log with a front of the gestures that were
-  -- recorded, each with all of its events.
+  -- Once a node has begun its log, or found it, whatever crash comes leaves that log with a front of the gestures that
+  -- were recorded, each with all of its events.
   pub keeps : Keeps (asked run) run.status run.before run.after
-  -- then, whatever comes, and whatever the input and the link tell, the journal holds a log of that header, with the found
-  -- events first, and so does whatever a crash leaves
+  -- then, whatever comes, and whatever the input and the link tell, the journal holds a log of that header, with the
+  -- found events first, and so does whatever a crash leaves
   pub holds : HoldsLogOf (asked run) run.status run.before run.after
   -- it takes no more steps than the slow run
   pub most_steps : Told run → run.after.steps ≤ run.before.steps + cost (owed run)
   -- ---- when it is cut short
 
-  -- a status that says that a call on an object failed comes only where that object's count of faults rose, and none falls
+  -- a status that says that a call on an object failed comes only where that object's count of faults rose, and none
+  -- falls
   pub cause : Causes run.status run.before run.after
   pub counts : NoneFell run.before run.after
-  -- where no call of the input, the output and the journal failed, and the link was opened, the run is carried out, unless
-  -- memory ran out
+  -- where no call of the input, the output and the journal failed, and the link was opened, the run is carried out,
+  -- unless memory ran out
   pub complete : Told run → ¬ Rose run.before.input.faults run.after.input.faults
       → ¬ Rose run.before.output.faults run.after.output.faults
       → ¬ Rose run.before.journal.faults run.after.journal.faults → ¬ (run.status ≡ LinkFault)
@@ -76,5 +80,6 @@ pub record Headline (run : Run) : Type 0 where
   pub untouched : Untouched (asked run) run.before run.after
   -- a command that reads a log printed nothing where it couldn't read it, or had no memory for it
   pub silent : Silent (asked run) run.status run.before run.after
-  -- the link's addresses and own number are those of the words, and so is the journal's path once its log is begun, or found
+  -- the link's addresses and own number are those of the words, and so is the journal's path once its log is begun, or
+  -- found
   pub named : Named (asked run) run.status run.before run.after

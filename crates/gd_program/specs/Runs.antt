@@ -43,8 +43,8 @@ owed_status run = end_of (asked run) (contents run) (input run)
 abbrev pub owed_for_part : Run → List ℕ → List Effect
 owed_for_part run taken = cut_of (asked run) (contents run) (entries run) taken
 
--- What a command depends on: a node on what its input and its link hand out, and on what is in its journal, where it goes on
--- from that; a churn on nothing; another command on its input.
+-- What a command depends on: a node on what its input and its link hand out, and on what is in its journal, where it
+-- goes on from that; a churn on nothing; another command on its input.
 abbrev pub IsToldFor : Option Command → Outside → Type 0
 IsToldFor None o = Unit {0}
 IsToldFor (Some (Node session site journal addresses)) o = IsTold o

@@ -18,8 +18,8 @@ ghost use Rattle.gd_viewing.specs.Viewing.{view_effects};
 ghost use Rattle.gd_worlds.specs.Churn.{churn_effects};
 ghost use Rattle.gd_worlds.specs.Rehearsal.{rehearsal_effects, rehearsal_lines};
 
-/// What is done for words in the plain form, and how that ends, is what the command does that their values ask for; so the plain
-/// forms of all commands are carried out.
+/// What is done for words in the plain form, and how that ends, is what the command does that their values ask for; so
+/// the plain forms of all commands are carried out.
 pub fn plain_words_are_carried_out()
     ensures effects { (p : Plain) (contents input : List ℕ) (entries : List Entry) → IsPlain p
         → effects_of (command_of (plain_words p)) contents input entries

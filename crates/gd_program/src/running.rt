@@ -20,11 +20,11 @@ use gd_world::{churn, rehearse};
 use std::alloc::Global;
 use std::sync::ledger::Ledger;
 
-/// Carries out the command that the words ask for: `replay`, `upgrade`, `snapshot`, `view`, `board`, `node`, `node --resume`,
-/// `rehearse` or `churn`.
+/// Carries out the command that the words ask for: `replay`, `upgrade`, `snapshot`, `view`, `board`, `node`, `node
+/// --resume`, `rehearse` or `churn`.
 ///
-/// `Usage` after the usage line, where the words ask for none of these; `NoMemory` where memory ran out; else what the command
-/// returns. The steps rise by what the arrivals of events cost.
+/// `Usage` after the usage line, where the words ask for none of these; `NoMemory` where memory ran out; else what the
+/// command returns. The steps rise by what the arrivals of events cost.
 pub fn run<S: Source, K: Sink, J: Journal, N: Link, L: Ledger>(
     alloc: Global,
     words: &WordList,

@@ -1,5 +1,5 @@
-//! Each call of each device of a node, failing in turn: how the node ends, what is printed, which frames are tried, and which
-//! log its journal holds.
+//! Each call of each device of a node, failing in turn: how the node ends, what is printed, which frames are tried, and
+//! which log its journal holds.
 
 use crate::frames::{BEAT, Entry, FIRST, SECOND, link_with};
 use crate::nodes::{Node, answered, answered_failing};
@@ -29,8 +29,8 @@ const TEXT: &str =
 /// The front of that text, up to so many lines.
 const PRINTED: [usize; 8] = [0, 13, 52, 71, 101, 110, 117, 124];
 
-/// What a replay of the journal prints: where there is no log; of a log without events; and of the logs with one more event
-/// each.
+/// What a replay of the journal prints: where there is no log; of a log without events; and of the logs with one more
+/// event each.
 const NO_LOG: &str = "bad log at 0: Short\n";
 
 const NONE: &str = "end 0\n";
@@ -45,8 +45,8 @@ const THREE: &str =
 const FOUR: &str =
     "rect 1.2 in - at 1 1 size 10 10 stroke 000000 fill none width 1\nrect 3.1 in - at 0 0 size 10 10 stroke 000000 fill none width 1\nrect 4.1 in - at 5 5 size 10 10 stroke 000000 fill none width 1\nend 3\n";
 
-/// A call that fails, by its kind and its number; how the run ends; how many lines are printed; how many frames are tried; and
-/// what a replay of the journal prints.
+/// A call that fails, by its kind and its number; how the run ends; how many lines are printed; how many frames are
+/// tried; and what a replay of the journal prints.
 type Row = (Call, u64, Status, usize, usize, &'static str);
 
 const READS: [Row; 6] = [

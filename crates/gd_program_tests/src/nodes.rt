@@ -101,8 +101,8 @@ pub fn answered_failing(
     })
 }
 
-/// A node at that seat that goes on from this journal, to which these lines are typed, where these calls on the input and the
-/// output fail.
+/// A node at that seat that goes on from this journal, to which these lines are typed, where these calls on the input
+/// and the output fail.
 pub fn gone_on(
     alloc: Global,
     seat: Seat,

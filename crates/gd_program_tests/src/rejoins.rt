@@ -74,8 +74,8 @@ const FOUND: &str = "rect 1.2 in - at 0 0 size 10 10 stroke 000000 fill none wid
 const ADDED: &str =
     "rect 1.2 in - at 0 0 size 10 10 stroke 000000 fill none width 1\nrect 2.1 in - at 0 0 size 10 10 stroke 000000 fill none width 1\nend 2\n";
 
-/// A call that fails, by its kind and its number; how the run ends; what is printed; and what a replay of the journal prints
-/// then.
+/// A call that fails, by its kind and its number; how the run ends; what is printed; and what a replay of the journal
+/// prints then.
 type Row = (Call, u64, Status, &'static str, &'static str);
 
 const FAULTS: [Row; 16] = [

@@ -31,8 +31,8 @@ impl Read for Trickle {
     }
 }
 
-/// Takes one byte at a time. From the write of that number on, counted from 1, it takes none, and a flush behind that many
-/// bytes fails.
+/// Takes one byte at a time. From the write of that number on, counted from 1, it takes none, and a flush behind that
+/// many bytes fails.
 #[derive(Drop)]
 struct Sips {
     taken: Vec<u8>,

@@ -20,8 +20,10 @@ pub one_edit : (slow : SlowSite) (wanted : Edit)
     ≡ of_own slow (events_in (edit slow wanted)) (edit_reply (edit slow wanted) ∷ reply.End 1 ∷ [])
 unfolding asked_replies
 one_edit slow wanted =
-    ap (λ (first : Reply). of_own slow (made slow (Ok wanted ∷ [])) (first ∷ reply.End 1 ∷ [])) (same_reply (edit slow wanted))
-    ∙ ap (λ (es : List Event). of_own slow es (edit_reply (edit slow wanted) ∷ reply.End 1 ∷ [])) (sym (edit_made slow wanted))
+    ap (λ (first : Reply). of_own slow (made slow (Ok wanted ∷ [])) (first ∷ reply.End 1 ∷ []))
+    (same_reply (edit slow wanted))
+    ∙ ap (λ (es : List Event). of_own slow es (edit_reply (edit slow wanted) ∷ reply.End 1 ∷ []))
+    (sym (edit_made slow wanted))
 
 -- and it leaves the same
 pub edit_leaves : (slow : SlowSite) (wanted : Edit) → after_gesture slow (Ok wanted ∷ []) ≡ after_edit slow wanted

@@ -1,5 +1,6 @@
 -- Who shows a parting, and what a site does that has parted from another.
-use Rattle.std.proofs.Common.{◌≡◌, ◌≢◌, ◌∙◌, ℕ, nat_le, Bool, true, false, not, ◌&&◌, ◌==◌, List, [], ◌∷◌, Option, None, Some, refl, sym, ap, subst, inl, inr, ◌⊎◌, eqb-true, eq-eqb, true≢false}
+use Rattle.std.proofs.Common.{◌≡◌, ◌≢◌, ◌∙◌, ℕ, nat_le, Bool, true, false, not, ◌&&◌, ◌==◌, List, [], ◌∷◌, Option, None}
+use Rattle.std.proofs.Common.{Some, refl, sym, ap, subst, inl, inr, ◌⊎◌, eqb-true, eq-eqb, true≢false}
 use Rattle.std.proofs.lemmas.Bool.{cond_both}
 use Rattle.std.specs.Prelude.{IsSome}
 use Rattle.gd_backs.proofs.NextEvents.{with_events-is}
@@ -14,7 +15,8 @@ use Rattle.gd_grammar.specs.FrameBytes.{Frame}
 use Rattle.gd_lines.specs.Edits.{Edit}
 use Rattle.gd_lines.specs.declared.command.Turn.{Turn}
 use Rattle.gd_lines.specs.declared.reply.Reply.TheVariants as reply
-use Rattle.gd_reference.specs.Offers.{after_offer, after_verdict, all_arrived, arrived, finished, offer, refusal, shows_parting, take_frame, verdict, verdict_by, with_note}
+use Rattle.gd_reference.specs.Offers.{after_offer, after_verdict, all_arrived, arrived, finished, offer, refusal}
+use Rattle.gd_reference.specs.Offers.{shows_parting, take_frame, verdict, verdict_by, with_note}
 use Rattle.gd_reference.specs.SiteEffects.{frame_replies, verdict_replies}
 use Rattle.gd_reference.specs.SlowSite.{SlowSite, count, held_check}
 use Rattle.gd_reference.specs.TakeBack.{Asked, after_edit, after_gesture, after_turn}

@@ -1,5 +1,7 @@
 -- The frames that a poll sends to another site.
-use Rattle.std.proofs.Common.{◌≡◌, ◌≢◌, ℕ, zero, suc, ◌+◌, ◌-◌, ◌≤◌, Bool, true, false, nat_lt, List, [], ◌∷◌, ◌++◌, length, take, drop, refl, sym, ap, ◌∙◌, append_assoc, length-append, take-append-drop, arith}
+use Rattle.std.proofs.Common.{◌≡◌, ◌≢◌, ℕ, zero, suc, ◌+◌, ◌-◌, ◌≤◌, Bool, true, false, nat_lt, List, [], ◌∷◌, ◌++◌}
+use Rattle.std.proofs.Common.{length, take, drop, refl, sym, ap, ◌∙◌, append_assoc, length-append, take-append-drop}
+use Rattle.std.proofs.Common.{arith}
 use Rattle.std.proofs.lemmas.Bool.{cond_both, ne_eqb}
 use Rattle.std.proofs.lemmas.List.{drop-drop}
 use Rattle.std.specs.List.{AllByRecursion as Every, flat_map}
@@ -8,7 +10,8 @@ use Rattle.gd_grammar.specs.FrameBytes.{Frame}
 use Rattle.gd_base.specs.Sites.{is_site}
 use Rattle.gd_base.proofs.Lists.{Every-append}
 use Rattle.gd_reference.specs.Fitting.{frame_count}
-use Rattle.gd_reference.specs.Offers.{brought, brought_behind, frame_behind, frames_again, frames_in_turn, further_frames, most_again, most_in_turn, unacked, window}
+use Rattle.gd_reference.specs.Offers.{brought, brought_behind, frame_behind, frames_again, frames_in_turn}
+use Rattle.gd_reference.specs.Offers.{further_frames, most_again, most_in_turn, unacked, window}
 use Rattle.gd_reference.specs.SlowSite.{SlowSite, own}
 use Rattle.gd_reference.specs.World.{World, happens}
 use Rattle.gd_protocol.specs.Laws.{IsFrontOf, IsSent}

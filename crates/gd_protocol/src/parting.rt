@@ -41,10 +41,12 @@ pub fn one_of_two_that_differ_shows_it()
 /// Of a frame that shows a parting nothing is taken, and the count is noted. That is said, once for each
 /// count. From then on nothing of that sender is taken.
 pub fn a_parted_site_takes_nothing()
-    ensures now { (slow : SlowSite) (f : Frame) → refusal slow f ≡ None → shows_parting slow f ≡ true
+    ensures now { (slow : SlowSite) (f : Frame) → refusal slow f ≡ None
+        → shows_parting slow f ≡ true
         → KeepsAllElse slow (take_frame slow f)
         × ((take_frame slow f).parted f.head.from ≡ Some f.head.count) }
-    ensures said { (slow : SlowSite) (f : Frame) → refusal slow f ≡ None → shows_parting slow f ≡ true
+    ensures said { (slow : SlowSite) (f : Frame) → refusal slow f ≡ None
+        → shows_parting slow f ≡ true
         → slow.parted f.head.from ≢ Some f.head.count
         → frame_replies slow f ≡ reply.Parted f.head.from f.head.count ∷ [] }
     ensures once { (slow : SlowSite) (f : Frame) → refusal slow f ≡ None

@@ -16,7 +16,8 @@ use Rattle.gd_arriving.specs.Arriving.{PaidFront}
 use Rattle.gd_reference.specs.SlowRun.{IsReaderEnd}
 
 -- a call on the output and in steps ends neither by a read nor by the journal
-pub printed_end : (r : Result ⊤ End) (whole : Status) {old new : SeenSink} {before after : ℕ} {xs : List Effect} → IsReaderEnd whole
+pub printed_end : (r : Result ⊤ End) (whole : Status) {old new : SeenSink} {before after : ℕ} {xs : List Effect}
+    → IsReaderEnd whole
     → PrintsInSteps old before xs r new after → IsReaderEnd (status_of r whole)
 printed_end (Ok x) whole w p = w
 printed_end (Err NoMemory) whole w p = tt
@@ -25,18 +26,23 @@ printed_end (Err WriteFault) whole w p = tt
 printed_end (Err JournalFault) whole w p = absurd (no_journal (Err JournalFault) p refl)
 
 -- and nothing was printed where it ends so, or since memory ran out
-pub silent_by : {P : Type 0} (s : Status) (r : Result ⊤ End) (whole : Status) {old new : SeenSink} {before after : ℕ} {xs : List Effect} → s ≡ status_of r whole → IsUncut whole
-    → PrintsInSteps old before xs r new after → (r ≡ Err NoMemory → P) → (s ≡ status.ReadFault) ⊎ (s ≡ status.NoMemory) → P
+pub silent_by : {P : Type 0} (s : Status) (r : Result ⊤ End) (whole : Status) {old new : SeenSink} {before after : ℕ}
+    {xs : List Effect} → s ≡ status_of r whole → IsUncut whole
+    → PrintsInSteps old before xs r new after → (r ≡ Err NoMemory → P) → (s ≡ status.ReadFault) ⊎ (s ≡ status.NoMemory)
+    → P
 silent_by s r whole is u p f (inl e) = absurd (status_unread r whole u p (sym is ∙ e))
 silent_by s r whole is u p f (inr e) = f (status_memory r whole u (sym is ∙ e))
 
 -- memory ran out while events arrived, and what was to come was not done
-pub some_arrived : (ns : List ℕ) (output : SeenSink) {before after : ℕ} → PaidFront ns before after → (later : List Effect)
+pub some_arrived : (ns : List ℕ) (output : SeenSink) {before after : ℕ} → PaidFront ns before after
+    → (later : List Effect)
     → PrintsInSteps {T = Unit {0}} output before (map Work ns ++ later) (Err NoMemory) output after
 some_arrived ns output {before} {after} p later input journal link =
-    does_more later (does_as (ap (map Work) p.split) (does_some_works p.front p.back input output journal link before after p.paid))
+    does_more later (does_as (ap (map Work) p.split)
+    (does_some_works p.front p.back input output journal link before after p.paid))
 
 -- all events arrived, and then memory ran out
 pub all_arrived : (ns : List ℕ) (output : SeenSink) {before after : ℕ} → after ≡ before + sum ns → (later : List Effect)
     → PrintsInSteps {T = Unit {0}} output before (map Work ns ++ later) (Err NoMemory) output after
-all_arrived ns output paid later = some_arrived ns output (record { front = ns; back = []; split = sym (append-nil ns); paid = paid }) later
+all_arrived ns output paid later
+    = some_arrived ns output (record { front = ns; back = []; split = sym (append-nil ns); paid = paid }) later

@@ -1,4 +1,5 @@
-//! What the commands that read a log have in common: what they print of how its events went, and of bytes that are no log.
+//! What the commands that read a log have in common: what they print of how its events went, and of bytes that are no
+//! log.
 #![tactic(auto)]
 
 mod counting;

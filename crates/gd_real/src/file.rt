@@ -7,8 +7,8 @@ use gd_outside::{Failed, Journal};
 use std::fs::{File, Files};
 use std::io::{Error, ErrorKind, Result as IoResult};
 
-/// A file, with the number of the calls on it that failed. It is the user's own, and no other process has it as a journal
-/// at the same time.
+/// A file, with the number of the calls on it that failed. It is the user's own, and no other process has it as a
+/// journal at the same time.
 #[derive(Drop)]
 pub struct FileJournal<R: Files<File = File> + AllocGlobal + Drop> {
     rt: R,

@@ -45,8 +45,8 @@ impl Held {
 
     /// Goes on with the file of that name.
     ///
-    /// Fails where there is none, where it is a folder, where it belongs to another user, and where another process holds it.
-    /// Where the name is a link, what a sync syncs is the link's folder, and not that of the file.
+    /// Fails where there is none, where it is a folder, where it belongs to another user, and where another process
+    /// holds it. Where the name is a link, what a sync syncs is the link's folder, and not that of the file.
     pub(crate) fn find<R: Files<File = File> + AllocGlobal>(rt: &R, name: &str) -> IoResult<Self> {
         let own = String::from_str(rt.alloc(), name)?;
         let folder = File::open(rt, folder_of(name))?;

@@ -19,7 +19,8 @@ pub enum FileState {
     Other,
 }
 
-/// Looks what there is under that name, and changes nothing. What can't be opened is no file that another process holds.
+/// Looks what there is under that name, and changes nothing. What can't be opened is no file that another process
+/// holds.
 pub fn look_at<R: Files<File = File>>(rt: &R, name: &str) -> FileState {
     let Ok(found) = fs::metadata(rt, name) else {
         return FileState::Missing;

@@ -97,8 +97,8 @@ impl<R: Net + AllocGlobal + Drop> Link for SocketLink<R> {
         ensures called { LinkCalled (seen_socket self.old.faults) (seen_socket self.new.faults)
             (IsErr result) }
 
-        // What doesn't read as an IP address with a port is a fault, as are addresses of both kinds, more than 16, and an own
-        // number to which none belongs. A socket that was open before is closed.
+        // What doesn't read as an IP address with a port is a fault, as are addresses of both kinds, more than 16, and
+        // an own number to which none belongs. A socket that was open before is closed.
         ensures bound { OnOk result (IsBoundFor addresses.now self.new.bound) }
         ensures closed { OnErr result (self.new.bound ≡ None) }
     {

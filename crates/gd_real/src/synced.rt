@@ -31,8 +31,8 @@ impl<F: OpenFile + Drop> Synced<F> {
         self.folder.is_none()
     }
 
-    /// Syncs the file, and at first its folder too. The system says only once that it lost what was written: after a sync
-    /// that failed, each later one fails.
+    /// Syncs the file, and at first its folder too. The system says only once that it lost what was written: after a
+    /// sync that failed, each later one fails.
     pub(crate) fn sync(&mut self) -> IoResult<()>
         ensures lost { IsTrue self.old.is_lost → IsErr result }
         ensures loses { IsErr result → IsTrue self.new.is_lost }

@@ -1,5 +1,6 @@
 -- How long an event without ties is: a shape with a label of 500 bytes is the longest.
-use Rattle.std.proofs.Common.{◌≡◌, ℕ, suc, ◌+◌, ◌*◌, ◌≤◌, Option, Some, None, List, [], ◌∷◌, ◌++◌, length, nat_le, length-append, arith}
+use Rattle.std.proofs.Common.{◌≡◌, ℕ, suc, ◌+◌, ◌*◌, ◌≤◌, Option, Some, None, List, [], ◌∷◌, ◌++◌, length, nat_le}
+use Rattle.std.proofs.Common.{length-append, arith}
 use Rattle.std.proofs.lemmas.Bool.{cond_both}
 use Rattle.gd_base.specs.Contents.{IsTypedBy}
 use Rattle.gd_base.specs.declared.content.Content.TheVariants.{ToPlace, ToSize, ToLooks, ToText, ToFlag, ToEnds, ToRank}
@@ -15,7 +16,8 @@ use Rattle.gd_base.specs.Labels.{most_title}
 use Rattle.gd_base.specs.Looks.{has_mark}
 use Rattle.gd_base.specs.declared.look.Looks.{Looks}
 use Rattle.gd_grammar.specs.FieldBytes.{each_bytes, length_bytes, stamp_bytes, text_bytes, word_bytes}
-use Rattle.gd_grammar.specs.LookBytes.{align_byte, dash_byte, fill_bytes, heads_byte, letters_bytes, lone, lone_by, looks_bytes, round_bytes, set_bytes, single}
+use Rattle.gd_grammar.specs.LookBytes.{align_byte, dash_byte, fill_bytes, heads_byte, letters_bytes, lone, lone_by}
+use Rattle.gd_grammar.specs.LookBytes.{looks_bytes, round_bytes, set_bytes, single}
 use Rattle.gd_grammar.specs.Spelling.{content_bytes, lone_or, member_bytes, members_bytes, op_bytes}
 use Rattle.gd_reference.specs.Fitting.{HasNoTies}
 

@@ -15,7 +15,8 @@ called_then h k = record {
 
 -- the same where a failure is told in other words
 pub called_as : {a b : SeenJournal} {F G : Type 0} → (G → F) → JournalCalled a b F → JournalCalled a b G
-called_as f h = record { was = h.was; name_was = h.name_was; time = h.time; count = h.count; cause = λ failed. h.cause (f failed) }
+called_as f h = record
+    { was = h.was; name_was = h.name_was; time = h.time; count = h.count; cause = λ failed. h.cause (f failed) }
 
 pub stay_then : {a b c : SeenJournal} → ContentsStay a b → ContentsStay b c → ContentsStay a c
 stay_then h k = record {

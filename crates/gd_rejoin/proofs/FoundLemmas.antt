@@ -21,7 +21,8 @@ use Rattle.gd_logs.specs.Steps.{IsFault}
 use Rattle.gd_logs.specs.declared.log.ReadError.{ReadError}
 use Rattle.gd_logs.specs.declared.log.ReadError.TheVariants.{Memory, Log}
 use Rattle.gd_logs.specs.declared.stopped.LogFault.TheVariants.{Read, Bad}
-use Rattle.gd_reference.specs.Rejoin.{Found, Events, Faulty, Other, same_version, same_header, found, found_as, found_log}
+use Rattle.gd_reference.specs.Rejoin.{Found, Events, Faulty, Other, same_version, same_header, found, found_as}
+use Rattle.gd_reference.specs.Rejoin.{found_log}
 use Rattle.gd_outside.specs.Told.{told}
 use Rattle.gd_rejoin.specs.Faults.{fault_of, is_short, IsFound, IsFoundOrFailed}
 use Rattle.gd_rejoin.specs.LogFor.{IsLogFor}
@@ -52,7 +53,8 @@ same_version-refl Three = refl
 
 pub same_header-equal : (a b : Header) → same_header a b ≡ true → a ≡ b
 same_header-equal a b e =
-    let all = and_parts (same_version a.version b.version) (eqb a.session b.session && (eqb a.site b.site && eqb a.n b.n)) e in
+    let all = and_parts (same_version a.version b.version)
+    (eqb a.session b.session && (eqb a.site b.site && eqb a.n b.n)) e in
     let numbers = and_parts (eqb a.session b.session) (eqb a.site b.site && eqb a.n b.n) all.1 in
     let last = and_parts (eqb a.site b.site) (eqb a.n b.n) numbers.1 in
     let version = same_version-equal a.version b.version all.0 in
@@ -62,7 +64,8 @@ same_header-equal a b e =
     λ i. record { version = version i; session = session i; site = site i; n = n i }
 
 pub same_header-refl : (h : Header) → same_header h h ≡ true
-same_header-refl h = rw (same_version-refl h.version, eq-eqb h.session h.session refl, eq-eqb h.site h.site refl, eq-eqb h.n h.n refl) refl
+same_header-refl h = rw
+    (same_version-refl h.version, eq-eqb h.session h.session refl, eq-eqb h.site h.site refl, eq-eqb h.n h.n refl) refl
 
 -- the flag of `==` at two headers
 flag-version : (a b : Version) → sameb the_type a b ≡ same_version a b
@@ -96,15 +99,20 @@ up-to-gate : (size place : ℕ) → nat_lt place size ≡ false → nat_le size 
 up-to-gate size place shut = grind (arith, nat_tests)
 
 module _ (header : Header) (contents : List ℕ) where
-  found-read : (h : Header) (events : List Event) → log contents ≡ Ok (h, events) → found header contents ≡ found_log header (length contents) h events
+  found-read : (h : Header) (events : List Event) → log contents ≡ Ok (h, events)
+      → found header contents ≡ found_log header (length contents) h events
   unfolding found
   found-read h events read = ap (found_as header contents) read
 
-  pub found-events : (events : List Event) → Closes drawings header events contents → found header contents ≡ Events events
-  found-events events closes = found-read header events closes.read ∙ rw (past-gate header events contents closes, same_header-refl header) refl
+  pub found-events : (events : List Event) → Closes drawings header events contents
+      → found header contents ≡ Events events
+  found-events events closes = found-read header events closes.read
+      ∙ rw (past-gate header events contents closes, same_header-refl header) refl
 
-  pub found-other : (h : Header) (events : List Event) → Closes drawings h events contents → same_header h header ≡ false → found header contents ≡ Other h
-  found-other h events closes differs = found-read h events closes.read ∙ rw (past-gate h events contents closes, differs) refl
+  pub found-other : (h : Header) (events : List Event) → Closes drawings h events contents
+      → same_header h header ≡ false → found header contents ≡ Other h
+  found-other h events closes differs = found-read h events closes.read
+      ∙ rw (past-gate h events contents closes, differs) refl
 
   pub found-short : (h : Header) (events : List Event) → log contents ≡ Ok (h, events)
       → nat_lt (gate_place drawings h.version events) (length contents) ≡ false
@@ -114,10 +122,12 @@ module _ (header : Header) (contents : List ℕ) where
 
   found-fault : (at : ℕ) (why : LogWhy) → IsFault (log contents) contents at why → found header contents ≡ Faulty at why
   unfolding found
-  found-fault at why fault = ap (found_as header contents) fault.is ∙ ap (λ (place : ℕ). Faulty place why) (sym fault.there)
+  found-fault at why fault = ap (found_as header contents) fault.is
+      ∙ ap (λ (place : ℕ). Faulty place why) (sym fault.there)
 
   -- where the log wasn't read to its end, and no read failed
-  pub found-error : (error : ReadError) → (error ≡ Log Read → ⊥) → LogIs drawings (Err error) contents → IsFound (fault_of error) (found header contents)
+  pub found-error : (error : ReadError) → (error ≡ Log Read → ⊥) → LogIs drawings (Err error) contents
+      → IsFound (fault_of error) (found header contents)
   found-error Memory sure is = tt
   found-error (Log Read) sure is = sure refl
   found-error (Log (Bad at why)) sure is = found-fault at why is
@@ -131,27 +141,34 @@ found-or-failed (fault.Bad at why) f is = is
 found-or-failed (fault.Other h) f is = is
 found-or-failed fault.NoMemory f is = tt
 
-module _ (header : Header) (front : List ℕ) (contents : Option (List ℕ)) (is_front : IsSome contents → front ≡ take (length front) (told contents)) where
+module _ (header : Header) (front : List ℕ) (contents : Option (List ℕ))
+    (is_front : IsSome contents → front ≡ take (length front) (told contents)) where
   -- the log of a front is that of the contents
   pub log-by_front : (events : List Event) (place : ℕ) (chains : List ℕ)
       → ((more : List ℕ) → IsLogFor header events place chains (Unit {0}) (front ++ more))
       → IsLogFor header events place chains (IsSome contents) (told contents)
   log-by_front events place chains log = record {
     ruled = (log []).ruled;
-    closes = λ is_told. subst (Closes drawings header events) (front-then front (told contents) (is_front is_told)) ((log (drop (length front) (told contents))).closes tt);
+    closes = λ is_told. subst (Closes drawings header events) (front-then front (told contents) (is_front is_told))
+        ((log (drop (length front) (told contents))).closes tt);
     gate = (log []).gate;
     chained = (log []).chained;
     near = (log []).near;
   }
 
   -- and so is its fault, where no bytes are missing or nothing stands behind the front
-  pub fault-by_front : (fault : ResumeFault) → ((more : List ℕ) → (is_short fault ≡ true → more ≡ []) → IsFound fault (found header (front ++ more)))
+  pub fault-by_front : (fault : ResumeFault)
+      → ((more : List ℕ) → (is_short fault ≡ true → more ≡ []) → IsFound fault (found header (front ++ more)))
       → (IsSome contents → is_short fault ≡ true → drop (length front) (told contents) ≡ [])
       → IsSome contents → IsFoundOrFailed fault (found header (told contents))
   fault-by_front fault fails short is_told =
       found-or-failed fault (found header (told contents))
-      (subst (λ (bytes : List ℕ). IsFound fault (found header bytes)) (front-then front (told contents) (is_front is_told)) (fails (drop (length front) (told contents)) (short is_told)))
+      (subst (λ (bytes : List ℕ). IsFound fault (found header bytes))
+      (front-then front (told contents) (is_front is_told))
+      (fails (drop (length front) (told contents)) (short is_told)))
 
   -- all of the contents are a front of them
-  pub nothing-behind : (IsSome contents → front ≡ told contents) → IsSome contents → drop (length front) (told contents) ≡ []
-  nothing-behind whole is_told = drop_all (length front) (told contents) (let same = ap length (whole is_told) in omega (arith, same))
+  pub nothing-behind : (IsSome contents → front ≡ told contents) → IsSome contents
+      → drop (length front) (told contents) ≡ []
+  nothing-behind whole is_told
+      = drop_all (length front) (told contents) (let same = ap length (whole is_told) in omega (arith, same))

@@ -1,5 +1,7 @@
--- A log whose bytes go on: where a fault was found in its front, other than that bytes are missing, it is the fault of the whole.
-use Rattle.std.proofs.Common.{◌≡◌, ◌≢◌, ℕ, zero, suc, ◌+◌, ◌≤◌, ◌⊎◌, Bool, true, false, cond, eqb, List, [], ◌∷◌, ◌++◌, length, refl, sym, ap, ◌∙◌, append_assoc, arith, inl, inr}
+-- A log whose bytes go on: where a fault was found in its front, other than that bytes are missing, it is the fault of
+-- the whole.
+use Rattle.std.proofs.Common.{◌≡◌, ◌≢◌, ℕ, zero, suc, ◌+◌, ◌≤◌, ◌⊎◌, Bool, true, false, cond, eqb, List, [], ◌∷◌, ◌++◌}
+use Rattle.std.proofs.Common.{length, refl, sym, ap, ◌∙◌, append_assoc, arith, inl, inr}
 use Rattle.std.specs.Prelude.{Option, Some, None, option_map, Result, Ok, Err}
 use Rattle.std.proofs.lemmas.List.{append-nil, length-append}
 use Rattle.gd_base.specs.declared.fault.LogWhy.{LogWhy}
@@ -78,9 +80,11 @@ module _ {O : Type 0} {IsOp : Stamp → O → Type 0} {kind : LogKind O} (laws :
     | inr s ↦ ap (event_then e) s
   ]
 
-  record-stays : (head : Header) (seen : List (EventValue O)) (bytes more : List ℕ) → Stays (longer more) more (record_at kind head seen bytes) (record_at kind head seen (bytes ++ more))
+  record-stays : (head : Header) (seen : List (EventValue O)) (bytes more : List ℕ)
+      → Stays (longer more) more (record_at kind head seen bytes) (record_at kind head seen (bytes ++ more))
   record-stays head seen bytes more = by_event (event_at kind head.version bytes) refl where
-    by_turn : (y : EventValue O × List ℕ) → event_at kind head.version bytes ≡ Ok y → (t : Option LogWhy) → turn_fault head.n seen y.0 ≡ t
+    by_turn : (y : EventValue O × List ℕ) → event_at kind head.version bytes ≡ Ok y → (t : Option LogWhy)
+        → turn_fault head.n seen y.0 ≡ t
         → Stays (longer more) more (record_at kind head seen bytes) (record_at kind head seen (bytes ++ more))
     by_turn y q None t =
         let check = check_with kind seen y.0 in
@@ -91,17 +95,24 @@ module _ {O : Type 0} {IsOp : Stamp → O → Type 0} {kind : LogKind O} (laws :
         )
         (both-stay y.0 check head.version y.1 more (behind_check head.version check y.1) refl)
     by_turn y q (Some why) t = rw (record-refused laws head seen bytes y why q t) (λ _.
-        record-refused laws head seen (bytes ++ more) (longer more y) why (((Steady-event laws head.version).ok bytes y q).more more) t
-        ∙ ap (λ (left : ℕ). misread (refused why left)) (ap (λ (m : ℕ). left_of why m) (length-append bytes more) ∙ left-more why (length bytes) (length more) (nine_bytes laws head.version bytes y q)))
+        record-refused laws head seen (bytes ++ more) (longer more y) why
+        (((Steady-event laws head.version).ok bytes y q).more more) t
+        ∙ ap (λ (left : ℕ). misread (refused why left))
+        (ap (λ (m : ℕ). left_of why m) (length-append bytes more)
+        ∙ left-more why (length bytes) (length more) (nine_bytes laws head.version bytes y q)))
 
-    by_event : (r : Reads (EventValue O)) → event_at kind head.version bytes ≡ r → Stays (longer more) more (record_at kind head seen bytes) (record_at kind head seen (bytes ++ more))
+    by_event : (r : Reads (EventValue O)) → event_at kind head.version bytes ≡ r
+        → Stays (longer more) more (record_at kind head seen bytes) (record_at kind head seen (bytes ++ more))
     by_event (Ok y) q = by_turn y q (turn_fault head.n seen y.0) refl
-    by_event (Err g) q = rw (record-faulty laws head seen bytes g q) (λ there. elim (((Steady-event laws head.version).err bytes g q).more more) [
-      | inl s ↦ absurd (there (ap log_why s))
-      | inr s ↦ record-faulty laws head seen (bytes ++ more) (record { why = g.why; left = g.left + length more }) s
-    ])
+    by_event (Err g) q = rw (record-faulty laws head seen bytes g q)
+        (λ there. elim (((Steady-event laws head.version).err bytes g q).more more) [
+          | inl s ↦ absurd (there (ap log_why s))
+          | inr s ↦ record-faulty laws head seen (bytes ++ more) (record { why = g.why; left = g.left + length more }) s
+        ])
 
-  step-stays : (head : Header) (seen : List (EventValue O)) (b : ℕ) (bytes more : List ℕ) → Stays (option_map (longer more)) more (step_at kind head seen (b ∷ bytes)) (step_at kind head seen (b ∷ bytes ++ more))
+  step-stays : (head : Header) (seen : List (EventValue O)) (b : ℕ) (bytes more : List ℕ)
+      → Stays (option_map (longer more)) more (step_at kind head seen (b ∷ bytes))
+      (step_at kind head seen (b ∷ bytes ++ more))
   unfolding step_at
   step-stays head seen b bytes more =
       by (eqb b gate) (is_closed head.version b) (record_at kind head seen bytes)
@@ -119,29 +130,38 @@ module _ {O : Type 0} {IsOp : Stamp → O → Type 0} {kind : LogKind O} (laws :
         by false false r k = λ there. ap (λ (left : ℕ). misread (refused Behind left)) (length-append (b ∷ bytes) more)
 
   -- the fault of the first of these steps that has one
-  faulty-step : (k : ℕ) (head : Header) (seen : List (EventValue O)) (b : ℕ) (bytes more : List ℕ) (f : LogMisread) (s : Step O) → step_at kind head seen (b ∷ bytes) ≡ s
-      → Stays (option_map (longer more)) more s (step_at kind head seen (b ∷ bytes ++ more)) → events_at (suc k) kind head seen (b ∷ bytes) ≡ Err f → f.why ≢ Short
-      → ((x : EventValue O × List ℕ) → events_at k kind head (seen ++ x.0 ∷ []) x.1 ≡ Err f → log_from kind head (seen ++ x.0 ∷ []) (x.1 ++ more) ≡ Err (farther_on f more))
+  faulty-step : (k : ℕ) (head : Header) (seen : List (EventValue O)) (b : ℕ) (bytes more : List ℕ) (f : LogMisread)
+      (s : Step O) → step_at kind head seen (b ∷ bytes) ≡ s
+      → Stays (option_map (longer more)) more s (step_at kind head seen (b ∷ bytes ++ more))
+      → events_at (suc k) kind head seen (b ∷ bytes) ≡ Err f → f.why ≢ Short
+      → ((x : EventValue O × List ℕ) → events_at k kind head (seen ++ x.0 ∷ []) x.1 ≡ Err f
+      → log_from kind head (seen ++ x.0 ∷ []) (x.1 ++ more) ≡ Err (farther_on f more))
       → log_from kind head seen (b ∷ bytes ++ more) ≡ Err (farther_on f more)
-  faulty-step k head seen b bytes more f (Ok None) q stays e there on = absurd (let no = sym (events-none kind k head seen (b ∷ bytes) q) ∙ e in cc)
+  faulty-step k head seen b bytes more f (Ok None) q stays e there on
+      = absurd (let no = sym (events-none kind k head seen (b ∷ bytes) q) ∙ e in cc)
   faulty-step k head seen b bytes more f (Ok (Some x)) q stays e there on =
-      from-some laws head seen (b ∷ bytes ++ more) (longer more x) stays ∙ on x (sym (events-some kind k head seen (b ∷ bytes) x q) ∙ e)
+      from-some laws head seen (b ∷ bytes ++ more) (longer more x) stays
+      ∙ on x (sym (events-some kind k head seen (b ∷ bytes) x q) ∙ e)
   faulty-step k head seen b bytes more f (Err g) q stays e there on =
       let same : g ≡ f = let k = sym (events-err kind k head seen (b ∷ bytes) g q) ∙ e in cc in
       from-err kind head seen (b ∷ bytes ++ more) (farther_on f more) (rw same at stays there)
 
-  events-stay : (k : ℕ) (head : Header) (seen : List (EventValue O)) (bytes more : List ℕ) (f : LogMisread) → events_at k kind head seen bytes ≡ Err f → f.why ≢ Short
+  events-stay : (k : ℕ) (head : Header) (seen : List (EventValue O)) (bytes more : List ℕ) (f : LogMisread)
+      → events_at k kind head seen bytes ≡ Err f → f.why ≢ Short
       → log_from kind head seen (bytes ++ more) ≡ Err (farther_on f more)
   unfolding events_at step_at
   events-stay zero head seen bytes more f e there = absurd cc
   events-stay (suc k) head seen [] more f e there = absurd cc
   events-stay (suc k) head seen (b ∷ bytes) more f e there =
-      faulty-step k head seen b bytes more f _ refl (step-stays head seen b bytes more) e there (λ x g. events-stay k head (seen ++ x.0 ∷ []) x.1 more f g there)
+      faulty-step k head seen b bytes more f _ refl (step-stays head seen b bytes more) e there
+      (λ x g. events-stay k head (seen ++ x.0 ∷ []) x.1 more f g there)
 
   -- the fault of the header
-  header-stays : (bytes more : List ℕ) → Stays (longer more) more (in_log (header_at kind bytes)) (in_log (header_at kind (bytes ++ more)))
+  header-stays : (bytes more : List ℕ)
+      → Stays (longer more) more (in_log (header_at kind bytes)) (in_log (header_at kind (bytes ++ more)))
   header-stays bytes more = by (header_at kind bytes) refl where
-    by : (r : Reads Header) → header_at kind bytes ≡ r → Stays (longer more) more (in_log r) (in_log (header_at kind (bytes ++ more)))
+    by : (r : Reads Header) → header_at kind bytes ≡ r
+        → Stays (longer more) more (in_log r) (in_log (header_at kind (bytes ++ more)))
     by (Ok y) q = rw (((Steady-header kind).ok bytes y q).more more) refl
     by (Err g) q = λ there. elim (((Steady-header kind).err bytes g q).more more) [
       | inl s ↦ absurd (there (ap log_why s))
@@ -153,25 +173,32 @@ module _ {O : Type 0} {IsOp : Stamp → O → Type 0} {kind : LogKind O} (laws :
   header-faulty bytes f e = rw e refl
 
   -- the steps have the log's fault
-  from-faulty : (head : Header) (seen : List (EventValue O)) (bytes : List ℕ) (f : LogMisread) → log_from kind head seen bytes ≡ Err f → events_at (suc (length bytes)) kind head seen bytes ≡ Err f
+  from-faulty : (head : Header) (seen : List (EventValue O)) (bytes : List ℕ) (f : LogMisread)
+      → log_from kind head seen bytes ≡ Err f → events_at (suc (length bytes)) kind head seen bytes ≡ Err f
   unfolding log_from
   from-faulty head seen bytes f e = by (events_at (suc (length bytes)) kind head seen bytes) refl e where
-    by : (r : Result (List (EventValue O)) LogMisread) → events_at (suc (length bytes)) kind head seen bytes ≡ r → (r >>= λ events. log_of head events) ≡ misread f → events_at (suc (length bytes)) kind head seen bytes ≡ Err f
+    by : (r : Result (List (EventValue O)) LogMisread) → events_at (suc (length bytes)) kind head seen bytes ≡ r
+        → (r >>= λ events. log_of head events) ≡ misread f → events_at (suc (length bytes)) kind head seen bytes ≡ Err f
     by (Ok events) q same = absurd cc
     by (Err g) q same = let k : g ≡ f = cc in q ∙ ap misread k
 
-  log-stays : (bytes more : List ℕ) (f : LogMisread) → log kind bytes ≡ Err f → f.why ≢ Short → log kind (bytes ++ more) ≡ Err (farther_on f more)
+  log-stays : (bytes more : List ℕ) (f : LogMisread) → log kind bytes ≡ Err f → f.why ≢ Short
+      → log kind (bytes ++ more) ≡ Err (farther_on f more)
   log-stays bytes more f e there = by (in_log (header_at kind bytes)) refl (header-stays bytes more) where
-    by : (r : Result (Header × List ℕ) LogMisread) → in_log (header_at kind bytes) ≡ r → Stays (longer more) more r (in_log (header_at kind (bytes ++ more))) → log kind (bytes ++ more) ≡ Err (farther_on f more)
+    by : (r : Result (Header × List ℕ) LogMisread) → in_log (header_at kind bytes) ≡ r
+        → Stays (longer more) more r (in_log (header_at kind (bytes ++ more)))
+        → log kind (bytes ++ more) ≡ Err (farther_on f more)
     by (Ok x) q stays =
         log-start laws (bytes ++ more) (x.1 ++ more) x.0 stays
-        ∙ events-stay (suc (length x.1)) x.0 [] x.1 more f (from-faulty x.0 [] x.1 f (sym (log-start laws bytes x.1 x.0 q) ∙ e)) there
+        ∙ events-stay (suc (length x.1)) x.0 [] x.1 more f
+        (from-faulty x.0 [] x.1 f (sym (log-start laws bytes x.1 x.0 q) ∙ e)) there
     by (Err g) q stays =
         let same : g ≡ f = let k = sym (header-faulty bytes g q) ∙ e in cc in
         header-faulty (bytes ++ more) (farther_on f more) (rw same at stays there)
 
   -- at its place
-  fault-stays : (bytes more : List ℕ) (at : ℕ) (why : LogWhy) → why ≢ Short → IsFault (log kind bytes) bytes at why → IsFault (log kind (bytes ++ more)) (bytes ++ more) at why
+  fault-stays : (bytes more : List ℕ) (at : ℕ) (why : LogWhy) → why ≢ Short → IsFault (log kind bytes) bytes at why
+      → IsFault (log kind (bytes ++ more)) (bytes ++ more) at why
   fault-stays bytes more at why there fault = record {
     left = fault.left + length more;
     is = log-stays bytes more (refused why fault.left) fault.is there;
@@ -180,7 +207,8 @@ module _ {O : Type 0} {IsOp : Stamp → O → Type 0} {kind : LogKind O} (laws :
   }
 
   -- a log with its closing gate is that log whatever follows
-  pub closes-stays : (head : Header) (events : List (EventValue O)) (bytes more : List ℕ) → IsRuled IsOp kind head events → Closes kind head events bytes → Closes kind head events (bytes ++ more)
+  pub closes-stays : (head : Header) (events : List (EventValue O)) (bytes more : List ℕ)
+      → IsRuled IsOp kind head events → Closes kind head events bytes → Closes kind head events (bytes ++ more)
   closes-stays head events bytes more ruled closes =
       closes-behind laws head events bytes ruled closes (closes.rest ++ more) (bytes ++ more)
       (ap (λ (l : List ℕ). l ++ more) closes.is
@@ -188,7 +216,8 @@ module _ {O : Type 0} {IsOp : Stamp → O → Type 0} {kind : LogKind O} (laws :
       (closes.closing ∷ closes.rest) more)
 
   -- the reader's fault of a log is that of a longer one, unless bytes are missing
-  pub error-stays : (error : ReadError) (bytes more : List ℕ) → (is_short (fault_of error) ≡ true → more ≡ []) → LogIs kind (Err error) bytes → LogIs kind (Err error) (bytes ++ more)
+  pub error-stays : (error : ReadError) (bytes more : List ℕ) → (is_short (fault_of error) ≡ true → more ≡ [])
+      → LogIs kind (Err error) bytes → LogIs kind (Err error) (bytes ++ more)
   error-stays Memory bytes more short fault = tt
   error-stays (Log Read) bytes more short fault = tt
   error-stays (Log (Bad at why)) bytes more short fault = elim (short-or-not why) [

@@ -19,14 +19,16 @@ use Rattle.gd_site.specs.Sites.{SiteValue}
 use Rattle.gd_rejoin.proofs.FoundLemmas.{found-events}
 
 -- a fault that is found is returned
-fault-is : (fault : ResumeFault) (h : Header) (contents : List ℕ) (steps steps' : ℕ) → IsFoundOrFailed fault (found h contents) → ResumeIs (Err fault) h contents steps steps'
+fault-is : (fault : ResumeFault) (h : Header) (contents : List ℕ) (steps steps' : ℕ)
+    → IsFoundOrFailed fault (found h contents) → ResumeIs (Err fault) h contents steps steps'
 fault-is fault.Journal h contents steps steps' is = tt
 fault-is (fault.Bad at why) h contents steps steps' is = is
 fault-is (fault.Other header) h contents steps steps' is = is
 fault-is fault.NoMemory h contents steps steps' is = tt
 
 -- contents that were synced are what a crash leaves
-pub stands-kept : (h : Header) (events : List Event) (old : Disk) (journal : SeenJournal) → journal.disk ≡ goes_on old (Kept (told journal.contents)) → Closes drawings h events (told journal.contents)
+pub stands-kept : (h : Header) (events : List Event) (old : Disk) (journal : SeenJournal)
+    → journal.disk ≡ goes_on old (Kept (told journal.contents)) → Closes drawings h events (told journal.contents)
     → Stands drawings h events journal
 stands-kept h events old journal kept closes = record {
   contents = closes;
@@ -42,12 +44,15 @@ module _ (h : Header) (events : List Event) (steps steps' : ℕ) where
 
   pub resume-is : (contents : List ℕ) (result : Result (SiteValue × Writer) ResumeFault)
       → Closes drawings h events contents
-      → IfOk result (λ x. Resumes h events x.0 x.1 steps steps') → IfErr result (λ f. f ≡ fault.NoMemory) → ResumeIs result h contents steps steps'
+      → IfOk result (λ x. Resumes h events x.0 x.1 steps steps') → IfErr result (λ f. f ≡ fault.NoMemory)
+      → ResumeIs result h contents steps steps'
   resume-is contents (Ok x) closes goes_on memory = (events, found-events h contents events closes, goes_on)
   resume-is contents (Err f) closes goes_on memory = fault-is f h contents steps steps' (rw memory tt)
 
   pub resume-stands : (result : Result (SiteValue × Writer) ResumeFault) (journal : SeenJournal)
-      → IfOk result (λ x. Resumes h events x.0 x.1 steps steps') → (IsSome journal.contents → Stands drawings h events journal)
-      → IfOk result (λ x. (events : List Event) × Resumes h events x.0 x.1 steps steps' × (IsSome journal.contents → Stands drawings h events journal))
+      → IfOk result (λ x. Resumes h events x.0 x.1 steps steps')
+      → (IsSome journal.contents → Stands drawings h events journal)
+      → IfOk result (λ x. (events : List Event) × Resumes h events x.0 x.1 steps steps'
+      × (IsSome journal.contents → Stands drawings h events journal))
   resume-stands (Ok x) journal goes_on stands = (events, goes_on, stands)
   resume-stands (Err f) journal goes_on stands = tt

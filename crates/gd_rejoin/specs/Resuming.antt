@@ -14,8 +14,8 @@ use Rattle.gd_rejoin.specs.declared.fault.ResumeFault.{ResumeFault}
 use Rattle.gd_rejoin.specs.declared.fault.ResumeFault.TheVariants as fault
 use Rattle.gd_site.specs.Sites.{SiteValue, StandsFor}
 
--- The site stands for one that begins anew with these events of that header's log, the writer stands at the log's closing
--- gate and has the checks of its events, and the arrivals of the events are paid for.
+-- The site stands for one that begins anew with these events of that header's log, the writer stands at the log's
+-- closing gate and has the checks of its events, and the arrivals of the events are paid for.
 pub record Resumes (header : Header) (events : List Event) (site : SiteValue) (writer : Writer)
     (steps steps' : ℕ) : Type 0 where
   pub ruled : IsRuled IsOp drawings header events

@@ -1,4 +1,5 @@
-//! Going on from a journal: the site that holds the events of its log, and a writer that stands at the log's closing gate.
+//! Going on from a journal: the site that holds the events of its log, and a writer that stands at the log's closing
+//! gate.
 #![tactic(auto)]
 
 mod contents;

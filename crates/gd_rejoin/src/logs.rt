@@ -21,10 +21,11 @@ const FRONT: u64 = 1_048_576;
 /// How many times as many are read next, where the log isn't ended in these.
 const GROWTH: u64 = 8;
 
-/// The log that the contents of the journal are, where it is of that header and its closing gate is there. It reads a front
-/// of the contents, and a longer one only where the log isn't ended in it. The contents stay.
+/// The log that the contents of the journal are, where it is of that header and its closing gate is there. It reads a
+/// front of the contents, and a longer one only where the log isn't ended in it. The contents stay.
 ///
-/// Else the fault that is found in them; `Journal` where a call on the journal failed, and `NoMemory` where memory ran out.
+/// Else the fault that is found in them; `Journal` where a call on the journal failed, and `NoMemory` where memory ran
+/// out.
 pub fn log_in<J: Journal>(
     alloc: Global,
     journal: &mut J,
@@ -58,7 +59,8 @@ fn log_within<J: Journal>(
     header: &LogHeader,
     most: u64,
 ) -> Result<Option<WholeLog>, ResumeFault>
-    ensures log { IfOk result (λ o. IfSome o (λ log. IsLogFor header.now log.events log.place log.chains
+    ensures log { IfOk result
+        (λ o. IfSome o (λ log. IsLogFor header.now log.events log.place log.chains
         (IsSome (J.seen journal.new).contents) (told (J.seen journal.new).contents))) }
     ensures fault { IfErr result (λ fault. IsSome (J.seen journal.new).contents
         → IsFoundOrFailed fault (found header.now (told (J.seen journal.new).contents))) }
@@ -85,7 +87,8 @@ fn is_cut(found: &Result<WholeLog, ResumeFault>) -> bool
     }
 }
 
-/// The log that begins with these bytes, whatever follows them, where it is of that header and its closing gate is among them.
+/// The log that begins with these bytes, whatever follows them, where it is of that header and its closing gate is
+/// among them.
 ///
 /// Else the fault that is found in them, or `NoMemory` where memory ran out. Where bytes are missing, more may follow.
 pub fn log_for(alloc: Global, front: Vec<u8>, header: &LogHeader) -> Result<WholeLog, ResumeFault>

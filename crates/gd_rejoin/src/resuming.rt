@@ -27,13 +27,13 @@ use gd_wire::LogHeader;
 use std::alloc::Global;
 use std::sync::ledger::Ledger;
 
-/// Goes on from the journal of that name, whose log has to be of that header, which is of the newest version: a site that
-/// holds the log's events, and a writer that stands at its closing gate and goes on with the checks of its events. It opens, syncs
-/// and reads, and writes nothing. The steps rise by what the arrivals of the events cost.
+/// Goes on from the journal of that name, whose log has to be of that header, which is of the newest version: a site
+/// that holds the log's events, and a writer that stands at its closing gate and goes on with the checks of its events.
+/// It opens, syncs and reads, and writes nothing. The steps rise by what the arrivals of the events cost.
 ///
-/// `Journal` where a call on the journal failed. `Bad` where the contents are no log, at its first fault, and where they end
-/// in the closing gate's place, as `Short` there; `Other` where they are a log of another header with its closing gate.
-/// `NoMemory` where memory ran out. The contents stay.
+/// `Journal` where a call on the journal failed. `Bad` where the contents are no log, at its first fault, and where
+/// they end in the closing gate's place, as `Short` there; `Other` where they are a log of another header with its
+/// closing gate. `NoMemory` where memory ran out. The contents stay.
 pub fn resume<J: Journal, L: Ledger>(
     alloc: Global,
     journal: &mut J,
@@ -89,7 +89,8 @@ fn synced_log<J: Journal>(
     log_in(alloc, journal, header)
 }
 
-/// The site and the writer that go on with this log, which is of that header. `NoMemory` where memory ran out; no other fault comes.
+/// The site and the writer that go on with this log, which is of that header. `NoMemory` where memory ran out; no other
+/// fault comes.
 pub fn site_of<L: Ledger>(
     alloc: Global,
     log: &WholeLog,

@@ -15,7 +15,8 @@ use Rattle.gd_rows.specs.WorkedRehearsals.{heard_of}
 -- what is heard of so many in front of a rest, of whatever reads lines
 module _ {A : Type 0} (read : List ℕ → A) where
   blanks-heard : (n : ℕ) (rest : List ℕ)
-      → heard read n (lines_of (replicate n lf ++ rest)) ≡ replicate n (Read (read [])) ++ heard read zero (lines_of rest)
+      → heard read n (lines_of (replicate n lf ++ rest))
+      ≡ replicate n (Read (read [])) ++ heard read zero (lines_of rest)
   unfolding heard lines_of
   blanks-heard zero rest = refl
   blanks-heard (suc n) rest = ap (λ (lines : List (Heard A)). Read (read []) ∷ lines) (blanks-heard n rest)
@@ -39,10 +40,13 @@ unfolding end_of_lines
 blanks-go-on zero rest = refl
 blanks-go-on (suc n) rest = blanks-go-on n rest
 
-effects-behind : (n : ℕ) (rest : List ℕ) → rehearsal_effects 1 (heard_of n (replicate n lf ++ rest)) ≡ rehearsal_effects 1 (heard_of zero rest)
-effects-behind n rest = ap (rehearsal_effects 1) (scripts-heard n rest) ∙ blanks-do-nothing (start 1 1) n (heard_of zero rest)
+effects-behind : (n : ℕ) (rest : List ℕ)
+    → rehearsal_effects 1 (heard_of n (replicate n lf ++ rest)) ≡ rehearsal_effects 1 (heard_of zero rest)
+effects-behind n rest = ap (rehearsal_effects 1) (scripts-heard n rest)
+    ∙ blanks-do-nothing (start 1 1) n (heard_of zero rest)
 
-end-behind : (n : ℕ) (rest : List ℕ) → rehearsal_end (heard_of n (replicate n lf ++ rest)) ≡ rehearsal_end (heard_of zero rest)
+end-behind : (n : ℕ) (rest : List ℕ)
+    → rehearsal_end (heard_of n (replicate n lf ++ rest)) ≡ rehearsal_end (heard_of zero rest)
 end-behind n rest = ap rehearsal_end (scripts-heard n rest) ∙ blanks-go-on n (heard_of zero rest)
 
 -- nothing behind them, and a line more
@@ -54,7 +58,8 @@ pub ends_done : (n : ℕ) → rehearsal_end (heard_of n (replicate n lf ++ [])) 
 unfolding end_of_lines heard lines_of
 ends_done n = end-behind n []
 
-pub limit_said : (n : ℕ) → printed (rehearsal_effects 1 (heard_of n (replicate n lf ++ codes "x"))) ≡ codes "line limit\n"
+pub limit_said : (n : ℕ)
+    → printed (rehearsal_effects 1 (heard_of n (replicate n lf ++ codes "x"))) ≡ codes "line limit\n"
 unfolding answered heard lines_of
 limit_said n = ap printed (effects-behind n (codes "x"))
 

@@ -24,12 +24,19 @@ use Rattle.gd_outside.specs.Seen.{Entry}
 use Rattle.gd_reference.specs.Backs.{Backs, with_gesture, with_turn}
 use Rattle.gd_reference.specs.Dialogues.{Manner, answered, state_after}
 use Rattle.gd_reference.specs.Judging.{edit, with_event}
-use Rattle.gd_reference.specs.NodeRun.{HeardLine, NodeState, ReadLine, after_command, after_line_alone, after_line_of, after_line_within, answers, at_rest, in_gesture, node_manner, site_after, with_waiting}
+use Rattle.gd_reference.specs.NodeRun.{HeardLine, NodeState, ReadLine, after_command, after_line_alone, after_line_of}
+use Rattle.gd_reference.specs.NodeRun.{after_line_within, answers, at_rest, in_gesture, node_manner, site_after}
+use Rattle.gd_reference.specs.NodeRun.{with_waiting}
 use Rattle.gd_reference.specs.SlowSite.{SlowSite}
-use Rattle.gd_reference.specs.TakeBack.{Asked, BackRefusal, after_edit, after_gesture, after_turn, backs_of, events_in, made, turn, with_events, with_made, with_turned}
-use Rattle.gd_reference.specs.World.{Line, Edits, Focuses, Names, Prints, Turns, Step, At, Deliver, Restart, Send, SendBehind, Unfinished, Editing, Nothing, Taking, Turning, World, after_from, after_line, after_unfinished, happens, restarted, start, with_site}
-use Rattle.gd_worlds.specs.Churn.{Churning, churned, ids_made, new_churning, rounded, rounds_to_all, step, stepped, times, with_drawn, with_idle, with_line, with_reply}
-use Rattle.gd_worlds.specs.Rehearsal.{HeardScript, ReadScript, after_script, rehearsal_effects, rehearsal_manner, script_replies, script_work, told_by}
+use Rattle.gd_reference.specs.TakeBack.{Asked, BackRefusal, after_edit, after_gesture, after_turn, backs_of, events_in}
+use Rattle.gd_reference.specs.TakeBack.{made, turn, with_events, with_made, with_turned}
+use Rattle.gd_reference.specs.World.{Line, Edits, Focuses, Names, Prints, Turns, Step, At, Deliver, Restart, Send}
+use Rattle.gd_reference.specs.World.{SendBehind, Unfinished, Editing, Nothing, Taking, Turning, World, after_from}
+use Rattle.gd_reference.specs.World.{after_line, after_unfinished, happens, restarted, start, with_site}
+use Rattle.gd_worlds.specs.Churn.{Churning, churned, ids_made, new_churning, rounded, rounds_to_all, step, stepped}
+use Rattle.gd_worlds.specs.Churn.{times, with_drawn, with_idle, with_line, with_reply}
+use Rattle.gd_worlds.specs.Rehearsal.{HeardScript, ReadScript, after_script, rehearsal_effects, rehearsal_manner}
+use Rattle.gd_worlds.specs.Rehearsal.{script_replies, script_work, told_by}
 
 -- ---- a site
 
@@ -194,7 +201,8 @@ site_drawn slow lines = (state_after node_drawn (at_rest slow) [] lines).site
 
 pub site-drawn : (slow : SlowSite) (lines : List HeardLine) → site_after slow [] lines ≡ site_drawn slow lines
 unfolding site_drawn
-site-drawn slow lines = ap (λ (m : Manner ReadLine NodeState). (state_after m (at_rest slow) [] lines).site) manner-drawn
+site-drawn slow lines
+    = ap (λ (m : Manner ReadLine NodeState). (state_after m (at_rest slow) [] lines).site) manner-drawn
 
 -- ---- a world
 
@@ -325,5 +333,7 @@ all-churned seed steps =
 -- ---- what computes
 
 unfoldable pub drawn_compute : ⊤
-unfolding back_drawn backs_drawn made_drawn edit_drawn gesture_drawn turn_drawn_by turn_drawn line_drawn command_drawn alone_drawn within_drawn state_drawn node_drawn answers_drawn site_drawn unfinished_drawn step_drawn world_drawn script_drawn rehearsal_drawn rehearsed_drawn line_churned drawn_churned step_churned all_churned
+unfolding back_drawn backs_drawn made_drawn edit_drawn gesture_drawn turn_drawn_by turn_drawn line_drawn command_drawn
+    alone_drawn within_drawn state_drawn node_drawn answers_drawn site_drawn unfinished_drawn step_drawn world_drawn
+    script_drawn rehearsal_drawn rehearsed_drawn line_churned drawn_churned step_churned all_churned
 drawn_compute = tt

@@ -17,7 +17,8 @@ use Rattle.gd_reference.specs.SlowSite.{SlowSite, journal_header, new_site}
 use Rattle.gd_reference.specs.TakeBack.{after_edit, after_turn}
 use Rattle.gd_reference.specs.World.{Step, World, start}
 use Rattle.gd_rows.specs.WorkedBacks.{behind, dressed, dressing, prints, site_behind, turned}
-use Rattle.gd_rows.proofs.ByDrawing.{answers-drawn, answers_drawn, edit-drawn, edit_drawn, site-drawn, site_drawn, turn-drawn, turn_drawn, world-drawn, world_drawn}
+use Rattle.gd_rows.proofs.ByDrawing.{answers-drawn, answers_drawn, edit-drawn, edit_drawn, site-drawn, site_drawn}
+use Rattle.gd_rows.proofs.ByDrawing.{turn-drawn, turn_drawn, world-drawn, world_drawn}
 
 -- what is read off a site
 abbrev pub held_of : SlowSite → List Event

@@ -1,6 +1,7 @@
 -- Worked rows: logs of a few events, byte by byte, and what is printed of them.
 use Prim.Native.String.{String}
-use Rattle.std.specs.Prelude.{ℕ, ℤ, pos, negsuc, Bool, true, false, Option, List, [], ◌∷◌, ◌++◌, map, replicate, take, set, codes, Some, None}
+use Rattle.std.specs.Prelude.{ℕ, ℤ, pos, negsuc, Bool, true, false, Option, List, [], ◌∷◌, ◌++◌, map, replicate, take}
+use Rattle.std.specs.Prelude.{set, codes, Some, None}
 use Rattle.gd_base.specs.Looks.{only_fill, only_stroke, only_width}
 use Rattle.gd_base.specs.Stamps.{Stamp}
 use Rattle.gd_base.specs.declared.content.Content.TheVariants.{ToPlace, ToSize, ToLooks, ToText, ToFlag, ToRank}
@@ -13,7 +14,8 @@ use Rattle.gd_base.specs.declared.version.Version.TheVariants.{One, Two, Three}
 use Rattle.gd_events.specs.Ops.{Op}
 use Rattle.gd_events.specs.Events.{Event}
 use Rattle.gd_base.specs.declared.fault.LogWhy.{LogWhy}
-use Rattle.gd_base.specs.declared.fault.LogWhy.TheVariants.{Short, Magic, Version, Field, FutureId, MemberOrder, NoSite, Turn, Backdated}
+use Rattle.gd_base.specs.declared.fault.LogWhy.TheVariants.{Short, Magic, Version, Field, FutureId, MemberOrder, NoSite}
+use Rattle.gd_base.specs.declared.fault.LogWhy.TheVariants.{Turn, Backdated}
 use Rattle.gd_base.specs.declared.fault.WireWhy.{WireWhy}
 use Rattle.gd_base.specs.declared.fault.WireWhy.TheVariants as wire
 use Rattle.gd_grammar.specs.FrameBytes.{Frame, Misread, with_checksum}
@@ -61,8 +63,10 @@ empty_log = header_bytes ++ 0 ∷ []
 abbrev pub tie_log : List ℕ
 tie_log =
     header_bytes
-    ++ 195 ∷ 0 ∷ 0 ∷ 0 ∷ 0 ∷ 0 ∷ 1 ∷ 2 ∷ 0 ∷ 1 ∷ 1 ∷ 1 ∷ 0 ∷ 0 ∷ 0 ∷ 5 ∷ 0 ∷ 0 ∷ 0 ∷ 5 ∷ 0 ∷ 0 ∷ 0 ∷ 10 ∷ 0 ∷ 0 ∷ 0 ∷ 10 ∷ 0 ∷ []
-    ++ 195 ∷ 0 ∷ 0 ∷ 0 ∷ 0 ∷ 0 ∷ 1 ∷ 1 ∷ 0 ∷ 1 ∷ 1 ∷ 2 ∷ 0 ∷ 0 ∷ 0 ∷ 0 ∷ 0 ∷ 0 ∷ 0 ∷ 0 ∷ 0 ∷ 0 ∷ 0 ∷ 20 ∷ 0 ∷ 0 ∷ 0 ∷ 20 ∷ 0 ∷ []
+    ++ 195 ∷ 0 ∷ 0 ∷ 0 ∷ 0 ∷ 0 ∷ 1 ∷ 2 ∷ 0 ∷ 1 ∷ 1 ∷ 1 ∷ 0 ∷ 0 ∷ 0 ∷ 5 ∷ 0 ∷ 0 ∷ 0 ∷ 5 ∷ 0 ∷ 0 ∷ 0 ∷ 10 ∷ 0 ∷ 0 ∷ 0 ∷ 10
+    ∷ 0 ∷ []
+    ++ 195 ∷ 0 ∷ 0 ∷ 0 ∷ 0 ∷ 0 ∷ 1 ∷ 1 ∷ 0 ∷ 1 ∷ 1 ∷ 2 ∷ 0 ∷ 0 ∷ 0 ∷ 0 ∷ 0 ∷ 0 ∷ 0 ∷ 0 ∷ 0 ∷ 0 ∷ 0 ∷ 20 ∷ 0 ∷ 0 ∷ 0 ∷ 20
+    ∷ 0 ∷ []
     ++ 0 ∷ []
 
 abbrev pub tie_events : List Event
@@ -82,8 +86,10 @@ tie_text =
 abbrev pub moved_log : List ℕ
 moved_log =
     header_bytes
-    ++ 195 ∷ 0 ∷ 0 ∷ 0 ∷ 0 ∷ 0 ∷ 1 ∷ 1 ∷ 0 ∷ 1 ∷ 1 ∷ 1 ∷ 0 ∷ 0 ∷ 0 ∷ 0 ∷ 0 ∷ 0 ∷ 0 ∷ 0 ∷ 0 ∷ 0 ∷ 0 ∷ 10 ∷ 0 ∷ 0 ∷ 0 ∷ 10 ∷ 3 ∷ 97 ∷ 32 ∷ 98 ∷ []
-    ++ 195 ∷ 0 ∷ 0 ∷ 0 ∷ 0 ∷ 0 ∷ 2 ∷ 1 ∷ 0 ∷ 2 ∷ 3 ∷ 0 ∷ 0 ∷ 0 ∷ 0 ∷ 0 ∷ 1 ∷ 1 ∷ 255 ∷ 255 ∷ 255 ∷ 249 ∷ 0 ∷ 0 ∷ 0 ∷ 8 ∷ []
+    ++ 195 ∷ 0 ∷ 0 ∷ 0 ∷ 0 ∷ 0 ∷ 1 ∷ 1 ∷ 0 ∷ 1 ∷ 1 ∷ 1 ∷ 0 ∷ 0 ∷ 0 ∷ 0 ∷ 0 ∷ 0 ∷ 0 ∷ 0 ∷ 0 ∷ 0 ∷ 0 ∷ 10 ∷ 0 ∷ 0 ∷ 0 ∷ 10
+    ∷ 3 ∷ 97 ∷ 32 ∷ 98 ∷ []
+    ++ 195 ∷ 0 ∷ 0 ∷ 0 ∷ 0 ∷ 0 ∷ 2 ∷ 1 ∷ 0 ∷ 2 ∷ 3 ∷ 0 ∷ 0 ∷ 0 ∷ 0 ∷ 0 ∷ 1 ∷ 1 ∷ 255 ∷ 255 ∷ 255 ∷ 249 ∷ 0 ∷ 0 ∷ 0 ∷ 8
+    ∷ []
 
 abbrev pub moved_events : List Event
 moved_events =
@@ -97,13 +103,15 @@ moved_text =
     ∷ codes "end 1\n"
     ∷ []
 
--- an ellipse, its size, its look and its label, and the fill of an object that isn't there. The label has a character of
--- two bytes
+-- an ellipse, its size, its look and its label, and the fill of an object that isn't there. The label has a character
+-- of two bytes
 abbrev pub styled_log : List ℕ
 styled_log =
     header_bytes
-    ++ 195 ∷ 0 ∷ 0 ∷ 0 ∷ 0 ∷ 0 ∷ 1 ∷ 1 ∷ 0 ∷ 1 ∷ 1 ∷ 2 ∷ 0 ∷ 0 ∷ 0 ∷ 0 ∷ 0 ∷ 0 ∷ 0 ∷ 0 ∷ 0 ∷ 0 ∷ 0 ∷ 20 ∷ 0 ∷ 0 ∷ 0 ∷ 20 ∷ 0 ∷ []
-    ++ 195 ∷ 0 ∷ 0 ∷ 0 ∷ 0 ∷ 0 ∷ 2 ∷ 1 ∷ 0 ∷ 2 ∷ 4 ∷ 0 ∷ 0 ∷ 0 ∷ 0 ∷ 0 ∷ 1 ∷ 1 ∷ 255 ∷ 255 ∷ 255 ∷ 251 ∷ 0 ∷ 0 ∷ 0 ∷ 30 ∷ []
+    ++ 195 ∷ 0 ∷ 0 ∷ 0 ∷ 0 ∷ 0 ∷ 1 ∷ 1 ∷ 0 ∷ 1 ∷ 1 ∷ 2 ∷ 0 ∷ 0 ∷ 0 ∷ 0 ∷ 0 ∷ 0 ∷ 0 ∷ 0 ∷ 0 ∷ 0 ∷ 0 ∷ 20 ∷ 0 ∷ 0 ∷ 0 ∷ 20
+    ∷ 0 ∷ []
+    ++ 195 ∷ 0 ∷ 0 ∷ 0 ∷ 0 ∷ 0 ∷ 2 ∷ 1 ∷ 0 ∷ 2 ∷ 4 ∷ 0 ∷ 0 ∷ 0 ∷ 0 ∷ 0 ∷ 1 ∷ 1 ∷ 255 ∷ 255 ∷ 255 ∷ 251 ∷ 0 ∷ 0 ∷ 0 ∷ 30
+    ∷ []
     ++ 195 ∷ 0 ∷ 0 ∷ 0 ∷ 0 ∷ 0 ∷ 3 ∷ 1 ∷ 0 ∷ 3 ∷ 5 ∷ 0 ∷ 0 ∷ 0 ∷ 0 ∷ 0 ∷ 1 ∷ 1 ∷ 1 ∷ 0 ∷ 0 ∷ 171 ∷ 12 ∷ []
     ++ 195 ∷ 0 ∷ 0 ∷ 0 ∷ 0 ∷ 0 ∷ 4 ∷ 1 ∷ 0 ∷ 4 ∷ 5 ∷ 0 ∷ 0 ∷ 0 ∷ 0 ∷ 0 ∷ 1 ∷ 1 ∷ 2 ∷ 0 ∷ 255 ∷ 128 ∷ 0 ∷ []
     ++ 195 ∷ 0 ∷ 0 ∷ 0 ∷ 0 ∷ 0 ∷ 5 ∷ 1 ∷ 0 ∷ 5 ∷ 5 ∷ 0 ∷ 0 ∷ 0 ∷ 0 ∷ 0 ∷ 1 ∷ 1 ∷ 3 ∷ 0 ∷ 0 ∷ 0 ∷ 64 ∷ []
@@ -188,9 +196,9 @@ regrouped_text =
     ∷ codes "end 4\n"
     ∷ []
 
--- Groups within groups. 5.1 is deleted, so 1.1 and 2.1 are hidden. 6.1 is dissolved and 7.1 holds it, so 3.1 and 4.1 are
--- shown in 7.1, each at its own place, the shift into 6.1, the place of 6.1, the shift into 7.1 and the place of 7.1
--- together. 3.1 was raised, so it stands above 4.1.
+-- Groups within groups. 5.1 is deleted, so 1.1 and 2.1 are hidden. 6.1 is dissolved and 7.1 holds it, so 3.1 and 4.1
+-- are shown in 7.1, each at its own place, the shift into 6.1, the place of 6.1, the shift into 7.1 and the place of
+-- 7.1 together. 3.1 was raised, so it stands above 4.1.
 abbrev pub nested_events : List Event
 nested_events =
     event 1 1 1 (square (pos 0))
@@ -425,8 +433,8 @@ checked_faults =
     -- longer than a frame may be, and so with another version
     ∷ (frame_row ++ replicate 1133 0, misread wire.Trailing 1)
     ∷ (set frame_row 4 2 ++ replicate 1133 0, misread wire.Version 1197)
-    -- one bit is another: of the session, of the count, of the check of the sender's events, of the event's clock and of
-    -- its width, and of the checksum's first and last byte
+    -- one bit is another: of the session, of the count, of the check of the sender's events, of the event's clock and
+    -- of its width, and of the checksum's first and last byte
     ∷ (set frame_row 8 6, misread wire.Check 4)
     ∷ (set frame_row 14 3, misread wire.Check 4)
     ∷ (set frame_row 21 195, misread wire.Check 4)

@@ -2,7 +2,8 @@
 --
 -- What takes an edit back is read off the drawing in front of the edit, and what takes that back off the drawing
 -- behind the edit. Drawings are worked from the events in the order of their stamps.
-use Rattle.std.specs.Prelude.{ℕ, pos, negsuc, true, false, List, [], ◌∷◌, ◌++◌, map, replicate, codes, Option, Some, None}
+use Rattle.std.specs.Prelude.{ℕ, pos, negsuc, true, false, List, [], ◌∷◌, ◌++◌, map, replicate, codes, Option, Some}
+use Rattle.std.specs.Prelude.{None}
 use Rattle.gd_base.specs.Looks.{new_look, no_looks, only_fill, only_stroke, only_width}
 use Rattle.gd_base.specs.Stamps.{Stamp}
 use Rattle.gd_base.specs.declared.content.Content.TheVariants.{ToPlace, ToSize, ToLooks, ToText, ToFlag, ToEnds, ToRank}
@@ -255,7 +256,8 @@ made_and_taken =
     -- a connector of a shape and a group
     ∷ taken (op.Connect (record { from = at_stamp 1 1; to = at_stamp 7 1 }) (codes "new"))
     (op.Delete (at_stamp 10 1))
-    (op.Restore (at_stamp 10 1) (new_connector (at_stamp 10 1) (record { from = at_stamp 1 1; to = at_stamp 7 1 }) (codes "new")) [])
+    (op.Restore (at_stamp 10 1)
+    (new_connector (at_stamp 10 1) (record { from = at_stamp 1 1; to = at_stamp 7 1 }) (codes "new")) [])
     -- what is deleted goes back as it was, with its link and its rank
     ∷ taken (op.Delete shape) (op.Restore shape dressed_shape []) (op.Delete shape)
     ∷ taken (op.Delete group) (op.Restore group dressed_group []) (op.Delete group)
@@ -270,20 +272,26 @@ set_and_taken =
     ∷ taken (op.Set shape (ToSize (pos 5) (negsuc 5)))
     (op.Set shape (ToSize (pos 3) (pos 4)))
     (op.Set shape (ToSize (pos 5) (negsuc 5)))
-    ∷ taken (op.Set shape (ToLooks (only_stroke 7))) (op.Set shape (ToLooks (only_stroke 0x00AB0C))) (op.Set shape (ToLooks (only_stroke 7)))
+    ∷ taken (op.Set shape (ToLooks (only_stroke 7))) (op.Set shape (ToLooks (only_stroke 0x00AB0C)))
+    (op.Set shape (ToLooks (only_stroke 7)))
     ∷ taken (op.Set shape (ToLooks (only_fill None)))
     (op.Set shape (ToLooks (only_fill (Some 0xFF8000))))
     (op.Set shape (ToLooks (only_fill None)))
-    ∷ taken (op.Set lone (ToLooks (only_fill (Some 7)))) (op.Set lone (ToLooks (only_fill None))) (op.Set lone (ToLooks (only_fill (Some 7))))
-    ∷ taken (op.Set shape (ToLooks (only_width 7))) (op.Set shape (ToLooks (only_width 9))) (op.Set shape (ToLooks (only_width 7)))
+    ∷ taken (op.Set lone (ToLooks (only_fill (Some 7)))) (op.Set lone (ToLooks (only_fill None)))
+    (op.Set lone (ToLooks (only_fill (Some 7))))
+    ∷ taken (op.Set shape (ToLooks (only_width 7))) (op.Set shape (ToLooks (only_width 9)))
+    (op.Set shape (ToLooks (only_width 7)))
     ∷ taken (op.Set shape (ToText [])) (op.Set shape (ToText (codes "old"))) (op.Set shape (ToText []))
     ∷ taken (op.Set lone (ToText (codes "new")))
     (op.Set lone (ToText []))
     (op.Set lone (ToText (codes "new")))
     -- several parts of a look, of which two are as the kind has them
-    ∷ taken (op.Set shape (ToLooks (record no_looks { stroke = Some 7; dash = Some Dashed; round = Some (Some 4); align = Some None })))
-    (op.Set shape (ToLooks (record no_looks { stroke = Some 0x00AB0C; dash = Some Solid; round = Some None; align = Some None })))
-    (op.Set shape (ToLooks (record no_looks { stroke = Some 7; dash = Some Dashed; round = Some (Some 4); align = Some None })))
+    ∷ taken (op.Set shape
+    (ToLooks (record no_looks { stroke = Some 7; dash = Some Dashed; round = Some (Some 4); align = Some None })))
+    (op.Set shape (ToLooks
+    (record no_looks { stroke = Some 0x00AB0C; dash = Some Solid; round = Some None; align = Some None })))
+    (op.Set shape (ToLooks
+    (record no_looks { stroke = Some 7; dash = Some Dashed; round = Some (Some 4); align = Some None })))
     -- a connector without heads, and between others
     ∷ taken (op.Set connector (ToLooks (record no_looks { heads = Some Bare })))
     (op.Set connector (ToLooks (record no_looks { heads = Some AtEnd })))
@@ -594,7 +602,8 @@ restored_text =
 abbrev pub restored_backs : Backs
 restored_backs =
     backs_of
-    (op.Restore (at_stamp 1 1) (record (rect_of 1 1) { x = pos 5; y = pos 5; look = record (new_look Bare) { fill = Some 7 } }) []
+    (op.Restore (at_stamp 1 1)
+    (record (rect_of 1 1) { x = pos 5; y = pos 5; look = record (new_look Bare) { fill = Some 7 } }) []
     ∷ place_of 1 1 0 0
     ∷ op.Delete (at_stamp 1 1)
     ∷ [])
@@ -605,15 +614,18 @@ restored_backs =
 abbrev pub lost_backs : List (List Turn × Backs)
 lost_backs = (
   [],
-  backs_of (op.Set (at_stamp 1 1) (ToLooks (only_fill None)) ∷ op.Set (at_stamp 1 1) (ToLooks (only_stroke 0)) ∷ place_of 1 1 0 0 ∷ []) [],
+  backs_of (op.Set (at_stamp 1 1) (ToLooks (only_fill None)) ∷ op.Set (at_stamp 1 1) (ToLooks (only_stroke 0))
+      ∷ place_of 1 1 0 0 ∷ []) [],
 )
     ∷ (
       Undo ∷ Undo ∷ Undo ∷ [],
-      backs_of [] (place_of 1 1 5 5 ∷ op.Set shape (ToLooks (only_stroke 0)) ∷ op.Set shape (ToLooks (only_fill (Some 7))) ∷ []),
+      backs_of [] (place_of 1 1 5 5 ∷ op.Set shape (ToLooks (only_stroke 0))
+          ∷ op.Set shape (ToLooks (only_fill (Some 7))) ∷ []),
     )
     ∷ (
       Undo ∷ Undo ∷ Undo ∷ Redo ∷ Redo ∷ Redo ∷ [],
-      backs_of (op.Set (at_stamp 1 1) (ToLooks (only_fill None)) ∷ op.Set (at_stamp 1 1) (ToLooks (only_stroke 0)) ∷ place_of 1 1 0 0 ∷ []) [],
+      backs_of (op.Set (at_stamp 1 1) (ToLooks (only_fill None)) ∷ op.Set (at_stamp 1 1) (ToLooks (only_stroke 0))
+          ∷ place_of 1 1 0 0 ∷ []) [],
     )
     ∷ []
 

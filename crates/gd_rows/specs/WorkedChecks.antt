@@ -1,5 +1,5 @@
--- Worked rows of checks: journals with a check behind each event, what is found of a change in them, what is replayed up to
--- it, and sites that part.
+-- Worked rows of checks: journals with a check behind each event, what is found of a change in them, what is replayed
+-- up to it, and sites that part.
 use Rattle.std.specs.Prelude.{ℕ, pos, false, true, List, [], ◌∷◌, ◌++◌, set, take, codes, Option, Some}
 use Rattle.gd_asked.specs.declared.command.Command.{Command}
 use Rattle.gd_asked.specs.declared.command.Command.TheVariants.{Replay}
@@ -17,15 +17,16 @@ use Rattle.gd_options.specs.declared.format.Format.TheVariants.{Text}
 use Rattle.gd_outside.specs.Seen.{Entry, Packet}
 use Rattle.gd_reference.specs.Offers.{take_frame}
 use Rattle.gd_reference.specs.SlowSite.{SlowSite}
-use Rattle.gd_rows.specs.Worked.{at_stamp, event, fault_at, header_three_bytes, prints_of, record_check, record_event, record_row, tie_log, works_of}
+use Rattle.gd_rows.specs.Worked.{at_stamp, event, fault_at, header_three_bytes, prints_of, record_check, record_event}
+use Rattle.gd_rows.specs.Worked.{record_row, tie_log, works_of}
 use Rattle.gd_rows.specs.WorkedGestures.{create_row, other_move_row, own_checks, pair_check}
 use Rattle.gd_rows.specs.WorkedRejoins.{tie_journal}
 use Rattle.gd_rows.specs.WorkedWorlds.{ahead_create, ahead_move, check_two, first_rect, frame_of, listener, named}
 
 -- ---- a journal with the events of two sites
 
--- Two events of site 2 with one of site 1 between them. The gates are the bytes 11, 44, 77 and 107, and the checks begin at
--- 40, 73 and 103. The last check is that of both events of site 2.
+-- Two events of site 2 with one of site 1 between them. The gates are the bytes 11, 44, 77 and 107, and the checks
+-- begin at 40, 73 and 103. The last check is that of both events of site 2.
 abbrev pub crossed_journal : List ℕ
 crossed_journal =
     header_three_bytes

@@ -2,7 +2,8 @@
 --
 -- The draws are worked by the public definition of PCG32 and of its seeds, and all else by hand.
 use Prim.Native.String.{String}
-use Rattle.std.specs.Prelude.{ℕ, zero, suc, pos, true, List, [], ◌∷◌, ◌++◌, length, map, replicate, codes, Option, Some, None}
+use Rattle.std.specs.Prelude.{ℕ, zero, suc, pos, true, List, [], ◌∷◌, ◌++◌, length, map, replicate, codes, Option, Some}
+use Rattle.std.specs.Prelude.{None}
 use Rattle.rand_pcg.specs.Lcg.{Lcg}
 use Rattle.rand_pcg.specs.Pcg.{pcg32}
 use Rattle.gd_base.specs.Looks.{no_looks, only_stroke}
@@ -78,8 +79,15 @@ drawn_table =
     ++ replicate 2 (Some (script.Deliver 4), 77906497)
     ++ turned_table
     ++ (edit_at 3 (op.Connect (record { from = at_stamp 5 2; to = at_stamp 2 3 }) []), 1297502356)
-    ∷ (edit_at 3 (op.Set (at_stamp 5 2) (ToEnds (Some (record { from = at_stamp 2 3; to = at_stamp 2 3 })))), 3230469346)
-    ∷ (edit_at 3 (op.Set (at_stamp 5 2) (ToLooks (record no_looks { stroke = Some 10797633; dash = Some Dashed; opacity = Some 47 }))), 2565941027)
+    ∷ (
+      edit_at 3 (op.Set (at_stamp 5 2) (ToEnds (Some (record { from = at_stamp 2 3; to = at_stamp 2 3 })))),
+      3230469346,
+    )
+    ∷ (
+      edit_at 3 (op.Set (at_stamp 5 2)
+          (ToLooks (record no_looks { stroke = Some 10797633; dash = Some Dashed; opacity = Some 47 }))),
+      2565941027,
+    )
     ∷ (edit_at 3 (op.Set (at_stamp 5 2) (ToText (codes "churn" ++ 10 ∷ codes "t"))), 1297502356)
     ∷ []
 
@@ -112,8 +120,8 @@ abbrev pub lines_drawn : ℕ → Churning → List (Option ScriptLine)
 lines_drawn zero c = []
 lines_drawn (suc n) c = (step c.made (length c.world.mail) c.generator).0 ∷ lines_drawn n (stepped c)
 
--- Site 3 makes a rect, which site 2 gets, another one, and a group of both, which it connects to one of its members. A group is
--- picked among, as what it holds. Site 2 moves and raises the rect.
+-- Site 3 makes a rect, which site 2 gets, another one, and a group of both, which it connects to one of its members. A
+-- group is picked among, as what it holds. Site 2 moves and raises the rect.
 abbrev pub group_lines : List (Option ScriptLine)
 group_lines =
     create_at 3 936 594
@@ -129,7 +137,8 @@ group_lines =
 abbrev pub group_made : List Stamp
 group_made = at_stamp 1 3 ∷ at_stamp 2 3 ∷ at_stamp 3 3 ∷ at_stamp 4 3 ∷ []
 
--- Site 3 makes a rect, which site 1 gets, and deletes it. Site 1 raises and moves it, makes another one, and connects the two.
+-- Site 3 makes a rect, which site 1 gets, and deletes it. Site 1 raises and moves it, makes another one, and connects
+-- the two.
 abbrev pub eight_lines : List (Option ScriptLine)
 eight_lines =
     create_at 3 534 90
@@ -164,11 +173,11 @@ nothing_printed =
     "edits 0 refused 0 sent 12 delivered 12 idle 0"
     "arrivals applied 0 dropped 0 reworked 0 undone 0"
 
--- All but the connector, and two rounds: six events at their sites, and then those of the first round, in which the sites 1 and 3
--- have events for the others, and behind which all hold all. First site 1 sends its raise, its move and its rect: to site 2, which
--- holds nothing; to site 3, where the delete covers the raise; and to site 4. Then site 3 sends its delete to site 1, where it comes
--- before the move, which is redone; and its rect and its delete to the sites 2 and 4, where the rect comes before the raise and the
--- move, and the delete before the move.
+-- All but the connector, and two rounds: six events at their sites, and then those of the first round, in which the
+-- sites 1 and 3 have events for the others, and behind which all hold all. First site 1 sends its raise, its move and
+-- its rect: to site 2, which holds nothing; to site 3, where the delete covers the raise; and to site 4. Then site 3
+-- sends its delete to site 1, where it comes before the move, which is redone; and its rect and its delete to the sites
+-- 2 and 4, where the rect comes before the raise and the move, and the delete before the move.
 abbrev pub seven_works : List ℕ
 seven_works = replicate 6 1 ++ 1 ∷ 1 ∷ 1 ∷ 0 ∷ 1 ∷ 1 ∷ 1 ∷ 1 ∷ 1 ∷ 3 ∷ 5 ∷ 3 ∷ 5 ∷ 3 ∷ []
 
@@ -211,7 +220,15 @@ counted_replies =
 
 abbrev pub counts : Counts
 counts =
-    record { edits = 1; refused = 2; sent = 3; delivered = 4; idle = 7; arrivals = record { applied = 5; dropped = 6; reworked = 2; undone = 8 } }
+    record {
+      edits = 1;
+      refused = 2;
+      sent = 3;
+      delivered = 4;
+      idle = 7;
+      arrivals
+          = record { applied = 5; dropped = 6; reworked = 2; undone = 8 };
+    }
 
 abbrev pub counts_printed : List (List ℕ)
 counts_printed =
@@ -224,7 +241,12 @@ counts_printed =
 abbrev pub making : List (ScriptLine × List Reply × List Stamp)
 making =
     (script.At 1 (command.Edit (new_rect (pos 0))), reply.Done (at_stamp 1 1) ∷ [], at_stamp 1 1 ∷ [])
-    ∷ (script.At 1 (command.Edit (op.Group (at_stamp 1 1 ∷ at_stamp 2 1 ∷ []))), reply.Done (at_stamp 3 1) ∷ [], at_stamp 3 1 ∷ [])
+    ∷ (
+      script.At 1 (command.Edit (op.Group (at_stamp 1 1 ∷ at_stamp 2 1 ∷ []))),
+      reply.Done (at_stamp 3 1)
+          ∷ [],
+      at_stamp 3 1 ∷ [],
+    )
     ∷ (script.At 1 (command.Edit (new_rect (pos 0))), reply.Refused NoObject ∷ [], [])
     ∷ (script.At 1 (command.Edit (move_to 1 1 5 5)), reply.Done (at_stamp 2 1) ∷ [], [])
     ∷ (script.At 1 (command.Turn Redo), reply.Done (at_stamp 4 1) ∷ reply.End 1 ∷ [], [])

@@ -1,8 +1,9 @@
--- Worked rows of connectors and looks: what is shown of them, what edits of them become, what comes of two of them at once, and
--- what dropped ones leave to what drops them.
+-- Worked rows of connectors and looks: what is shown of them, what edits of them become, what comes of two of them at
+-- once, and what dropped ones leave to what drops them.
 --
--- On the board stand the rects 1.1, 2.1 and 4.1, each 20 further, and 3.1, which connects the first two. What two events touch, and so
--- what comes of the earlier one where it arrives last, is read off the tables of docs/FORMATS.md, section 3.
+-- On the board stand the rects 1.1, 2.1 and 4.1, each 20 further, and 3.1, which connects the first two. What two
+-- events touch, and so what comes of the earlier one where it arrives last, is read off the tables of docs/FORMATS.md,
+-- section 3.
 use Prim.Native.String.{String}
 use Rattle.std.specs.Prelude.{ℕ, pos, true, List, [], ◌∷◌, ◌++◌, codes, Result, Ok, Err, Some, None}
 use Rattle.gd_base.specs.Looks.{no_looks, only_stroke}
@@ -99,12 +100,14 @@ rect_four = square_line "4.1" "-" "40 0"
 -- the first rect with that stroke, and these other looks
 abbrev pub styled_one : String → String → List ℕ
 styled_one stroke looks =
-    codes "rect 1.1 in - at 0 0 size 10 10 stroke " ++ codes stroke ++ codes " fill none width 1" ++ codes looks ++ codes "\n"
+    codes "rect 1.1 in - at 0 0 size 10 10 stroke " ++ codes stroke ++ codes " fill none width 1" ++ codes looks
+    ++ codes "\n"
 
 -- a connector as it was made: of that id, in that group, between these
 abbrev pub arrow_line : String → String → String → String → List ℕ
 arrow_line id group from to =
-    codes "connector " ++ codes id ++ codes " in " ++ codes group ++ codes " from " ++ codes from ++ codes " to " ++ codes to
+    codes "connector " ++ codes id ++ codes " in " ++ codes group ++ codes " from " ++ codes from ++ codes " to "
+    ++ codes to
     ++ codes " stroke 000000 fill none width 1 heads end\n"
 
 abbrev pub arrow : String → String → List ℕ
@@ -140,7 +143,8 @@ pictures =
     -- an end is gone, and is back: under its rank, so that the connector lies above both
     ∷ (then_one (deletes 1), one_gone)
     ∷ (
-      then_two (deletes 1) (op.Restore (at_stamp 1 1) (new_shape (at_stamp 1 1) Rect (pos 0) (pos 0) (pos 10) (pos 10) []) []),
+      then_two (deletes 1) (op.Restore (at_stamp 1 1)
+          (new_shape (at_stamp 1 1) Rect (pos 0) (pos 0) (pos 10) (pos 10) []) []),
       whole,
     )
     -- an end that is raised lies above the connector
@@ -148,16 +152,19 @@ pictures =
     -- the ends in a group: the connector is in none
     ∷ (
       then_one (groups 1 2),
-      arrow "1.1" "2.1" ∷ rect_four ∷ group_line "5.1" "-" "0 0" ∷ rect_one "5.1" ∷ rect_two "5.1" ∷ codes "end 5\n" ∷ [],
+      arrow "1.1" "2.1" ∷ rect_four ∷ group_line "5.1" "-" "0 0" ∷ rect_one "5.1" ∷ rect_two "5.1" ∷ codes "end 5\n"
+          ∷ [],
     )
     -- the connector and an end in a group, which is moved, dissolved or deleted
     ∷ (
       then_one (groups 1 3),
-      rect_two "-" ∷ rect_four ∷ group_line "5.1" "-" "0 0" ∷ rect_one "5.1" ∷ arrow_line "3.1" "5.1" "1.1" "2.1" ∷ codes "end 5\n" ∷ [],
+      rect_two "-" ∷ rect_four ∷ group_line "5.1" "-" "0 0" ∷ rect_one "5.1" ∷ arrow_line "3.1" "5.1" "1.1" "2.1"
+          ∷ codes "end 5\n" ∷ [],
     )
     ∷ (
       then_two (groups 1 3) (op.Set (at_stamp 5 1) (ToPlace (pos 5) (pos 7))),
-      rect_two "-" ∷ rect_four ∷ group_line "5.1" "-" "5 7" ∷ square_line "1.1" "5.1" "5 7" ∷ arrow_line "3.1" "5.1" "1.1" "2.1"
+      rect_two "-" ∷ rect_four ∷ group_line "5.1" "-" "5 7" ∷ square_line "1.1" "5.1" "5 7"
+          ∷ arrow_line "3.1" "5.1" "1.1" "2.1"
           ∷ codes "end 5\n" ∷ [],
     )
     ∷ (then_two (groups 1 3) (op.Set (at_stamp 5 1) (ToFlag true)), whole)
@@ -174,7 +181,8 @@ pictures =
     ∷ (then_one (reconnects 3 4 4), led "4.1" "4.1")
     -- its look, and its label, in which a line feed is a backslash and an n
     ∷ (
-      then_two (op.Set (at_stamp 3 1) (ToLooks (record green_dotted { heads = Some AtBoth }))) (op.Set (at_stamp 3 1) (ToText (codes "a" ++ 10 ∷ codes "b\\"))),
+      then_two (op.Set (at_stamp 3 1) (ToLooks (record green_dotted { heads = Some AtBoth })))
+          (op.Set (at_stamp 3 1) (ToText (codes "a" ++ 10 ∷ codes "b\\"))),
       shown_with (rect_one "-")
           (codes "connector 3.1 in - from 1.1 to 2.1 stroke 00FF00 fill none width 1 dash dotted heads both text a\\nb\\\\\n"),
     )
@@ -244,9 +252,11 @@ connect_pairs =
     (rect_one "-" ∷ rect_two "-" ∷ rect_four ∷ arrow_line "7.1" "-" "1.1" "2.1" ∷ codes "end 4\n" ∷ [])
     ∷ last board connects (deletes 7) Covered whole
     ∷ last board connects (raises 7) Redone
-    (rect_one "-" ∷ rect_two "-" ∷ arrow "1.1" "2.1" ∷ rect_four ∷ arrow_line "7.1" "-" "1.1" "2.1" ∷ codes "end 5\n" ∷ [])
+    (rect_one "-" ∷ rect_two "-" ∷ arrow "1.1" "2.1" ∷ rect_four ∷ arrow_line "7.1" "-" "1.1" "2.1" ∷ codes "end 5\n"
+    ∷ [])
     ∷ last board connects (reconnects 7 4 1) Redone
-    (rect_one "-" ∷ rect_two "-" ∷ arrow "1.1" "2.1" ∷ rect_four ∷ arrow_line "7.1" "-" "4.1" "1.1" ∷ codes "end 5\n" ∷ [])
+    (rect_one "-" ∷ rect_two "-" ∷ arrow "1.1" "2.1" ∷ rect_four ∷ arrow_line "7.1" "-" "4.1" "1.1" ∷ codes "end 5\n"
+    ∷ [])
     ∷ []
 
 abbrev pub leads_on : Event

@@ -42,7 +42,8 @@ grouped_edits =
 
 -- the group is dissolved at the greatest place
 abbrev pub far_steps : List Step
-far_steps = grouped_steps ++ At 1 (Edits (move_to 4 1 1000000000 0)) ∷ At 1 (Edits (op.Set (at_stamp 4 1) (ToFlag true))) ∷ []
+far_steps = grouped_steps
+    ++ At 1 (Edits (move_to 4 1 1000000000 0)) ∷ At 1 (Edits (op.Set (at_stamp 4 1) (ToFlag true))) ∷ []
 
 abbrev pub far_site : SlowSite
 far_site = (after 1 7 far_steps).at 1

@@ -159,8 +159,8 @@ lagging_frame_to to events =
       events = events;
     }
 
--- A poll takes the frame of site 2 alone. So it sends that one the five labels that fit, then the last one, and both frames
--- once more. Site 3 is sent one frame, though an event is left.
+-- A poll takes the frame of site 2 alone. So it sends that one the five labels that fit, then the last one, and both
+-- frames once more. Site 3 is sent one frame, though an event is left.
 abbrev pub lagging_effects : List Effect
 lagging_effects =
     Print (codes "frame refused: Session\n")

@@ -1,4 +1,5 @@
--- Worked rows of gestures: the lines between a `begin` and its `end`, what a node does then, and what an undo of them does.
+-- Worked rows of gestures: the lines between a `begin` and its `end`, what a node does then, and what an undo of them
+-- does.
 use Rattle.std.specs.Prelude.{ℕ, ◌-◌, pos, true, List, [], ◌∷◌, ◌++◌, replicate, codes, get_or, Ok, Err}
 use Rattle.std.specs.List.{concat}
 use Rattle.gd_base.specs.declared.content.Content.TheVariants.{ToFlag}
@@ -80,7 +81,8 @@ gesture_effects =
     begun
     ++ Work 1 ∷ Work 1
     ∷ Record 11 [] both
-    ∷ Print (codes "ok 1.1\n") ∷ Print (codes "refused: NotGroup\n") ∷ Print (codes "ok 2.1\n") ∷ Print (codes "end 3\n")
+    ∷ Print (codes "ok 1.1\n") ∷ Print (codes "refused: NotGroup\n") ∷ Print (codes "ok 2.1\n")
+    ∷ Print (codes "end 3\n")
     ∷ Try 2 (own_frame 2 (create_row ++ move_row 2 50 60) (61 ∷ 80 ∷ 16 ∷ 135 ∷ []))
     ∷ []
 
@@ -107,11 +109,12 @@ redone = event 5 1 5 (op.Restore (at_stamp 1 1) (rect_of 1 1) []) ∷ event 6 1 
 abbrev pub restore_row : List ℕ
 restore_row =
     0 ∷ 0 ∷ 0 ∷ 0 ∷ 0 ∷ 5 ∷ 1 ∷ 0 ∷ 5 ∷ 11 ∷ 0 ∷ 0 ∷ 0 ∷ 0 ∷ 0 ∷ 1 ∷ 1 ∷ 1 ∷ 0 ∷ 0 ∷ 0 ∷ 0 ∷ 0 ∷ 0 ∷ 0 ∷ 0
-    ∷ 0 ∷ 0 ∷ 0 ∷ 10 ∷ 0 ∷ 0 ∷ 0 ∷ 10 ∷ 0 ∷ 0 ∷ 0 ∷ 0 ∷ 255 ∷ 255 ∷ 255 ∷ 255 ∷ 1 ∷ 0 ∷ 0 ∷ 255 ∷ 255 ∷ 255 ∷ 255 ∷ 100 ∷ 0 ∷ 0
+    ∷ 0 ∷ 0 ∷ 0 ∷ 10 ∷ 0 ∷ 0 ∷ 0 ∷ 10 ∷ 0 ∷ 0 ∷ 0 ∷ 0 ∷ 255 ∷ 255 ∷ 255 ∷ 255 ∷ 1 ∷ 0 ∷ 0 ∷ 255 ∷ 255 ∷ 255 ∷ 255 ∷ 100
+    ∷ 0 ∷ 0
     ∷ 0 ∷ 0 ∷ 0 ∷ 0 ∷ 0 ∷ 1 ∷ 0 ∷ 0 ∷ 0 ∷ 0 ∷ 0 ∷ 1 ∷ 1 ∷ 0 ∷ []
 
--- With their gates and checks the records of the gesture have 33 and 30 bytes, and those of the undo 30 and 22. There is no
--- second gesture to take back, or to do again.
+-- With their gates and checks the records of the gesture have 33 and 30 bytes, and those of the undo 30 and 22. There
+-- is no second gesture to take back, or to do again.
 abbrev pub turned_effects : List Effect
 turned_effects =
     gesture_effects

@@ -41,7 +41,11 @@ read_lines =
     ∷ (codes " group 2.1  01.16" ++ 13 ∷ [], command.Edit (op.Group (at_stamp 2 1 ∷ at_stamp 1 16 ∷ [])))
     ∷ (codes "text 1.2 a\\nb\\\\", command.Edit (op.Set (at_stamp 1 2) (ToText (codes "a" ++ 10 ∷ codes "b\\"))))
     ∷ (codes "connect 1.2 3.1", command.Edit (op.Connect (record { from = at_stamp 1 2; to = at_stamp 3 1 }) []))
-    ∷ (codes "connect 1.2 3.1  a ", command.Edit (op.Connect (record { from = at_stamp 1 2; to = at_stamp 3 1 }) (codes " a ")))
+    ∷ (
+      codes "connect 1.2 3.1  a ",
+      command.Edit
+          (op.Connect (record { from = at_stamp 1 2; to = at_stamp 3 1 }) (codes " a ")),
+    )
     ∷ (
       codes "reconnect 5.1 3.1 1.2",
       command.Edit (op.Set (at_stamp 5 1) (ToEnds (Some (record { from = at_stamp 3 1; to = at_stamp 1 2 })))),
@@ -156,7 +160,8 @@ old_shape =
 abbrev pub old_connector : Object
 old_connector =
     record (new_connector (at_stamp 5 1) (between 1 3) (codes "a" ++ 10 ∷ [])) {
-      look = record (new_look AtBoth) { dash = Dotted; round = Some 0; opacity = 50; letters = Some 24; align = Some Start };
+      look = record (new_look AtBoth)
+          { dash = Dotted; round = Some 0; opacity = 50; letters = Some 24; align = Some Start };
     }
 
 -- a dissolved group in a group
@@ -179,7 +184,11 @@ ties =
 abbrev pub echoes : List (Reply × List ℕ)
 echoes =
     (reply.Applied (at_stamp 4 1) (op.Set one (ToPlace (pos 5) (pos 5))), codes "echo 4.1 applied move 1.1 5 5\n")
-    ∷ (reply.Dropped (at_stamp 7 1) (at_stamp 9 2) (op.Set one (ToText (codes "Hi"))), codes "echo 7.1 dropped by 9.2 text 1.1 Hi\n")
+    ∷ (
+      reply.Dropped (at_stamp 7 1) (at_stamp 9 2) (op.Set one (ToText (codes "Hi"))),
+      codes
+          "echo 7.1 dropped by 9.2 text 1.1 Hi\n",
+    )
     ∷ (
       reply.Reworked (at_stamp 8 1) 3 (op.Group (member 1 1 (pos 0) (pos 0) ∷ member 2 1 (pos 5) (pos 5) ∷ [])),
       codes "echo 8.1 reworked 3 group 1.1 0 0 2.1 5 5\n",
@@ -193,8 +202,16 @@ echoes =
       applied (op.Restore (at_stamp 3 1) old_group ties),
       codes "echo 9.1 applied restore 3.1 group 5 -7 0 0 000000 none 1 in 4.1 1 2 dissolved high 3.1 tie 1.1 in - tie 2.1 in 4.1 5 5\n",
     )
-    ∷ (applied (op.Create Rect (pos 0) (negsuc 0) (pos 10) (pos 10) []), codes "echo 9.1 applied create rect 0 -1 10 10\n")
-    ∷ (applied (op.Create Ellipse (pos 0) (pos 0) (pos 1) (pos 1) (codes " a ")), codes "echo 9.1 applied create ellipse 0 0 1 1  a \n")
+    ∷ (
+      applied (op.Create Rect (pos 0) (negsuc 0) (pos 10) (pos 10) []),
+      codes
+          "echo 9.1 applied create rect 0 -1 10 10\n",
+    )
+    ∷ (
+      applied (op.Create Ellipse (pos 0) (pos 0) (pos 1) (pos 1) (codes " a ")),
+      codes
+          "echo 9.1 applied create ellipse 0 0 1 1  a \n",
+    )
     ∷ (applied (op.Delete one), codes "echo 9.1 applied delete 1.1\n")
     ∷ (applied (op.Set one (ToSize (negsuc 0) (pos 2))), codes "echo 9.1 applied resize 1.1 -1 2\n")
     ∷ (applied (op.Set one (ToLooks (only_stroke 0x00AB0C))), codes "echo 9.1 applied stroke 1.1 00AB0C\n")
@@ -203,13 +220,37 @@ echoes =
     ∷ (applied (op.Set one (ToLooks (only_width 64))), codes "echo 9.1 applied width 1.1 64\n")
     ∷ (applied (op.Set one (ToText [])), codes "echo 9.1 applied text 1.1\n")
     ∷ (applied (op.Set one (ToText (codes "a\\" ++ 10 ∷ codes "b"))), codes "echo 9.1 applied text 1.1 a\\\\\\nb\n")
-    ∷ (applied (op.Set one (ToLooks (record no_looks { dash = Some Dashed }))), codes "echo 9.1 applied dash 1.1 dashed\n")
-    ∷ (applied (op.Set one (ToLooks (record no_looks { heads = Some AtStart }))), codes "echo 9.1 applied heads 1.1 start\n")
+    ∷ (
+      applied (op.Set one (ToLooks (record no_looks { dash = Some Dashed }))),
+      codes
+          "echo 9.1 applied dash 1.1 dashed\n",
+    )
+    ∷ (
+      applied (op.Set one (ToLooks (record no_looks { heads = Some AtStart }))),
+      codes
+          "echo 9.1 applied heads 1.1 start\n",
+    )
     -- an undo sets a part back as the kind has it
-    ∷ (applied (op.Set one (ToLooks (record no_looks { round = Some None }))), codes "echo 9.1 applied round 1.1 none\n")
-    ∷ (applied (op.Set one (ToLooks (record no_looks { opacity = Some 100 }))), codes "echo 9.1 applied opacity 1.1 100\n")
-    ∷ (applied (op.Set one (ToLooks (record no_looks { letters = Some None }))), codes "echo 9.1 applied size 1.1 none\n")
-    ∷ (applied (op.Set one (ToLooks (record no_looks { align = Some (Some Middle) }))), codes "echo 9.1 applied align 1.1 middle\n")
+    ∷ (
+      applied (op.Set one (ToLooks (record no_looks { round = Some None }))),
+      codes
+          "echo 9.1 applied round 1.1 none\n",
+    )
+    ∷ (
+      applied (op.Set one (ToLooks (record no_looks { opacity = Some 100 }))),
+      codes
+          "echo 9.1 applied opacity 1.1 100\n",
+    )
+    ∷ (
+      applied (op.Set one (ToLooks (record no_looks { letters = Some None }))),
+      codes
+          "echo 9.1 applied size 1.1 none\n",
+    )
+    ∷ (
+      applied (op.Set one (ToLooks (record no_looks { align = Some (Some Middle) }))),
+      codes
+          "echo 9.1 applied align 1.1 middle\n",
+    )
     ∷ (
       applied (op.Set one (ToLooks (record no_looks { letters = Some (Some 9); fill = Some None; dash = Some Solid }))),
       codes "echo 9.1 applied style 1.1 fill none dash solid size 9\n",

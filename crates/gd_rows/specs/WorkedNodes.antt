@@ -15,8 +15,10 @@ use Rattle.gd_model.specs.Objects.{new_shape}
 use Rattle.gd_outside.specs.Seen.{Entry, Packet, Pause, Failure}
 use Rattle.gd_reference.specs.InputLines.{Read}
 use Rattle.gd_reference.specs.NodeRun.{HeardLine, node_effects}
-use Rattle.gd_rows.specs.Worked.{at_stamp, body_row, event, frame_row, frame_row_to_third, header_three_bytes, record_check, record_event, record_row}
-use Rattle.gd_rows.specs.WorkedWorlds.{new_rect, ahead_move, ahead_first, ahead_gap, ahead_rest, check_one, check_two, frame_of, sure_frame, sure_late_frame}
+use Rattle.gd_rows.specs.Worked.{at_stamp, body_row, event, frame_row, frame_row_to_third, header_three_bytes}
+use Rattle.gd_rows.specs.Worked.{record_check, record_event, record_row}
+use Rattle.gd_rows.specs.WorkedWorlds.{new_rect, ahead_move, ahead_first, ahead_gap, ahead_rest, check_one, check_two}
+use Rattle.gd_rows.specs.WorkedWorlds.{frame_of, sure_frame, sure_late_frame}
 
 -- lines that ask for these
 abbrev pub asked : List Command → List HeardLine
@@ -53,12 +55,13 @@ undone_row_to to checksum =
     71 ∷ 68 ∷ 79 ∷ 70 ∷ 3 ∷ 0 ∷ 0 ∷ 0 ∷ 7 ∷ 2 ∷ to ∷ 0 ∷ 0 ∷ 0 ∷ 2 ∷ 0 ∷ 0 ∷ 0 ∷ 0 ∷ 0 ∷ 2 ∷ delete_check
     ++ 0 ∷ 0 ∷ 0 ∷ 0 ∷ 0 ∷ 0 ∷ 0 ∷ 0 ∷ 0 ∷ 0 ∷ 2 ∷ record_row ++ delete_row ++ checksum
 
--- a record that puts the rect back as it was: black, not filled, of width 1, solid, without heads, opaque, without a label,
--- without ends, in no group, not dissolved, at the rank high 1.2; and no ties
+-- a record that puts the rect back as it was: black, not filled, of width 1, solid, without heads, opaque, without a
+-- label, without ends, in no group, not dissolved, at the rank high 1.2; and no ties
 abbrev pub restore_row : List ℕ
 restore_row =
     0 ∷ 0 ∷ 0 ∷ 0 ∷ 0 ∷ 3 ∷ 2 ∷ 0 ∷ 3 ∷ 11 ∷ 0 ∷ 0 ∷ 0 ∷ 0 ∷ 0 ∷ 1 ∷ 2 ∷ 1 ∷ 0 ∷ 0 ∷ 0 ∷ 0 ∷ 0 ∷ 0 ∷ 0 ∷ 0
-    ∷ 0 ∷ 0 ∷ 0 ∷ 10 ∷ 0 ∷ 0 ∷ 0 ∷ 10 ∷ 0 ∷ 0 ∷ 0 ∷ 0 ∷ 255 ∷ 255 ∷ 255 ∷ 255 ∷ 1 ∷ 0 ∷ 0 ∷ 255 ∷ 255 ∷ 255 ∷ 255 ∷ 100 ∷ 0 ∷ 0
+    ∷ 0 ∷ 0 ∷ 0 ∷ 10 ∷ 0 ∷ 0 ∷ 0 ∷ 10 ∷ 0 ∷ 0 ∷ 0 ∷ 0 ∷ 255 ∷ 255 ∷ 255 ∷ 255 ∷ 1 ∷ 0 ∷ 0 ∷ 255 ∷ 255 ∷ 255 ∷ 255 ∷ 100
+    ∷ 0 ∷ 0
     ∷ 0 ∷ 0 ∷ 0 ∷ 0 ∷ 0 ∷ 1 ∷ 0 ∷ 0 ∷ 0 ∷ 0 ∷ 0 ∷ 1 ∷ 2 ∷ 0 ∷ []
 
 abbrev pub restore_event : Event

@@ -1,5 +1,6 @@
 -- Worked rows of what version three has besides: the operations of undos and redos, byte by byte and as JSON.
-use Rattle.std.specs.Prelude.{◌≡◌, ℕ, zero, suc, ◌+◌, ◌-◌, pos, false, List, [], ◌∷◌, ◌++◌, length, map, replicate, set, take, codes, Some, None, Err}
+use Rattle.std.specs.Prelude.{◌≡◌, ℕ, zero, suc, ◌+◌, ◌-◌, pos, false, List, [], ◌∷◌, ◌++◌, length, map, replicate, set}
+use Rattle.std.specs.Prelude.{take, codes, Some, None, Err}
 use Rattle.std.specs.List.{AllByRecursion}
 use Rattle.gd_base.specs.declared.content.Content.TheVariants.{ToLooks, ToFlag, ToEnds, ToRank}
 use Rattle.gd_base.specs.declared.content.Height.TheVariants.{At}
@@ -464,7 +465,8 @@ style_changes =
 abbrev pub looks_log : List ℕ → List ℕ
 looks_log bytes = set (begun_log (15 ∷ 0 ∷ 0 ∷ 0 ∷ 0 ∷ 0 ∷ 1 ∷ 1 ∷ bytes)) 4 7
 
--- Nothing is set, or a stroke, a fill or a width alone: the fault is at the first of the looks, behind all faults within them.
+-- Nothing is set, or a stroke, a fill or a width alone: the fault is at the first of the looks, behind all faults
+-- within them.
 abbrev pub no_styles : List (List ℕ × LogWhy × ℕ)
 no_styles =
     (looks_log (replicate 9 0), Field, 9)

@@ -108,7 +108,8 @@ reworked_effects =
     ∷ Work 1 ∷ Print (codes "ok 1.2\n")
     ∷ Print (codes "mail 1\n")
     ∷ Work 1 ∷ Work 1
-    ∷ Print (codes "echo 1.1 applied create rect 0 0 10 10\n") ∷ Print (codes "echo 2.1 applied create rect 20 0 10 10\n")
+    ∷ Print (codes "echo 1.1 applied create rect 0 0 10 10\n")
+    ∷ Print (codes "echo 2.1 applied create rect 20 0 10 10\n")
     ∷ Print (codes "delivered 1\n")
     ∷ Work 1 ∷ Print (codes "ok 3.2\n")
     ∷ Work 1 ∷ Print (codes "ok 3.1\n")
@@ -116,7 +117,8 @@ reworked_effects =
     ∷ Work 1 ∷ Print (codes "ok 5.1\n")
     ∷ Print (codes "mail 2\n")
     ∷ Work 1 ∷ Work 5
-    ∷ Print (codes "echo 1.2 applied create rect 40 0 10 10\n") ∷ Print (codes "echo 3.2 reworked 2 group 1.2 0 0 2.1 0 0\n")
+    ∷ Print (codes "echo 1.2 applied create rect 40 0 10 10\n")
+    ∷ Print (codes "echo 3.2 reworked 2 group 1.2 0 0 2.1 0 0\n")
     ∷ Print (codes "delivered 2\n")
     ∷ []
 
@@ -183,7 +185,11 @@ hidden =
 -- the first refusal that applies
 abbrev pub group_of_33 : Row
 group_of_33 =
-    record { asked = codes "at 1 group" ++ concat (replicate 33 (codes " 3.1")) ++ lf ∷ []; said = codes "refused: WrongCount\n" }
+    record {
+      asked = codes "at 1 group" ++ concat (replicate 33 (codes " 3.1"))
+          ++ lf ∷ [];
+      said = codes "refused: WrongCount\n";
+    }
 
 abbrev pub refused_in_order : List Row
 refused_in_order =
@@ -317,7 +323,8 @@ used =
     ∷ row "deliver 8" "echo 1.2 applied create text 50 120 40 10 Draft\necho 3.2 dropped by 4.3 fill 1.1 FFCC00\necho 4.2 reworked 1 group 1.1 0 0 1.2 0 0\necho 5.2 applied move 4.2 10 10\ndelivered 8"
     ∷ row "send 1 3" "mail 9"
     ∷ row "deliver 9" "echo 3.1 dropped by 3.3 move 2.1 200 40\necho 4.1 dropped by 4.3 text 1.1 Begin\necho 5.1 applied raise 1.1\ndelivered 9"
-    ∷ row "at 1 status\nat 2 status\nat 3 status" "held 12 kept 0 line 5 clock 5\nheld 12 kept 0 line 5 clock 5\nheld 12 kept 0 line 5 clock 5"
+    ∷ row "at 1 status\nat 2 status\nat 3 status"
+    "held 12 kept 0 line 5 clock 5\nheld 12 kept 0 line 5 clock 5\nheld 12 kept 0 line 5 clock 5"
     ∷ row_of "at 1 show" settled
     ∷ row_of "at 2 show" settled
     ∷ row_of "at 3 show" settled

@@ -6,7 +6,8 @@ use Rattle.gd_events.specs.Events.{Event}
 use Rattle.gd_asked.specs.declared.command.Command.{Command}
 use Rattle.gd_asked.specs.declared.command.Command.TheVariants.{Node, Rejoin}
 use Rattle.gd_reference.specs.Rejoin.{Found, Events, Faulty, Other}
-use Rattle.gd_rows.specs.Worked.{event, header, header_three, header_three_bytes, header_two, prints_of, square, tie_events, tie_log, works_of}
+use Rattle.gd_rows.specs.Worked.{event, header, header_three, header_three_bytes, header_two, prints_of, square}
+use Rattle.gd_rows.specs.Worked.{tie_events, tie_log, works_of}
 use Rattle.gd_rows.specs.WorkedNodes.{answer_row}
 
 -- ---- what there is to go on from

@@ -17,7 +17,8 @@ use Rattle.gd_lines.specs.Edits.{Edit}
 use Rattle.gd_reference.specs.Offers.{take_frame}
 use Rattle.gd_base.specs.Notes.{no_note}
 use Rattle.gd_reference.specs.SlowSite.{SlowSite, new_site}
-use Rattle.gd_reference.specs.World.{World, Step, Edits, Names, Focuses, At, Send, Deliver, Restart, Editing, Taking, after}
+use Rattle.gd_reference.specs.World.{World, Step, Edits, Names, Focuses, At, Send, Deliver, Restart, Editing, Taking}
+use Rattle.gd_reference.specs.World.{after}
 use Rattle.gd_rows.specs.Worked.{at_stamp, event, member}
 
 abbrev pub site_status : ℕ → ℕ → ℕ → ℕ → SiteStatus
@@ -206,8 +207,8 @@ closure_frame =
     }
 
 -- The create bears on nothing behind it. The group takes a member that the group 4.1 took, so that one and its move are
--- redone. Both are recorded behind one gate: with their gates and checks the records in front have 33, 33, 22, 46 and 30
--- bytes.
+-- redone. Both are recorded behind one gate: with their gates and checks the records in front have 33, 33, 22, 46 and
+-- 30 bytes.
 abbrev pub closure_effects : List Effect
 closure_effects =
     Work 1
@@ -353,7 +354,8 @@ stored_world = after 2 7 (noted_steps ++ Restart 1 1 (Editing (new_rect (pos 20)
 -- a mail of two events, whose receiver stops when it has stored the first
 abbrev pub taken_world : World
 taken_world =
-    after 2 7 (At 1 (Edits (new_rect (pos 0))) ∷ At 1 (Edits (new_rect (pos 20))) ∷ Send 1 2 ∷ Restart 2 1 (Taking 0) ∷ [])
+    after 2 7 (At 1 (Edits (new_rect (pos 0))) ∷ At 1 (Edits (new_rect (pos 20))) ∷ Send 1 2 ∷ Restart 2 1 (Taking 0)
+    ∷ [])
 
 -- ---- two mails of which the later one comes first
 

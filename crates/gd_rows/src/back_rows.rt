@@ -18,7 +18,16 @@ ghost use Rattle.gd_reference.specs.SlowSite.{new_site};
 ghost use Rattle.gd_reference.specs.TakeBack.{NothingBack, Refused, after_edit, after_turn, turn};
 ghost use Rattle.gd_rows.specs.Worked.{at_stamp, event, square_line};
 ghost use Rattle.gd_rows.specs.WorkedNodes.{asked};
-ghost use Rattle.gd_rows.specs.WorkedBacks.{all_again, all_again_held, all_again_printed, all_back, all_back_held, all_back_printed, backs_of, behind, dressed, dressed_backs, dressed_text, far, far_shown, forgetting, forgotten, forgotten_printed, gestures_of, gone_site, gone_turns, kept_on_the_way, last_site, late_fill, late_move, late_stroke, lost_backs, made_and_moved, made_and_taken, moved_backs, nested, nested_backs, nested_shown, one, owing, place_of, prints, put_back, refusing, refusing_printed, regrouped, regrouped_again, regrouped_backs, regrouped_shown, restored, restored_backs, restored_text, restoring, set_and_taken, site_behind, stopping, stopping_again, three, told_to_one, told_to_two, turned, turns, two, unacceptable, undone_steps, unjoined};
+ghost use Rattle.gd_rows.specs.WorkedBacks.{all_again, all_again_held, all_again_printed, all_back, all_back_held};
+ghost use Rattle.gd_rows.specs.WorkedBacks.{all_back_printed, backs_of, behind, dressed, dressed_backs, dressed_text};
+ghost use Rattle.gd_rows.specs.WorkedBacks.{far, far_shown, forgetting, forgotten, forgotten_printed, gestures_of};
+ghost use Rattle.gd_rows.specs.WorkedBacks.{gone_site, gone_turns, kept_on_the_way, last_site, late_fill, late_move};
+ghost use Rattle.gd_rows.specs.WorkedBacks.{late_stroke, lost_backs, made_and_moved, made_and_taken, moved_backs};
+ghost use Rattle.gd_rows.specs.WorkedBacks.{nested, nested_backs, nested_shown, one, owing, place_of, prints, put_back};
+ghost use Rattle.gd_rows.specs.WorkedBacks.{refusing, refusing_printed, regrouped, regrouped_again, regrouped_backs};
+ghost use Rattle.gd_rows.specs.WorkedBacks.{regrouped_shown, restored, restored_backs, restored_text, restoring};
+ghost use Rattle.gd_rows.specs.WorkedBacks.{set_and_taken, site_behind, stopping, stopping_again, three, told_to_one};
+ghost use Rattle.gd_rows.specs.WorkedBacks.{told_to_two, turned, turns, two, unacceptable, undone_steps, unjoined};
 
 /// Two edits are taken back, the second first, and then nothing is left; then they are done again, the first first.
 /// Each undo and each redo is an event.
@@ -44,11 +53,13 @@ pub fn what_makes_and_takes_objects_is_taken_back()
     ensures order { dressed.backs ≡ backs_of dressed_backs [] }
     ensures backs { AllByRecursion (λ r. (after_edit dressed r.edit).backs
         ≡ backs_of (r.back ∷ dressed_backs) []) made_and_taken }
-    ensures taken { AllByRecursion (λ r. text (picture (after_turn (after_edit dressed r.edit) Undo).held)
+    ensures taken { AllByRecursion
+        (λ r. text (picture (after_turn (after_edit dressed r.edit) Undo).held)
         ≡ dressed_text) made_and_taken }
     ensures again { AllByRecursion (λ r. (after_turn (after_edit dressed r.edit) Undo).backs
         ≡ backs_of dressed_backs (r.again ∷ [])) made_and_taken }
-    ensures redone { AllByRecursion (λ r. (turned (after_edit dressed r.edit) (Undo ∷ Redo ∷ [])).backs
+    ensures redone { AllByRecursion
+        (λ r. (turned (after_edit dressed r.edit) (Undo ∷ Redo ∷ [])).backs
         ≡ backs_of (r.back ∷ dressed_backs) []) made_and_taken }
 {}
 
@@ -56,11 +67,13 @@ pub fn what_makes_and_takes_objects_is_taken_back()
 pub fn what_sets_a_part_is_taken_back()
     ensures backs { AllByRecursion (λ r. (after_edit dressed r.edit).backs
         ≡ backs_of (r.back ∷ dressed_backs) []) set_and_taken }
-    ensures taken { AllByRecursion (λ r. text (picture (after_turn (after_edit dressed r.edit) Undo).held)
+    ensures taken { AllByRecursion
+        (λ r. text (picture (after_turn (after_edit dressed r.edit) Undo).held)
         ≡ dressed_text) set_and_taken }
     ensures again { AllByRecursion (λ r. (after_turn (after_edit dressed r.edit) Undo).backs
         ≡ backs_of dressed_backs (r.again ∷ [])) set_and_taken }
-    ensures redone { AllByRecursion (λ r. (turned (after_edit dressed r.edit) (Undo ∷ Redo ∷ [])).backs
+    ensures redone { AllByRecursion
+        (λ r. (turned (after_edit dressed r.edit) (Undo ∷ Redo ∷ [])).backs
         ≡ backs_of (r.back ∷ dressed_backs) []) set_and_taken }
 {}
 
@@ -69,9 +82,11 @@ pub fn what_sets_a_part_is_taken_back()
 pub fn groups_are_taken_back_one_by_one()
     ensures backs { (behind regrouped).backs ≡ backs_of regrouped_backs [] }
     ensures again { (behind (regrouped ++ turns 8 Undo)).backs ≡ backs_of [] regrouped_again }
-    ensures undone { AllByRecursion (λ r. text (picture (behind (regrouped ++ turns (8 - r.0) Undo)).held)
+    ensures undone { AllByRecursion
+        (λ r. text (picture (behind (regrouped ++ turns (8 - r.0) Undo)).held)
         ≡ r.1) regrouped_shown }
-    ensures redone { AllByRecursion (λ r. text (picture (behind (regrouped ++ turns 8 Undo ++ turns r.0 Redo)).held)
+    ensures redone { AllByRecursion
+        (λ r. text (picture (behind (regrouped ++ turns 8 Undo ++ turns r.0 Redo)).held)
         ≡ r.1) regrouped_shown }
 {}
 
@@ -80,7 +95,8 @@ pub fn links_come_back()
     ensures backs { (behind nested).backs ≡ backs_of nested_backs [] }
     ensures undone { AllByRecursion (λ r. text (picture (behind (nested ++ turns r.0 Undo)).held)
         ≡ r.2) nested_shown }
-    ensures redone { AllByRecursion (λ r. text (picture (behind (nested ++ turns 8 Undo ++ turns r.1 Redo)).held)
+    ensures redone { AllByRecursion
+        (λ r. text (picture (behind (nested ++ turns 8 Undo ++ turns r.1 Redo)).held)
         ≡ r.2) nested_shown }
 {}
 
@@ -113,22 +129,25 @@ pub fn what_is_refused_changes_nothing()
     ensures clock_end { after_turn (after_turn last_site Undo) Redo ≡ after_turn last_site Undo }
 {}
 
-/// Where nothing is left, that comes first, then the greatest clock, and then the number of the site's events. There has to be
-/// room for all events of the gesture.
+/// Where nothing is left, that comes first, then the greatest clock, and then the number of the site's events. There
+/// has to be room for all events of the gesture.
 pub fn each_refusal_of_an_undo_and_a_redo()
     ensures nothing { turn (new_site 1 1 7) Undo ≡ Err NothingBack }
     ensures nothing_again { turn (new_site 1 1 7) Redo ≡ Err NothingBack }
-    ensures last_clock { turn last_site Undo ≡ Ok (event 281474976710655 1 2 (op.Delete (at_stamp 281474976710654 1))
+    ensures last_clock { turn last_site Undo
+        ≡ Ok (event 281474976710655 1 2 (op.Delete (at_stamp 281474976710654 1))
         ∷ []) }
     ensures clock_end { turn (after_turn last_site Undo) Redo ≡ Err (Refused why.ClockEnd) }
     ensures nothing_first { turn (after_turn last_site Undo) Undo ≡ Err NothingBack }
     ensures two_clocks { turn (owing 2 last_site) Undo ≡ Err (Refused why.ClockEnd) }
     ensures last_number { IsOk (turn (owing 65535 (new_site 1 1 7)) Undo) }
-    ensures session_full { turn (owing 65536 (new_site 1 1 7)) Undo ≡ Err (Refused why.SessionFull) }
+    ensures session_full { turn (owing 65536 (new_site 1 1 7)) Undo
+        ≡ Err (Refused why.SessionFull) }
     ensures session_filled { turn (owing 65535 (behind made_and_moved)) Undo ≡ Err (Refused why.SessionFull) }
     ensures clock_first { turn (owing 65536 last_site) Undo ≡ Err (Refused why.ClockEnd) }
     ensures nothing_said { turn_replies (Err NothingBack) ≡ reply.Refused refusal.NothingBack ∷ [] }
-    ensures clock_said { turn_replies (Err (Refused why.ClockEnd)) ≡ reply.Refused refusal.ClockEnd ∷ [] }
+    ensures clock_said { turn_replies (Err (Refused why.ClockEnd))
+        ≡ reply.Refused refusal.ClockEnd ∷ [] }
 {}
 
 /// An undo reaches other sites as any edit does. What comes from them leaves what can be taken back, and a restart
@@ -140,7 +159,8 @@ pub fn an_undo_is_an_edit()
     ensures stored_again { (site_behind 1 (stopping_again 1)).held ≡ take 3 all_back_held
         ++ event 4 1 4 (place_of 1 1 50 60) ∷ [] }
     ensures lost_again { (site_behind 1 (stopping_again 0)).held ≡ take 3 all_back_held }
-    ensures forgotten { AllByRecursion (λ stored. (site_behind 1 (stopping stored)).backs ≡ no_backs)
+    ensures forgotten { AllByRecursion
+        (λ stored. (site_behind 1 (stopping stored)).backs ≡ no_backs)
         (0 ∷ 1 ∷ []) }
     ensures forgotten_again { AllByRecursion (λ stored. (site_behind 1 (stopping_again stored)).backs ≡ no_backs)
         (0 ∷ 1 ∷ []) }
@@ -160,13 +180,17 @@ pub fn an_undo_of_what_another_deleted()
 /// that.
 pub fn late_events_beside_an_undo_of_a_delete()
     ensures put_back { slice_get (site_behind 1 restoring).held 3 ≡ Some put_back }
-    ensures one { events_replies (site_behind 1 restoring) (late_move ∷ late_stroke ∷ late_fill ∷ [])
+    ensures one { events_replies (site_behind 1 restoring)
+        (late_move ∷ late_stroke ∷ late_fill ∷ [])
         ≡ told_to_one }
-    ensures two { events_replies (site_behind 2 restoring) (site_behind 1 restoring).held ≡ told_to_two }
+    ensures two { events_replies (site_behind 2 restoring) (site_behind 1 restoring).held
+        ≡ told_to_two }
     ensures shown { AllByRecursion (λ site. text (picture (site_behind site restored).held)
         ≡ restored_text) (1 ∷ 2 ∷ []) }
     ensures again { (after_turn (site_behind 1 restored) Redo).backs ≡ restored_backs }
-    ensures lost { AllByRecursion (λ r. (turned (site_behind 2 restored) r.0).backs ≡ r.1) lost_backs }
-    ensures lost_shown { text (picture (turned (site_behind 2 restored) (Undo ∷ Undo ∷ Undo ∷ [])).held)
+    ensures lost { AllByRecursion (λ r. (turned (site_behind 2 restored) r.0).backs ≡ r.1)
+        lost_backs }
+    ensures lost_shown { text
+        (picture (turned (site_behind 2 restored) (Undo ∷ Undo ∷ Undo ∷ [])).held)
         ≡ square_line "1.1" "-" "0 0" ∷ codes "end 1\n" ∷ [] }
 {}

@@ -5,9 +5,14 @@ ghost use Rattle.std.specs.Prelude.{◌≡◌, ◌++◌, ◌∷◌, [], Some, fa
 ghost use Rattle.gd_effects.specs.Effects.{Print, Work};
 ghost use Rattle.gd_reference.specs.Said.{all_said};
 ghost use Rattle.gd_reference.specs.World.{start};
-ghost use Rattle.gd_worlds.specs.Churn.{churn_effects, churned, ids_made, is_same, new_churning, no_counts, rounds_to_all, stepped, summary, times, with_reply};
+ghost use Rattle.gd_worlds.specs.Churn.{churn_effects, churned, ids_made, is_same, new_churning, no_counts};
+ghost use Rattle.gd_worlds.specs.Churn.{rounds_to_all, stepped, summary, times, with_reply};
 ghost use Rattle.gd_rows.specs.WorkedRehearsals.{empty_frame};
-ghost use Rattle.gd_rows.specs.WorkedChurns.{counted_replies, counts, counts_printed, drawn_by, drawn_table, eight_lines, eight_printed, eight_works, group_lines, group_made, idle_table, lines_drawn, making, nothing_printed, numbers, one_gone, one_made, seeded, sends, sent_to, seven_printed, seven_works, three_made, words};
+ghost use Rattle.gd_rows.specs.WorkedChurns.{counted_replies, counts, counts_printed, drawn_by, drawn_table};
+ghost use Rattle.gd_rows.specs.WorkedChurns.{eight_lines, eight_printed, eight_works, group_lines, group_made};
+ghost use Rattle.gd_rows.specs.WorkedChurns.{idle_table, lines_drawn, making, nothing_printed, numbers, one_gone};
+ghost use Rattle.gd_rows.specs.WorkedChurns.{one_made, seeded, sends, sent_to, seven_printed, seven_works, three_made};
+ghost use Rattle.gd_rows.specs.WorkedChurns.{words};
 
 /// The first words of the generator of a seed.
 pub fn words_are_drawn()

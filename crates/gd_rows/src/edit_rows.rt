@@ -9,7 +9,8 @@ ghost use Rattle.gd_base.specs.declared.shape.Shape.TheVariants.{Rect};
 ghost use Rattle.gd_reference.specs.Judging.{judged, edit, edit_by};
 ghost use Rattle.gd_rows.specs.Worked.{event};
 ghost use Rattle.gd_rows.specs.WorkedWorlds.{new_rect, group_of};
-ghost use Rattle.gd_rows.specs.WorkedEdits.{grouped_site, grouped_edits, far_site, far_edits, farther_site, listener_at, raised};
+ghost use Rattle.gd_rows.specs.WorkedEdits.{grouped_site, grouped_edits, far_site, far_edits, farther_site};
+ghost use Rattle.gd_rows.specs.WorkedEdits.{listener_at, raised};
 
 /// The first refusal of an edit that applies, and what an edit that is not refused becomes.
 pub fn an_edit_is_judged()

@@ -3,7 +3,9 @@
 
 ghost use Rattle.std.specs.Prelude.{◌≡◌};
 ghost use Rattle.gd_outside.specs.Statuses.{status_number};
-ghost use Rattle.gd_outside.specs.declared.status.Status.TheVariants.{BadLog, BadView, Done, JournalFault, LineLimit, LinkFault, NoMemory, OtherJournal, ReadFault, Usage, WriteFault};
+ghost use Rattle.gd_outside.specs.declared.status.Status.TheVariants.{BadLog, BadView, Done, JournalFault, LineLimit};
+ghost use Rattle.gd_outside.specs.declared.status.Status.TheVariants.{LinkFault, NoMemory, OtherJournal, ReadFault};
+ghost use Rattle.gd_outside.specs.declared.status.Status.TheVariants.{Usage, WriteFault};
 
 /// Each end has its number. 1 and 10 are no end's.
 pub fn ends_have_their_numbers()

@@ -9,7 +9,9 @@ ghost use Rattle.gd_lines.specs.declared.command.Command.TheVariants as command;
 ghost use Rattle.gd_reference.specs.Fitting.{in_a_frame};
 ghost use Rattle.gd_reference.specs.NodeRun.{answers};
 ghost use Rattle.gd_reference.specs.Offers.{window};
-ghost use Rattle.gd_rows.specs.WorkedFrames.{check_value, deleted, deleted_effects, fits, full_site, lagging_effects, lagging_entries, lagging_site, moved, moved_effects, moves_frame, moves_from, moves_row, numbers_of, wide_numbers, wide_site};
+ghost use Rattle.gd_rows.specs.WorkedFrames.{check_value, deleted, deleted_effects, fits, full_site, lagging_effects};
+ghost use Rattle.gd_rows.specs.WorkedFrames.{lagging_entries, lagging_site, moved, moved_effects, moves_frame};
+ghost use Rattle.gd_rows.specs.WorkedFrames.{moves_from, moves_row, numbers_of, wide_numbers, wide_site};
 ghost use Rattle.gd_rows.specs.WorkedNodes.{asked};
 
 /// The checksum is CRC-32C.
@@ -29,17 +31,20 @@ pub fn a_full_frame_is_read_and_written()
     ensures written { frame_bytes moves_frame ≡ moves_row }
 {}
 
-/// An edit sends nothing to a site for which older events fill the frame, and a poll sends these. One that fits is sent.
+/// An edit sends nothing to a site for which older events fill the frame, and a poll sends these. One that fits is
+/// sent.
 pub fn an_edit_behind_older_ones()
     ensures waits { answers full_site [] (asked (command.Edit moved ∷ command.Poll ∷ []))
         ≡ moved_effects }
     ensures goes { answers full_site [] (asked (command.Edit deleted ∷ [])) ≡ deleted_effects }
 {}
 
-/// A poll sends a window of frames to a site of which it took a frame: in turn, and then the first ones once more. A site of
-/// which it took none is sent the first frame alone. Where no event is left behind that one, it is the whole window.
+/// A poll sends a window of frames to a site of which it took a frame: in turn, and then the first ones once more. A
+/// site of which it took none is sent the first frame alone. Where no event is left behind that one, it is the whole
+/// window.
 pub fn a_window_for_a_site_that_was_heard()
-    ensures tried { answers lagging_site lagging_entries (asked (command.Poll ∷ [])) ≡ lagging_effects }
+    ensures tried { answers lagging_site lagging_entries (asked (command.Poll ∷ []))
+        ≡ lagging_effects }
     ensures most { map numbers_of (window (wide_site 25) true 2) ≡ wide_numbers }
     ensures least { map numbers_of (window (wide_site 1) true 2) ≡ (1 ∷ []) ∷ [] }
 {}

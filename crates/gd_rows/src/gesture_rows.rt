@@ -10,10 +10,14 @@ ghost use Rattle.gd_reference.specs.NodeRun.{with_waiting};
 ghost use Rattle.gd_rows.specs.WorkedBacks.{behind};
 ghost use Rattle.gd_rows.specs.WorkedInputs.{handed};
 ghost use Rattle.gd_rows.specs.WorkedNodes.{alone, asked, listening, repeat_entries};
-ghost use Rattle.gd_rows.specs.WorkedGestures.{begun, between, full_lines, full_printed, gesture, gesture_effects, gesture_journal, kept_on_the_way, one_more, pair_effects, pair_entries, pair_journal, polled_lines, polled_printed, refused_input, refused_printed, too_many, turned_effects, turned_gesture, turned_journal, unfinished_inputs, waiting};
+ghost use Rattle.gd_rows.specs.WorkedGestures.{begun, between, full_lines, full_printed, gesture, gesture_effects};
+ghost use Rattle.gd_rows.specs.WorkedGestures.{gesture_journal, kept_on_the_way, one_more, pair_effects, pair_entries};
+ghost use Rattle.gd_rows.specs.WorkedGestures.{pair_journal, polled_lines, polled_printed, refused_input};
+ghost use Rattle.gd_rows.specs.WorkedGestures.{refused_printed, too_many, turned_effects, turned_gesture};
+ghost use Rattle.gd_rows.specs.WorkedGestures.{turned_journal, unfinished_inputs, waiting};
 
-/// Nothing is done until the `end`. Then come the steps of all events, one record of them, a line for each line, and one frame
-/// for each other site.
+/// Nothing is done until the `end`. Then come the steps of all events, one record of them, a line for each line, and
+/// one frame for each other site.
 pub fn a_gesture_is_done_at_its_end()
     ensures effects { listening [] (gesture between) ≡ gesture_effects }
     ensures journal { journal_after [] gesture_effects ≡ gesture_journal }
@@ -26,7 +30,8 @@ pub fn a_gesture_is_taken_back_as_one()
     ensures kept { AllByRecursion (λ r. (behind r.0).backs ≡ r.1) kept_on_the_way }
 {}
 
-/// An `end` without a `begin` is refused, and so is what is no edit within a gesture. One that never ends leaves nothing.
+/// An `end` without a `begin` is refused, and so is what is no edit within a gesture. One that never ends leaves
+/// nothing.
 pub fn what_is_no_edit_is_refused_in_a_gesture()
     ensures printed { printed (handed [] refused_input) ≡ refused_printed }
     ensures polled { printed (listening repeat_entries polled_lines) ≡ polled_printed }

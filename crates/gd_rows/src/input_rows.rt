@@ -7,8 +7,11 @@ ghost use Rattle.gd_lines.specs.declared.command.Command.TheVariants as command;
 ghost use Rattle.gd_outside.specs.declared.status.Status.TheVariants.{Done, LineLimit};
 ghost use Rattle.gd_reference.specs.InputLines.{Over, is_long, lf, lines_of, whole_lines};
 ghost use Rattle.gd_reference.specs.NodeRun.{end_after, node_lines};
-ghost use Rattle.gd_rows.specs.WorkedNodes.{alone, asked, failing_entries, failing_printed, repeat_effects, repeat_entries};
-ghost use Rattle.gd_rows.specs.WorkedInputs.{answered, blank, cr, handed, heard_long, heard_of, label_input, label_printed, letters, letters_quit, note_input, note_printed, quit_letters};
+ghost use Rattle.gd_rows.specs.WorkedNodes.{alone, asked, failing_entries, failing_printed, repeat_effects};
+ghost use Rattle.gd_rows.specs.WorkedNodes.{repeat_entries};
+ghost use Rattle.gd_rows.specs.WorkedInputs.{answered, blank, cr, handed, heard_long, heard_of, label_input};
+ghost use Rattle.gd_rows.specs.WorkedInputs.{label_printed, letters, letters_quit, note_input, note_printed};
+ghost use Rattle.gd_rows.specs.WorkedInputs.{quit_letters};
 
 /// A line begins only where a byte stands, and the last one needs no LF. A CR is a byte of its line.
 pub fn an_input_is_cut_into_lines()

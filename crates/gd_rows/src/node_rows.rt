@@ -6,7 +6,11 @@ ghost use Rattle.gd_lines.specs.declared.command.Command.TheVariants as command;
 ghost use Rattle.gd_effects.specs.Effects.{journal_after, printed, tried};
 ghost use Rattle.gd_reference.specs.NodeRun.{node_effects};
 ghost use Rattle.gd_rows.specs.WorkedWorlds.{new_rect};
-ghost use Rattle.gd_rows.specs.WorkedNodes.{alone, asked, created_effects, full_entries, full_printed, long_entries, long_printed, ahead_entries, ahead_printed, failing_entries, failing_printed, listening, noting_lines, noting_printed, refused_entries, refused_printed, repeat_effects, repeat_entries, repeat_journal, sure_entries, sure_printed, turned_effects, turned_journal, turned_lines};
+ghost use Rattle.gd_rows.specs.WorkedNodes.{alone, asked, created_effects, full_entries, full_printed, long_entries};
+ghost use Rattle.gd_rows.specs.WorkedNodes.{long_printed, ahead_entries, ahead_printed, failing_entries};
+ghost use Rattle.gd_rows.specs.WorkedNodes.{failing_printed, listening, noting_lines, noting_printed, refused_entries};
+ghost use Rattle.gd_rows.specs.WorkedNodes.{refused_printed, repeat_effects, repeat_entries, repeat_journal};
+ghost use Rattle.gd_rows.specs.WorkedNodes.{sure_entries, sure_printed, turned_effects, turned_journal, turned_lines};
 
 /// A frame that comes three times is taken once, and answered once.
 pub fn a_repeated_frame()

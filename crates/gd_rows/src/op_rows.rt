@@ -9,7 +9,12 @@ ghost use Rattle.gd_grammar.specs.FieldBytes.{length_bytes};
 ghost use Rattle.gd_grammar.specs.Fields.{length_at};
 ghost use Rattle.gd_json.specs.EventsJson.{event_json};
 ghost use Rattle.gd_rows.specs.Worked.{fault_at, header_three};
-ghost use Rattle.gd_rows.specs.WorkedOps.{AllShort, ChangesRead, connect_changes, connected_log, dash_changes, dashed_log, disband_changes, disbanded_log, joined_events, joined_json, joined_log, joined_logs, lengths, no_lengths, no_styles, own_group_log, reconnect_changes, reconnected_log, reopen_changes, reopened_log, rerank_changes, reranked_log, restore_changes, restored_log, style_changes, styled_log, tag_rows, turned_events, turned_json, turned_log, whole_logs};
+ghost use Rattle.gd_rows.specs.WorkedOps.{AllShort, ChangesRead, connect_changes, connected_log, dash_changes};
+ghost use Rattle.gd_rows.specs.WorkedOps.{dashed_log, disband_changes, disbanded_log, joined_events, joined_json};
+ghost use Rattle.gd_rows.specs.WorkedOps.{joined_log, joined_logs, lengths, no_lengths, no_styles, own_group_log};
+ghost use Rattle.gd_rows.specs.WorkedOps.{reconnect_changes, reconnected_log, reopen_changes, reopened_log};
+ghost use Rattle.gd_rows.specs.WorkedOps.{rerank_changes, reranked_log, restore_changes, restored_log, style_changes};
+ghost use Rattle.gd_rows.specs.WorkedOps.{styled_log, tag_rows, turned_events, turned_json, turned_log, whole_logs};
 
 /// Each has its bytes, and is read from them. Each is written as one of a line of JSON.
 pub fn operations_are_read_and_written()

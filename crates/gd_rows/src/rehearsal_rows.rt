@@ -5,7 +5,11 @@ ghost use Rattle.std.specs.Prelude.{◌≡◌, ◌∷◌, [], Some, codes, slice
 ghost use Rattle.gd_effects.specs.Effects.{Print, Work, printed};
 ghost use Rattle.gd_outside.specs.declared.status.Status.TheVariants.{Done, LineLimit};
 ghost use Rattle.gd_worlds.specs.Rehearsal.{rehearsal_after, rehearsal_effects, rehearsal_end, rehearsal_lines};
-ghost use Rattle.gd_rows.specs.WorkedRehearsals.{answers, behind_blanks, costs, covered, delivered_late, empty_frame, heard_of, hidden, lowered, noted, prints, quitting, quitting_printed, refused_in_order, refused_in_world, regrouped, rehearsed, reworked, reworked_effects, reworked_shown, taken_back, taken_between, too_far, typed, used};
+ghost use Rattle.gd_rows.specs.WorkedRehearsals.{answers, behind_blanks, costs, covered, delivered_late, empty_frame};
+ghost use Rattle.gd_rows.specs.WorkedRehearsals.{heard_of, hidden, lowered, noted, prints, quitting, quitting_printed};
+ghost use Rattle.gd_rows.specs.WorkedRehearsals.{refused_in_order, refused_in_world, regrouped, rehearsed, reworked};
+ghost use Rattle.gd_rows.specs.WorkedRehearsals.{reworked_effects, reworked_shown, taken_back, taken_between, too_far};
+ghost use Rattle.gd_rows.specs.WorkedRehearsals.{typed, used};
 
 /// A late move that a later one covers is dropped, for no step.
 pub fn a_covered_move()
@@ -18,8 +22,8 @@ pub fn a_raise_that_a_lower_covers()
     ensures { prints 2 lowered ≡ answers lowered }
 {}
 
-/// A late group has the events redone that depend on it, one of them through the other. The steps of a line come before what
-/// is printed of it; nothing is recorded, and no frame is tried.
+/// A late group has the events redone that depend on it, one of them through the other. The steps of a line come before
+/// what is printed of it; nothing is recorded, and no frame is tried.
 pub fn two_groups_at_once()
     ensures effects { rehearsed 2 (typed reworked) ≡ reworked_effects }
     ensures printed { prints 2 reworked_shown ≡ answers reworked_shown }
@@ -66,8 +70,8 @@ pub fn three_sites_draw()
     ensures cost { costs 3 used ≡ 42 }
 {}
 
-/// A site that isn't there, a send from a site to itself, and a number of no mail, 0 among them, are refused, and nothing is
-/// done.
+/// A site that isn't there, a send from a site to itself, and a number of no mail, 0 among them, are refused, and
+/// nothing is done.
 pub fn what_a_world_refuses()
     ensures printed { prints 2 refused_in_world ≡ answers refused_in_world }
     ensures site { rehearsed 2 (codes "at 3 create rect 0 0 10 10") ≡ Print (codes "refused: NoSite\n")

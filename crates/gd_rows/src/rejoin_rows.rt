@@ -11,7 +11,11 @@ ghost use Rattle.gd_reference.specs.Rejoin.{Events, found, rejoined, rejoined_he
 ghost use Rattle.gd_run.specs.Runs.{cut_of, effects_of, end_of};
 ghost use Rattle.gd_rows.specs.Worked.{header_three, prints_of, tie_events};
 ghost use Rattle.gd_rows.specs.WorkedNodes.{asked, repeat_entries, repeat_journal};
-ghost use Rattle.gd_rows.specs.WorkedRejoins.{again_effects, begins, closure_rejoined, cut_journals, edit_effects, edit_input, edited_events, edited_journal, faulty_journals, held_effects, new_effects, noting_input, noting_journal, noting_printed, notes_input, notes_printed, other_journals, rejoins, undos_input, undos_printed, whole_journals, worn_journal};
+ghost use Rattle.gd_rows.specs.WorkedRejoins.{again_effects, begins, closure_rejoined, cut_journals, edit_effects};
+ghost use Rattle.gd_rows.specs.WorkedRejoins.{edit_input, edited_events, edited_journal, faulty_journals, held_effects};
+ghost use Rattle.gd_rows.specs.WorkedRejoins.{new_effects, noting_input, noting_journal, noting_printed, notes_input};
+ghost use Rattle.gd_rows.specs.WorkedRejoins.{notes_printed, other_journals, rejoins, undos_input, undos_printed};
+ghost use Rattle.gd_rows.specs.WorkedRejoins.{whole_journals, worn_journal};
 ghost use Rattle.gd_rows.specs.WorkedWorlds.{closure_held};
 
 /// A log's events are found where its closing gate is there, whatever stands behind it.
@@ -29,8 +33,8 @@ pub fn another_journal_is_found()
     ensures { AllByRecursion (λ r. found header_three r.0 ≡ r.1) other_journals }
 {}
 
-/// A fault of the log counts before its header. Among these are a check of other events, and a gate that is neither open
-/// nor closed.
+/// A fault of the log counts before its header. Among these are a check of other events, and a gate that is neither
+/// open nor closed.
 pub fn a_fault_is_found_first()
     ensures { AllByRecursion (λ r. found header_three r.0 ≡ r.1) faulty_journals }
 {}

@@ -19,7 +19,14 @@ ghost use Rattle.gd_json.specs.Worked.{tie_picture_json, tie_events_json};
 ghost use Rattle.gd_asked.specs.declared.command.Command.TheVariants.{Churn, Rehearse};
 ghost use Rattle.gd_options.specs.declared.format.Format.TheVariants.{Json, Events};
 ghost use Rattle.gd_lines.specs.Replies.{usage_line};
-ghost use Rattle.gd_rows.specs.Worked.{header, header_two, header_bytes, empty_log, tie_log, tie_events, tie_text, rank_events, ellipse_lowered, rank_text, effect_before_cause, end_alone, replay, replays, counted, tie_counts, prints_of, works_of, cut_text, moved_log, moved_events, moved_text, styled_log, styled_events, styled_text, grouped_log, grouped_events, regrouped_events, regrouped_text, nested_events, nested_text, checked_faults, frame_row, frame_value, at_stamp, moves_held, late_move, late_delete, tied_held, late_group, undone_by_the_group, log_faults, lowered_log, lowered_events, frame_faults, last_move};
+ghost use Rattle.gd_rows.specs.Worked.{header, header_two, header_bytes, empty_log, tie_log, tie_events, tie_text};
+ghost use Rattle.gd_rows.specs.Worked.{rank_events, ellipse_lowered, rank_text, effect_before_cause, end_alone, replay};
+ghost use Rattle.gd_rows.specs.Worked.{replays, counted, tie_counts, prints_of, works_of, cut_text, moved_log};
+ghost use Rattle.gd_rows.specs.Worked.{moved_events, moved_text, styled_log, styled_events, styled_text, grouped_log};
+ghost use Rattle.gd_rows.specs.Worked.{grouped_events, regrouped_events, regrouped_text, nested_events, nested_text};
+ghost use Rattle.gd_rows.specs.Worked.{checked_faults, frame_row, frame_value, at_stamp, moves_held, late_move};
+ghost use Rattle.gd_rows.specs.Worked.{late_delete, tied_held, late_group, undone_by_the_group, log_faults};
+ghost use Rattle.gd_rows.specs.Worked.{lowered_log, lowered_events, frame_faults, last_move};
 ghost use Rattle.gd_rows.specs.WorkedChurns.{nothing_printed};
 
 /// A log without events prints no object, with its closed gate and without.
@@ -52,15 +59,16 @@ pub fn a_move_and_a_label_are_shown()
         ≡ works_of (1 ∷ 1 ∷ []) ++ prints_of moved_text }
 {}
 
-/// A size, both colours, the width and a label are those that were set last, and what is set of no object changes nothing.
+/// A size, both colours, the width and a label are those that were set last, and what is set of no object changes
+/// nothing.
 pub fn a_look_is_set()
     ensures read { log styled_log ≡ Ok (header, styled_events) }
     ensures printed { effects_of replay [] styled_log []
         ≡ works_of (1 ∷ 1 ∷ 1 ∷ 1 ∷ 1 ∷ 1 ∷ 1 ∷ []) ++ prints_of styled_text }
 {}
 
-/// A raise lifts its object above all whose creates and raises come before it by their stamps, and a lower puts its object
-/// below all.
+/// A raise lifts its object above all whose creates and raises come before it by their stamps, and a lower puts its
+/// object below all.
 pub fn the_last_raise_is_on_top()
     ensures raised { text (picture rank_events) ≡ rank_text }
     ensures lowered { text (picture ellipse_lowered) ≡ rank_text }
@@ -109,7 +117,8 @@ pub fn arrivals_are_counted()
     ensures before_its_cause { tally effect_before_cause ≡ counted 1 1 0 0 }
 {}
 
-/// Where a move is dropped, its before-value is that of the move that drops it, which now finds the place that the dropped one sets.
+/// Where a move is dropped, its before-value is that of the move that drops it, which now finds the place that the
+/// dropped one sets.
 pub fn a_dropped_event_is_spliced_in()
     ensures { splice (at_stamp 2 2) late_move.op (at_stamp 3 1) last_move.op
         (Some (Sets (at_stamp 1 1) (ToPlace (pos 50) (pos 50))))

@@ -3,7 +3,8 @@
 
 ghost use Rattle.std.specs.Prelude.{◌≡◌, ◌++◌, ◌∷◌, [], Ok};
 ghost use Rattle.gd_snapshots.specs.SnapshotBytes.{snapshot_at, snapshot_bytes};
-ghost use Rattle.gd_rows.specs.WorkedSnapshots.{AllShort, ChangesRead, full_changes, full_snapshot, full_snapshot_bytes, tie_changes, tie_snapshot, tie_snapshot_bytes};
+ghost use Rattle.gd_rows.specs.WorkedSnapshots.{AllShort, ChangesRead, full_changes, full_snapshot};
+ghost use Rattle.gd_rows.specs.WorkedSnapshots.{full_snapshot_bytes, tie_changes, tie_snapshot, tie_snapshot_bytes};
 
 /// A snapshot of two objects has 145 bytes, and is read whatever follows them.
 pub fn a_snapshot_of_two_objects()

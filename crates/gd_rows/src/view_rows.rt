@@ -7,12 +7,14 @@ ghost use Rattle.gd_outside.specs.declared.status.Status.TheVariants.{BadView, D
 ghost use Rattle.gd_reference.specs.SlowSite.{kept};
 ghost use Rattle.gd_rows.specs.Worked.{header, prints_of, tie_events, works_of};
 ghost use Rattle.gd_rows.specs.WorkedSnapshots.{full_snapshot_bytes, tie_snapshot, tie_snapshot_bytes};
-ghost use Rattle.gd_rows.specs.WorkedViews.{bad_views, cut_line, cut_view, drawn_views, failed_view, item, late_effects, late_frame, moved_effects};
+ghost use Rattle.gd_rows.specs.WorkedViews.{bad_views, cut_line, cut_view, drawn_views, failed_view, item};
+ghost use Rattle.gd_rows.specs.WorkedViews.{late_effects, late_frame, moved_effects};
 ghost use Rattle.gd_viewing.specs.Handing.{known_behind};
 ghost use Rattle.gd_viewing.specs.Snapshotting.{site_of, snapshot_work};
 ghost use Rattle.gd_viewing.specs.Viewing.{view_cut, view_effects, view_end};
 
-/// A site that begins anew with the events of a log knows of each site what the log holds, and keeps what lies above its line.
+/// A site that begins anew with the events of a log knows of each site what the log holds, and keeps what lies above
+/// its line.
 pub fn a_log_as_a_snapshot()
     ensures known { known_behind (site_of header tie_events) 0 2 ≡ tie_snapshot.known }
     ensures kept { kept (site_of header tie_events) ≡ [] }

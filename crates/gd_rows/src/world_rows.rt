@@ -15,9 +15,20 @@ ghost use Rattle.gd_base.specs.Notes.{no_note};
 ghost use Rattle.gd_reference.specs.SlowSite.{line, outbox, left_outbox, status, own};
 ghost use Rattle.gd_reference.specs.World.{Names, after_line};
 ghost use Rattle.gd_rows.specs.Worked.{at_stamp, event};
-ghost use Rattle.gd_rows.specs.WorkedWorlds.{site_status, cover_site, cover_world, cover_held, cover_frame, cover_effects, cover_text, covered_move, covered_raise, covering_lower, late_group, other_create, lowering_site, raising_site, lower_world, raise_frame, covering_frame, lower_text, closure_site, closure_world, closure_held, closure_frame, closure_effects, closure_text, noted_world, noted_note, answered_world, lost_world, stored_world, taken_world, turned_world, focused_world, listener_of_note, named, listener, ahead_create, ahead_move, ahead_first, ahead_gap, ahead_rest, refused_heads, sure_frame, sure_raise, sure_late_frame, two_held, lower_frame, noting_frame, ahead_one, ahead_none, ahead_all, sure_site, over_acknowledged, first_rect, noted_site};
+ghost use Rattle.gd_rows.specs.WorkedWorlds.{site_status, cover_site, cover_world, cover_held, cover_frame};
+ghost use Rattle.gd_rows.specs.WorkedWorlds.{cover_effects, cover_text, covered_move, covered_raise, covering_lower};
+ghost use Rattle.gd_rows.specs.WorkedWorlds.{late_group, other_create, lowering_site, raising_site, lower_world};
+ghost use Rattle.gd_rows.specs.WorkedWorlds.{raise_frame, covering_frame, lower_text, closure_site, closure_world};
+ghost use Rattle.gd_rows.specs.WorkedWorlds.{closure_held, closure_frame, closure_effects, closure_text, noted_world};
+ghost use Rattle.gd_rows.specs.WorkedWorlds.{noted_note, answered_world, lost_world, stored_world, taken_world};
+ghost use Rattle.gd_rows.specs.WorkedWorlds.{turned_world, focused_world, listener_of_note, named, listener};
+ghost use Rattle.gd_rows.specs.WorkedWorlds.{ahead_create, ahead_move, ahead_first, ahead_gap, ahead_rest};
+ghost use Rattle.gd_rows.specs.WorkedWorlds.{refused_heads, sure_frame, sure_raise, sure_late_frame, two_held};
+ghost use Rattle.gd_rows.specs.WorkedWorlds.{lower_frame, noting_frame, ahead_one, ahead_none, ahead_all, sure_site};
+ghost use Rattle.gd_rows.specs.WorkedWorlds.{over_acknowledged, first_rect, noted_site};
 
-/// A move that arrives late, and that a later one covers, is held like any other. It is printed as dropped, and shows nothing.
+/// A move that arrives late, and that a later one covers, is held like any other. It is printed as dropped, and shows
+/// nothing.
 pub fn a_covered_move_is_held()
     ensures held { (cover_world.at 1).held ≡ cover_held }
     ensures mail { slice_get cover_world.mail 1 ≡ Some cover_frame }
@@ -28,8 +39,8 @@ pub fn a_covered_move_is_held()
     ensures shown { text (picture (cover_world.at 1).held) ≡ cover_text }
 {}
 
-/// A raise and a lower of one object that were made at once. The raise comes late and is covered by the lower, and both sites
-/// show the object at the bottom.
+/// A raise and a lower of one object that were made at once. The raise comes late and is covered by the lower, and both
+/// sites show the object at the bottom.
 pub fn a_raise_that_a_lower_covers()
     ensures mail { slice_get lower_world.mail 1 ≡ Some raise_frame }
     ensures dropped { frame_replies lowering_site raise_frame
@@ -41,8 +52,8 @@ pub fn a_raise_that_a_lower_covers()
         (1 ∷ 2 ∷ []) }
 {}
 
-/// Two groups that were made at once, of which one takes a member from the other. The late one is printed with how many events
-/// were redone.
+/// Two groups that were made at once, of which one takes a member from the other. The late one is printed with how many
+/// events were redone.
 pub fn two_groups_at_once()
     ensures held { (closure_world.at 1).held ≡ closure_held }
     ensures mail { slice_get closure_world.mail 1 ≡ Some closure_frame }
@@ -77,7 +88,8 @@ pub fn a_frame_is_refused()
     ensures by_the_site { refusal listener over_acknowledged ≡ Some (fault.OverAck 1 0) }
 {}
 
-/// A note goes with each frame; an acknowledgement empties the outbox; a restart forgets both, and keeps what was stored.
+/// A note goes with each frame; an acknowledgement empties the outbox; a restart forgets both, and keeps what was
+/// stored.
 pub fn notes_acknowledgements_and_restarts()
     ensures noted { (noted_world.at 2).notes 1 ≡ noted_note }
     ensures unsent { outbox (noted_world.at 1) ≡ own (noted_world.at 1) }

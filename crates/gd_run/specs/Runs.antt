@@ -1,14 +1,16 @@
--- What each command does to the outside over the contents of a journal, an input and the entries of a link, and how that ends.
+-- What each command does to the outside over the contents of a journal, an input and the entries of a link, and how
+-- that ends.
 --
--- A node and a rehearsal read their input line by line, a view its items one by one, and a churn reads nothing. Only a node has
--- a journal and a link, and only one that goes on from its journal looks at what is in it. The others read the whole input
--- before they do anything.
+-- A node and a rehearsal read their input line by line, a view its items one by one, and a churn reads nothing. Only a
+-- node has a journal and a link, and only one that goes on from its journal looks at what is in it. The others read the
+-- whole input before they do anything.
 use Rattle.std.specs.Prelude.{ℕ, List, [], ◌∷◌, length, Option, Some, None}
 use Rattle.gd_boarding.specs.Boarding.{board_end, boarded}
 use Rattle.gd_effects.specs.Effects.{Effect}
 use Rattle.gd_lines.specs.declared.reply.Reply.TheVariants as reply
 use Rattle.gd_asked.specs.declared.command.Command.{Command}
-use Rattle.gd_asked.specs.declared.command.Command.TheVariants.{Replay, Upgrade, Snapshot, View, Board, Node, Rejoin, Rehearse, Churn}
+use Rattle.gd_asked.specs.declared.command.Command.TheVariants.{Replay, Upgrade, Snapshot, View, Board, Node, Rejoin}
+use Rattle.gd_asked.specs.declared.command.Command.TheVariants.{Rehearse, Churn}
 use Rattle.gd_outside.specs.Seen.{Entry}
 use Rattle.gd_outside.specs.declared.status.Status.{Status}
 use Rattle.gd_outside.specs.declared.status.Status.TheVariants as status
@@ -57,8 +59,8 @@ end_of (Some (Rejoin session site journal addresses)) contents input =
 end_of (Some (Rehearse sites)) contents input = rehearsal_end (rehearsal_lines input)
 end_of (Some (Churn seed steps)) contents input = status.Done
 
--- What is done for a part of the input, where no more of it can be read: the whole lines and items in it are answered, and what
--- a command does that reads everything first it does only then when it has.
+-- What is done for a part of the input, where no more of it can be read: the whole lines and items in it are answered,
+-- and what a command does that reads everything first it does only then when it has.
 abbrev pub cut_of : Option Command → List ℕ → List Entry → List ℕ → List Effect
 cut_of (Some (Node session site journal addresses)) contents entries input =
     effects_of (Some (Node session site journal addresses)) contents (whole_lines input) entries

@@ -9,7 +9,8 @@ use Rattle.gd_lines.specs.Edits.{Edit}
 use Rattle.gd_lines.specs.InRange.{IsEdit}
 use Rattle.gd_model.specs.Backs.{back}
 use Rattle.gd_protocol.proofs.WellSites.{edit_is_sound}
-use Rattle.gd_reference.specs.Judging.{edit, edit_by, event_of, judged, judged_over, target, greatest_stamp_clock, most_own_events}
+use Rattle.gd_reference.specs.Judging.{edit, edit_by, event_of, judged, judged_over, target, greatest_stamp_clock}
+use Rattle.gd_reference.specs.Judging.{most_own_events}
 use Rattle.gd_reference.specs.SlowSite.{SlowSite, own, clock}
 use Rattle.gd_reference.specs.TakeBack.{back_of}
 use Rattle.gd_slots.specs.Slots.{board_of}

@@ -1,5 +1,6 @@
 -- The frame that a site writes is the reference site's.
-use Rattle.std.proofs.Common.{◌≡◌, ℕ, ◌+◌, ◌-◌, ◌≤◌, List, drop, length, length-drop, length-take, sym, ap, ◌∙◌, subst, arith}
+use Rattle.std.proofs.Common.{◌≡◌, ℕ, ◌+◌, ◌-◌, ◌≤◌, List, drop, length, length-drop, length-take, sym, ap, ◌∙◌, subst}
+use Rattle.std.proofs.Common.{arith}
 use Rattle.std.specs.Prelude.{slice_index}
 use Rattle.gd_aware.specs.Notes.{note_of}
 use Rattle.gd_base.specs.declared.note.Note.{Note}

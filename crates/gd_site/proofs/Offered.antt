@@ -1,5 +1,6 @@
 -- Events that are offered one after the other, in a loop.
-use Rattle.std.proofs.Common.{◌≡◌, ◌∙◌, ℕ, suc, ◌+◌, ◌<◌, ◌≤◌, List, ◌∷◌, length, drop, drop-cons, drop_of_length-le, get_or, add-one, sym, ap}
+use Rattle.std.proofs.Common.{◌≡◌, ◌∙◌, ℕ, suc, ◌+◌, ◌<◌, ◌≤◌, List, ◌∷◌, length, drop, drop-cons, drop_of_length-le}
+use Rattle.std.proofs.Common.{get_or, add-one, sym, ap}
 use Rattle.gd_events.specs.Events.{Event}
 use Rattle.gd_site.specs.Foreseen.{foreseen, foreseen_by, foreseen_offer}
 use Rattle.gd_site.specs.declared.foreseen.Foreseen.{Foreseen}

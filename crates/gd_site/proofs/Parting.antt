@@ -1,5 +1,7 @@
 -- Whether a frame shows a parting, and that a site notes one.
-use Rattle.std.proofs.Common.{◌≡◌, ◌∙◌, ℕ, suc, ◌+◌, ◌≤◌, Bool, false, cond, List, [], ◌∷◌, length, get_or-set_same, get_or-set_other, Option, None, Some, Ok, Err, IsTrue, refl, sym, ap, subst, arith, eqb-true, ◌==◌, nat_le, nat_lt}
+use Rattle.std.proofs.Common.{◌≡◌, ◌∙◌, ℕ, suc, ◌+◌, ◌≤◌, Bool, false, cond, List, [], ◌∷◌, length, get_or-set_same}
+use Rattle.std.proofs.Common.{get_or-set_other, Option, None, Some, Ok, Err, IsTrue, refl, sym, ap, subst, arith}
+use Rattle.std.proofs.Common.{eqb-true, ◌==◌, nat_le, nat_lt}
 use Rattle.std.proofs.lemmas.Bool.{and_parts, leb-false}
 use Rattle.gd_base.proofs.SiteLemmas.{is_site-bounds}
 use Rattle.gd_base.specs.Sites.{IsSite, is_site}
@@ -21,7 +23,8 @@ use Rattle.gd_grammar.specs.declared.frame.Last.{Last}
 use Rattle.gd_protocol.proofs.Chains.{AllBy}
 use Rattle.gd_protocol.proofs.Lists.{put_cases, put_other, put_same}
 use Rattle.gd_protocol.proofs.WellSites.{IsAccepted-from_none, well_parted}
-use Rattle.gd_reference.specs.Offers.{after_offer, all_arrived, arrived, offer, offered, refusal, shows_parting, verdict, verdict_by, with_event, with_parting}
+use Rattle.gd_reference.specs.Offers.{after_offer, all_arrived, arrived, offer, offered, refusal, shows_parting}
+use Rattle.gd_reference.specs.Offers.{verdict, verdict_by, with_event, with_parting}
 use Rattle.gd_reference.specs.PerSite.{put}
 use Rattle.gd_reference.specs.SlowSite.{SlowSite, count, held_check, made_by}
 use Rattle.gd_site.proofs.Chained.{held_check_is}

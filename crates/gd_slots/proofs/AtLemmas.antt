@@ -18,13 +18,15 @@ module _ {V : Type 0} where
   held (i, Some w) id v h = let pair = inside (i, w) (id, v) h in (ap (λ q. q.0) pair, ap (λ q. Some q.1) pair)
 
   -- an id in the slots is apart from one that is apart from all
-  apart_at : (x : Stamp) (es : Slots V) (k : ℕ) (id : Stamp) (v : V) → AllByRecursion (λ y. is_same x y ≡ false) (ids es)
+  apart_at : (x : Stamp) (es : Slots V) (k : ℕ) (id : Stamp) (v : V)
+      → AllByRecursion (λ y. is_same x y ≡ false) (ids es)
       → value_at es k ≡ Some (id, v) → is_same x id ≡ false
   apart_at x [] k id v a h = cc
   apart_at x (e ∷ es) zero id v a h = ap (is_same x) (sym (held e id v h).0) ∙ a.0
   apart_at x (e ∷ es) (suc k) id v a h = apart_at x es k id v a.1 h
 
-  pub at_get : (es : Slots V) → IsDistinct is_same (ids es) → (k : ℕ) (id : Stamp) (v : V) → value_at es k ≡ Some (id, v)
+  pub at_get : (es : Slots V) → IsDistinct is_same (ids es) → (k : ℕ) (id : Stamp) (v : V)
+      → value_at es k ≡ Some (id, v)
       → map_of.get (board_of es) id ≡ Some v
   unfolding IsDistinct
   at_get [] d k id v h = cc
@@ -41,7 +43,8 @@ module _ {V : Type 0} where
   holds (i, None) id v a b = cc
   holds (i, Some w) id v a b = λ j. Some (a j, unwrap_or (b j) w)
 
-  here_slot : (e : Stamp × Option V) (es : Slots V) (id : Stamp) (v : V) → AllByRecursion (λ y. is_same e.0 y ≡ false) (ids es)
+  here_slot : (e : Stamp × Option V) (es : Slots V) (id : Stamp) (v : V)
+      → AllByRecursion (λ y. is_same e.0 y ≡ false) (ids es)
       → e.0 ≡ id → e.1 ≡ Some v → OneSlot (e ∷ es) id v
   here_slot e es id v apart a b = record { index = zero; there = holds e id v a b; only = only }
     where
@@ -52,7 +55,8 @@ module _ {V : Type 0} where
           let yes : is_same e.0 id ≡ true = ap (λ i. is_same i id) a ∙ is_same-refl id in
           cc
 
-  later_slot : (e : Stamp × Option V) (es : Slots V) (id : Stamp) (v : V) → is_same id e.0 ≡ false → OneSlot es id v → OneSlot (e ∷ es) id v
+  later_slot : (e : Stamp × Option V) (es : Slots V) (id : Stamp) (v : V) → is_same id e.0 ≡ false → OneSlot es id v
+      → OneSlot (e ∷ es) id v
   later_slot e es id v apart one = record { index = suc one.index; there = one.there; only = only }
     where
       only : (k : ℕ) (w : V) → value_at (e ∷ es) k ≡ Some (id, w) → k ≡ suc one.index
@@ -61,11 +65,13 @@ module _ {V : Type 0} where
           cc
       only (suc k) w h = ap suc (one.only k w h)
 
-  pub one_slot : (es : Slots V) → IsDistinct is_same (ids es) → (id : Stamp) (v : V) → map_of.get (board_of es) id ≡ Some v → OneSlot es id v
+  pub one_slot : (es : Slots V) → IsDistinct is_same (ids es) → (id : Stamp) (v : V)
+      → map_of.get (board_of es) id ≡ Some v → OneSlot es id v
   unfolding IsDistinct
   one_slot [] d id v h = let none = get-none {V = V} id in cc
   one_slot (e ∷ es) d id v h =
-      elim (is_same id e.0) as (λ t. is_same id e.0 ≡ t → cond t e.1 (map_of.get (board_of es) id) ≡ Some v → OneSlot (e ∷ es) id v) [
+      elim (is_same id e.0) as
+      (λ t. is_same id e.0 ≡ t → cond t e.1 (map_of.get (board_of es) id) ≡ Some v → OneSlot (e ∷ es) id v) [
         | true ↦ λ is g. here_slot e es id v d.0 (sym (is_same-true id e.0 is)) g
         | false ↦ λ is g. later_slot e es id v is (one_slot es d.1 id v g)
       ] refl (sym (get-step e es id) ∙ h)

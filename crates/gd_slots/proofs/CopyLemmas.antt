@@ -1,5 +1,6 @@
 -- A copy of slots, slot by slot.
-use Rattle.std.proofs.Common.{◌≡◌, ℕ, zero, suc, ◌+◌, ◌<◌, true, false, cond, ◌||◌, [], ◌∷◌, ◌++◌, length, drop, add-one, Option, Some, refl, sym, ap, subst, ◌∙◌, arith}
+use Rattle.std.proofs.Common.{◌≡◌, ℕ, zero, suc, ◌+◌, ◌<◌, true, false, cond, ◌||◌, [], ◌∷◌, ◌++◌, length, drop}
+use Rattle.std.proofs.Common.{add-one, Option, Some, refl, sym, ap, subst, ◌∙◌, arith}
 use Rattle.std.specs.List.{IsDistinct, AllByRecursion as Every, slice_get}
 use Rattle.std.proofs.lemmas.List.{map-append}
 use Rattle.std.proofs.Math.Seq.{append_snoc}
@@ -13,7 +14,8 @@ use Rattle.gd_slots.proofs.SlotLemmas.{same_is}
 
 module _ {V : Type 0} where
   -- no slot in front has the id of one behind
-  apart : (front : Slots V) (e : Stamp × Option V) (rest : Slots V) → IsDistinct is_same (ids (front ++ e ∷ rest)) → has_slot e.0 front ≡ false
+  apart : (front : Slots V) (e : Stamp × Option V) (rest : Slots V) → IsDistinct is_same (ids (front ++ e ∷ rest))
+      → has_slot e.0 front ≡ false
   unfolding IsDistinct
   apart [] e rest d = refl
   apart (x ∷ front) e rest d =
@@ -23,10 +25,13 @@ module _ {V : Type 0} where
       (λ i. (is_same-comm e.0 x.0 ∙ behind.0) i || has_slot e.0 front) ∙ apart front e rest d.1
 
   -- so a slot of its id goes last
-  goes_last : (es : Slots V) (e : Stamp × Option V) → has_slot e.0 es ≡ false → insert_entry is_same es e.0 e.1 ≡ es ++ e ∷ []
+  goes_last : (es : Slots V) (e : Stamp × Option V) → has_slot e.0 es ≡ false
+      → insert_entry is_same es e.0 e.1 ≡ es ++ e ∷ []
   goes_last [] e new = refl
   goes_last (x ∷ es) e new =
-      elim (is_same e.0 x.0) as (λ t. (t || has_slot e.0 es) ≡ false → cond t ((x.0, e.1) ∷ es) (x ∷ insert_entry is_same es e.0 e.1) ≡ x ∷ es ++ e ∷ []) [
+      elim (is_same e.0 x.0) as
+      (λ t. (t || has_slot e.0 es) ≡ false
+      → cond t ((x.0, e.1) ∷ es) (x ∷ insert_entry is_same es e.0 e.1) ≡ x ∷ es ++ e ∷ []) [
         | true ↦ λ there. cc
         | false ↦ λ more. ap (λ l. x ∷ l) (goes_last es e more)
       ] new
@@ -38,13 +43,15 @@ module _ {V : Type 0} where
   slot_read (e ∷ es) (suc k) inside = slot_read es k (omega arith)
 
   -- one slot more is copied
-  pub copied_more : (es copied new : Slots V) (k : ℕ) → IsDistinct is_same (ids es) → copied ++ drop k es ≡ es → k < length es
+  pub copied_more : (es copied new : Slots V) (k : ℕ) → IsDistinct is_same (ids es) → copied ++ drop k es ≡ es
+      → k < length es
       → new ≡ pushed (slice_get es k) copied → new ++ drop (k + 1) es ≡ es
   copied_more es copied new k distinct so_far inside is =
       let here = slot_read es k inside in
       let e = here.0 in
       let whole : copied ++ e ∷ drop (suc k) es ≡ es = ap (λ l. copied ++ l) (sym here.2) ∙ so_far in
-      let new_slot = apart copied e (drop (suc k) es) (subst (λ (l : Slots V). IsDistinct is_same (ids l)) (sym whole) distinct) in
+      let new_slot = apart copied e (drop (suc k) es)
+      (subst (λ (l : Slots V). IsDistinct is_same (ids l)) (sym whole) distinct) in
       let last : new ≡ copied ++ e ∷ [] = is ∙ ap (λ s. pushed s copied) here.1 ∙ goes_last copied e new_slot in
       ap (λ l. l ++ drop (k + 1) es) last
       ∙ append_snoc copied e (drop (k + 1) es) ∙ ap (λ n. copied ++ e ∷ drop n es) (add-one k) ∙ whole

@@ -1,5 +1,6 @@
 -- Slots by stamp, and the board that they hold: a map from ids to the values of the slots that aren't empty.
-use Rattle.std.specs.Prelude.{◌≡◌, ℕ, Bool, if◌then◌else◌, List, [], ◌∷◌, ◌++◌, Option, None, Some, map, option_map, slice_get}
+use Rattle.std.specs.Prelude.{◌≡◌, ℕ, Bool, if◌then◌else◌, List, [], ◌∷◌, ◌++◌, Option, None, Some, map, option_map}
+use Rattle.std.specs.Prelude.{slice_get}
 use Rattle.std.specs.FinMap as map_of
 use Rattle.std.specs.List.{list_any}
 use Rattle.indexmap.specs.IndexMap.{insert_entry}

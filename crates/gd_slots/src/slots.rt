@@ -1,4 +1,5 @@
-ghost use Rattle.std.specs.Prelude.{◌≡◌, [], length, option_and_then, option_copied, option_map, not, slice_get, Some, IsTrue, IfOk, OnOk, OnErr, if◌then◌else◌};
+ghost use Rattle.std.specs.Prelude.{◌≡◌, [], length, option_and_then, option_copied, option_map, not, slice_get, Some};
+ghost use Rattle.std.specs.Prelude.{IsTrue, IfOk, OnOk, OnErr, if◌then◌else◌};
 ghost use Rattle.std.specs.FinMap as map_of;
 ghost use Rattle.std.specs.List.{IsDistinct};
 ghost use Rattle.gd_base.specs.Stamps.{is_same};
@@ -11,8 +12,8 @@ use indexmap::IndexMap;
 use std::alloc::{AllocError, Global};
 use std::marker::Model;
 
-/// A slot for each id that was reserved, empty while nothing has that id. A slot is never moved or removed. No memory is taken
-/// but for slots, and no value is copied or moved but into its slot and out of it.
+/// A slot for each id that was reserved, empty while nothing has that id. A slot is never moved or removed. No memory
+/// is taken but for slots, and no value is copied or moved but into its slot and out of it.
 #[derive(Drop)]
 pub struct Slots<V> {
     entries: IndexMap<Stamp, Option<V>>,
@@ -65,7 +66,8 @@ impl<V: Drop> Slots<V> {
         }
     }
 
-    /// What the slot at that index holds, with its id. None where the slot is empty, or there are no more than `k` slots.
+    /// What the slot at that index holds, with its id. None where the slot is empty, or there are no more than `k`
+    /// slots.
     pub fn at(&self, k: usize) -> Option<(Stamp, &V)>
         ensures { option_map (λ p. (p.0, p.1.now)) result ≡ value_at self.now k }
     {
@@ -91,7 +93,8 @@ impl<V: Drop> Slots<V> {
         Ok(())
     }
 
-    /// Makes a slot for the id, where there is none. `AllocError` where there is no memory for it: nothing changes then.
+    /// Makes a slot for the id, where there is none. `AllocError` where there is no memory for it: nothing changes
+    /// then.
     pub fn reserve(&mut self, id: Stamp) -> Result<(), AllocError>
         ensures board { board_of self.new ≡ board_of self.old }
         ensures slots { OnOk result (ids self.new ≡ with_id id (ids self.old)) }

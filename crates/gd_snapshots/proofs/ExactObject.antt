@@ -78,5 +78,6 @@ from-drawn o s =
 pub exact_object : Exact (object_at None) IsDrawn object_bytes
 exact_object = record {
   written = λ o rest s. (objects.exact_object None).written o rest (drawn o s);
-  taken = λ bytes z are e. let took = (objects.exact_object None).taken bytes z are e in record { sound = from-drawn z.0 took.sound; text = took.text };
+  taken = λ bytes z are e. let took = (objects.exact_object None).taken bytes z are e
+      in record { sound = from-drawn z.0 took.sound; text = took.text };
 }

@@ -1,6 +1,7 @@
--- The head, what is known of a site, a number of things, an object behind its id and a kept event are read where their bytes
--- stand, and nowhere else.
-use Rattle.std.proofs.Common.{◌≡◌, ℕ, ◌+◌, ◌<◌, ◌≤◌, ◌^◌, Bool, true, false, cond, List, [], ◌∷◌, ◌++◌, Option, Result, Ok, Err, refl, ap, arith}
+-- The head, what is known of a site, a number of things, an object behind its id and a kept event are read where their
+-- bytes stand, and nowhere else.
+use Rattle.std.proofs.Common.{◌≡◌, ℕ, ◌+◌, ◌<◌, ◌≤◌, ◌^◌, Bool, true, false, cond, List, [], ◌∷◌, ◌++◌, Option, Result}
+use Rattle.std.proofs.Common.{Ok, Err, refl, ap, arith}
 use Rattle.std.specs.Prelude.{nat_le}
 use Rattle.std.specs.Int.{bytes_high_first}
 use Rattle.std.proofs.lemmas.Bool.{leb-true, le-leb}
@@ -20,7 +21,8 @@ use Rattle.gd_grammar.proofs.ExactFrame.{exact-version, exact-six}
 use Rattle.gd_grammar.proofs.ExactHeader.{exact-magic, exact-sites}
 use Rattle.gd_grammar.specs.Spelling.{object_bytes}
 use Rattle.gd_snapshots.specs.Snapshots.{IsKept, IsKnown, IsPlaced, is_bounded}
-use Rattle.gd_snapshots.specs.SnapshotBytes.{SnapshotHead, SnapshotMisread, in_view, snapshot_magic, head_at, known_at, number_within, placed_at, kept_at, known_bytes, placed_bytes}
+use Rattle.gd_snapshots.specs.SnapshotBytes.{SnapshotHead, SnapshotMisread, in_view, snapshot_magic, head_at, known_at}
+use Rattle.gd_snapshots.specs.SnapshotBytes.{number_within, placed_at, kept_at, known_bytes, placed_bytes}
 use Rattle.gd_snapshots.specs.declared.known.Known.{Known}
 use Rattle.gd_snapshots.proofs.ExactObject.{exact_object}
 
@@ -42,7 +44,8 @@ exact_head = record {
   written = λ h rest s.
       let lower : h.site ≤ SITES = omega (arith, s.site_below, s.few) in
       rw (
-        (exact-magic snapshot_magic (omega arith)).written snapshot_magic (3 ∷ (word_bytes h.session ++ h.site ∷ h.sites ∷ rest)) refl,
+        (exact-magic snapshot_magic (omega arith)).written snapshot_magic
+            (3 ∷ (word_bytes h.session ++ h.site ∷ h.sites ∷ rest)) refl,
         exact-version.written 3 (word_bytes h.session ++ h.site ∷ h.sites ∷ rest) refl,
         exact_word.written h.session (h.site ∷ h.sites ∷ rest) s.session,
         exact_site.written h.site (h.sites ∷ rest) (s.site_above, lower),
@@ -55,8 +58,16 @@ exact_head = record {
       taking exact_site session.rest session.left _ z session.on (λ site.
       taking (exact-sites site.value) site.rest site.left _ z site.on (λ sites.
       done _ z sites.on (record {
-        sound = record { session = session.sound; site_above = site.sound.0; site_below = sites.sound.below; few = sites.sound.few };
-        text = joined (joined (joined (joined (spelt m.text (ap word_bytes m.sound)) (spelt v.text (ap (λ (b : ℕ). b ∷ []) v.sound))) session.text) site.text) sites.text;
+        sound = record {
+          session = session.sound;
+          site_above = site.sound.0;
+          site_below = sites.sound.below;
+          few
+              = sites.sound.few;
+        };
+        text = joined (joined
+            (joined (joined (spelt m.text (ap word_bytes m.sound)) (spelt v.text (ap (λ (b : ℕ). b ∷ []) v.sound)))
+            session.text) site.text) sites.text;
       }))))));
 }
 
@@ -65,11 +76,14 @@ exact_head = record {
 pub exact_known : Exact known_at IsKnown known_bytes
 unfolding known_at
 exact_known = record {
-  written = λ k rest s. rw (exact_half.written k.count (bytes_high_first 6 k.sure ++ rest) s.count, exact-six.written k.sure rest s.sure) refl;
+  written = λ k rest s. rw
+      (exact_half.written k.count (bytes_high_first 6 k.sure ++ rest) s.count, exact-six.written k.sure rest s.sure)
+      refl;
   taken = λ bytes z are e.
       taking exact_half bytes are _ z e (λ count.
       taking exact-six count.rest count.left _ z count.on (λ sure.
-      done _ z sure.on (record { sound = record { count = count.sound; sure = sure.sound }; text = joined count.text sure.text })));
+      done _ z sure.on (record
+      { sound = record { count = count.sound; sure = sure.sound }; text = joined count.text sure.text })));
 }
 
 -- ---- a number of things
@@ -81,7 +95,8 @@ pub record IsNumberWithin (most before n : ℕ) : Type 0 where
 
 pub exact_number_within : (most before : ℕ) → Exact (number_within most before) (IsNumberWithin most before) word_bytes
 unfolding number_within
-exact_number_within most before = exact_field exact_word (λ n. n) (λ n. n) (λ n. nat_le (before + n) most) why.Field (IsNumberWithin most before)
+exact_number_within most before
+    = exact_field exact_word (λ n. n) (λ n. n) (λ n. nat_le (before + n) most) why.Field (IsNumberWithin most before)
     (λ n s. (s.below, refl, le-leb (before + n) most s.fits))
     (λ n below are t. (record { fits = leb-true (before + n) most t; below = below }, refl))
 
@@ -92,26 +107,33 @@ view-ok (Ok y) x e = let k : y ≡ x = cc in rw k refl
 view-ok (Err f) x e = absurd cc
 
 -- a field, as a part of a snapshot
-pub exact_in_view : {A : Type 0} {r : List ℕ → Reads A} {Sound : A → Type 0} {spell : A → List ℕ} → Exact r Sound spell → Exact (λ bytes. in_view (r bytes)) Sound spell
+pub exact_in_view : {A : Type 0} {r : List ℕ → Reads A} {Sound : A → Type 0} {spell : A → List ℕ} → Exact r Sound spell
+    → Exact (λ bytes. in_view (r bytes)) Sound spell
 exact_in_view {r = r} exact = record {
   written = λ x rest s. rw (exact.written x rest s) refl;
   taken = λ bytes z are e. exact.taken bytes z are (view-ok (r bytes) z e);
 }
 
 -- a test that let reading go on
-on-ok : {A : Type 0} (t : Bool) (r : Result A SnapshotMisread) (z : A) (m : SnapshotMisread) → cond t r (Err m) ≡ Ok z → (t ≡ true) × (r ≡ Ok z)
+on-ok : {A : Type 0} (t : Bool) (r : Result A SnapshotMisread) (z : A) (m : SnapshotMisread) → cond t r (Err m) ≡ Ok z
+    → (t ≡ true) × (r ≡ Ok z)
 on-ok true r z m e = (refl, e)
 on-ok false r z m e = absurd cc
 
 pub exact_placed : (last : Option Stamp) → Exact (placed_at last) (IsPlaced last) placed_bytes
 unfolding placed_at
 exact_placed last = record {
-  written = λ p rest s. rw (exact_stamp.written p.0 (object_bytes p.1 ++ rest) s.id, s.above, exact_object.written p.1 rest s.object) refl;
+  written = λ p rest s. rw
+      (exact_stamp.written p.0 (object_bytes p.1 ++ rest) s.id, s.above, exact_object.written p.1 rest s.object) refl;
   taken = λ bytes z are e.
       taking (exact_in_view exact_stamp) bytes are _ z e (λ id.
       let above = on-ok (is_above last id.value) _ z _ id.on in
       taking (exact_in_view exact_object) id.rest id.left _ z above.1 (λ object.
-      done _ z object.on (record { sound = record { id = id.sound; above = above.0; object = object.sound }; text = joined id.text object.text })));
+      done _ z object.on (record {
+        sound = record { id = id.sound; above = above.0; object = object.sound };
+        text
+            = joined id.text object.text;
+      })));
 }
 
 pub exact_kept : (known : List Known) (last : Option Stamp) → Exact (kept_at known last) (IsKept known last) spelling
@@ -122,5 +144,6 @@ exact_kept known last = record {
       taking (exact_in_view exact_event) bytes are _ z h (λ e.
       let above = on-ok (is_above last e.value.stamp) _ z _ e.on in
       let bounded = on-ok (is_bounded known e.value) _ z _ above.1 in
-      done (e.value, e.rest) z bounded.1 (record { sound = record { sound = e.sound; above = above.0; bounded = bounded.0 }; text = e.text }));
+      done (e.value, e.rest) z bounded.1
+      (record { sound = record { sound = e.sound; above = above.0; bounded = bounded.0 }; text = e.text }));
 }

@@ -21,11 +21,18 @@ use Rattle.gd_snapshots.proofs.ExactParts.{exact_head, exact_known}
 use Rattle.gd_snapshots.proofs.SteadyParts.{Steady-head, Steady-known}
 
 piece : {A : Type 0} {read : List ℕ → Reads A} {Sound : A → Type 0} {spell : A → List ℕ} (most least : ℕ)
-    → Exact read Sound spell → Steady most read → most ≤ EVENT_BYTES → ((x : A) → Sound x → least ≤ length (spell x)) → ((bytes : List ℕ) → AtEnd (read bytes)) → PieceLaws read least
+    → Exact read Sound spell → Steady most read → most ≤ EVENT_BYTES → ((x : A) → Sound x → least ≤ length (spell x))
+    → ((bytes : List ℕ) → AtEnd (read bytes)) → PieceLaws read least
 piece {read = read} {spell = spell} most least exact steady few long ends = record {
   stands = λ bytes x are e.
       let took = exact.taken bytes x are e in
-      record { text = spell x.0; is = took.text.is; alone = λ more. exact.written x.0 more took.sound; long = long x.0 took.sound };
+      record {
+        text = spell x.0;
+        is = took.text.is;
+        alone = λ more. exact.written x.0 more took.sound;
+        long
+            = long x.0 took.sound;
+      };
   steady = Steady-weaken most EVENT_BYTES read few steady;
   ends = λ bytes. (ends bytes).at;
 }
@@ -43,7 +50,8 @@ pub id_piece : PieceLaws stamp_at 7
 id_piece = piece 7 7 exact_stamp Steady-stamp (omega arith) (λ id s. omega arith) end-stamp
 
 pub object_piece : PieceLaws (object_at None) 48
-object_piece = piece OBJECT_BYTES 48 exact_object (Steady-object None) (omega arith) (λ o s. omega (arith, object-least o, text-least o.label)) (end-object None)
+object_piece = piece OBJECT_BYTES 48 exact_object (Steady-object None) (omega arith)
+    (λ o s. omega (arith, object-least o, text-least o.label)) (end-object None)
 
 pub event_piece : PieceLaws event_at 17
 event_piece = piece EVENT_BYTES 17 exact_event Steady-event (omega arith) spelling-least end-event

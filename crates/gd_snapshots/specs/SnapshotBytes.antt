@@ -1,11 +1,12 @@
--- The bytes of a snapshot, which has version 3: a head, what is known of each site, the number of its objects, the objects
--- each behind its id, the number of its kept events, and the events. What follows them is no part of it.
+-- The bytes of a snapshot, which has version 3: a head, what is known of each site, the number of its objects, the
+-- objects each behind its id, the number of its kept events, and the events. What follows them is no part of it.
 --
--- An id that isn't above the one before it is Order at its first byte, which is judged once the id was read. Once a kept event
--- was read it is judged whether its stamp is above the one before it (else Order), and then whether it is bounded by what is
--- known of its site (else Bound), both at its first byte. More objects, or objects and kept events, than the sites made events
--- are Field at their number.
-use Rattle.std.specs.Prelude.{ℕ, ◌+◌, nat_le, if◌then◌else◌, List, [], ◌∷◌, ◌++◌, length, map, Option, None, Result, Ok, Err}
+-- An id that isn't above the one before it is Order at its first byte, which is judged once the id was read. Once a
+-- kept event was read it is judged whether its stamp is above the one before it (else Order), and then whether it is
+-- bounded by what is known of its site (else Bound), both at its first byte. More objects, or objects and kept events,
+-- than the sites made events are Field at their number.
+use Rattle.std.specs.Prelude.{ℕ, ◌+◌, nat_le, if◌then◌else◌, List, [], ◌∷◌, ◌++◌, length, map, Option, None, Result, Ok}
+use Rattle.std.specs.Prelude.{Err}
 use Rattle.std.specs.Int.{bytes_high_first}
 use Rattle.gd_base.specs.Results.{◌>>=◌}
 use Rattle.gd_base.specs.Stamps.{Stamp}
@@ -13,7 +14,8 @@ use Rattle.gd_base.specs.declared.fault.FieldFault.{FieldFault}
 use Rattle.gd_base.specs.declared.fault.FieldWhy.{FieldWhy}
 use Rattle.gd_base.specs.declared.fault.FieldWhy.TheVariants as field
 use Rattle.gd_base.specs.declared.fault.ViewWhy.{ViewWhy}
-use Rattle.gd_base.specs.declared.fault.ViewWhy.TheVariants.{Short, Magic, Version, Field, FutureId, MemberOrder, Order, Bound}
+use Rattle.gd_base.specs.declared.fault.ViewWhy.TheVariants.{Short, Magic, Version, Field, FutureId, MemberOrder, Order}
+use Rattle.gd_base.specs.declared.fault.ViewWhy.TheVariants.{Bound}
 use Rattle.gd_events.specs.Events.{Event}
 use Rattle.gd_events.specs.Sound.{is_above}
 use Rattle.gd_grammar.specs.Drawings.{event_at, spelling}

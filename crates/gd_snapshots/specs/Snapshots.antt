@@ -1,10 +1,11 @@
 -- A snapshot: a drawing handed on without its history.
 --
--- It is of a session and of one of its sites, and says of each site how many of its events were held, and its sure clock. Its
--- objects are the drawing of the held events up to the line, which is the least of the sure clocks, by their ids. Behind them
--- come the held events above the line, by their stamps.
+-- It is of a session and of one of its sites, and says of each site how many of its events were held, and its sure
+-- clock. Its objects are the drawing of the held events up to the line, which is the least of the sure clocks, by their
+-- ids. Behind them come the held events above the line, by their stamps.
 use Rattle.std.specs.List.{AllByRecursion}
-use Rattle.std.specs.Prelude.{◌≡◌, ◌<◌, ◌≤◌, ◌^◌, ℕ, ◌+◌, ◌-◌, min, Bool, true, ◌&&◌, nat_le, nat_lt, List, [], ◌∷◌, length, get_or, map, sum, Option, Some, None, IsTrue}
+use Rattle.std.specs.Prelude.{◌≡◌, ◌<◌, ◌≤◌, ◌^◌, ℕ, ◌+◌, ◌-◌, min, Bool, true, ◌&&◌, nat_le, nat_lt, List, [], ◌∷◌}
+use Rattle.std.specs.Prelude.{length, get_or, map, sum, Option, Some, None, IsTrue}
 use Rattle.gd_base.specs.Kinds.{are_ends_of, is_label_of}
 use Rattle.gd_base.specs.Labels.{IsLabel}
 use Rattle.gd_base.specs.Ranges.{place_limit, size_limit, is_within}

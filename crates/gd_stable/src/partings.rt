@@ -7,8 +7,8 @@ ghost use Rattle.gd_stable.specs.Partings.{no_partings, parted_at, partings_behi
 use gd_base::SITES;
 use std::marker::Model;
 
-/// From which sites a site has parted, and at which count of their events, which contracts see as a list in the order of
-/// the sites. No call takes memory.
+/// From which sites a site has parted, and at which count of their events, which contracts see as a list in the order
+/// of the sites. No call takes memory.
 #[derive(Drop)]
 pub struct Partings {
     counts: [Option<u16>; SITES as usize],

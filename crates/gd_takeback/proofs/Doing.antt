@@ -1,7 +1,9 @@
 -- Events of a gesture, made one after another: of edits, and of operations that take events back.
-use Rattle.std.proofs.Common.{◌≡◌, ℕ, suc, ◌+◌, ◌≤◌, false, List, [], ◌∷◌, ◌++◌, length, Ok, nat_le, refl, sym, ap, ◌∙◌, subst, arith, append_assoc, append-nil}
+use Rattle.std.proofs.Common.{◌≡◌, ℕ, suc, ◌+◌, ◌≤◌, false, List, [], ◌∷◌, ◌++◌, length, Ok, nat_le, refl, sym, ap, ◌∙◌}
+use Rattle.std.proofs.Common.{subst, arith, append_assoc, append-nil}
 use Rattle.std.proofs.lemmas.Bool.Decides.{nat_tests}
-use Rattle.gd_backs.proofs.NextEvents.{IsOwnNext, backs_of-push, clock-next, count-next, next_of, own_next, with_events-append}
+use Rattle.gd_backs.proofs.NextEvents.{IsOwnNext, backs_of-push, clock-next, count-next, next_of, own_next}
+use Rattle.gd_backs.proofs.NextEvents.{with_events-append}
 use Rattle.gd_events.specs.Events.{Event}
 use Rattle.gd_events.specs.Ops.{Op}
 use Rattle.gd_protocol.proofs.Backs.{back-later}
@@ -61,8 +63,10 @@ module _ (slow : SlowSite) (op : Op) where
   pub next-is : MayBecome slow (op ∷ [])
       → edit_by slow.me (clock slow) (length (own slow)) (Ok op) ≡ Ok (next_of slow op)
   next-is may =
-      let clocks : nat_le greatest_stamp_clock (clock slow) ≡ false = below greatest_stamp_clock (clock slow) may.clocks in
-      let counts : nat_le most_own_events (length (own slow)) ≡ false = below most_own_events (length (own slow)) may.counts in
+      let clocks : nat_le greatest_stamp_clock (clock slow)
+      ≡ false = below greatest_stamp_clock (clock slow) may.clocks in
+      let counts : nat_le most_own_events (length (own slow))
+      ≡ false = below most_own_events (length (own slow)) may.counts in
       rw (clocks, counts) refl
     where
       below : (most n : ℕ) → n + 1 ≤ most → nat_le most n ≡ false
@@ -99,7 +103,8 @@ doing-none slow all may steps m stands events back =
 module _ (slow : SlowSite) (all : List Op) (before now : ℕ) (old : Making) where
   -- the next of them became an event
   pub doing-more : (op : Op) (left : List Op) → Doing slow all (op ∷ left) before now old → (new : Making) (paid : ℕ)
-      → ((there : SlowSite) → StandsFor there old.site → MayBecome there (op ∷ []) → Makes there (next_of there op) old new)
+      → ((there : SlowSite) → StandsFor there old.site → MayBecome there (op ∷ [])
+      → Makes there (next_of there op) old new)
       → ((there : SlowSite) → StandsFor there old.site → MayBecome there (op ∷ []) → paid ≡ now + 1)
       → Doing slow all left before paid new
   unfolding done with_events

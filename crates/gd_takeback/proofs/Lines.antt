@@ -1,5 +1,6 @@
 -- A gesture that is made line by line has made the events of all lines.
-use Rattle.std.proofs.Common.{◌≡◌, List, [], ◌∷◌, ◌++◌, Result, Ok, Err, refl, sym, ap, ◌∙◌, subst, append_assoc, append-nil}
+use Rattle.std.proofs.Common.{◌≡◌, List, [], ◌∷◌, ◌++◌, Result, Ok, Err, refl, sym, ap, ◌∙◌, subst, append_assoc}
+use Rattle.std.proofs.Common.{append-nil}
 use Rattle.std.specs.Prelude.{OnOk}
 use Rattle.gd_backs.proofs.NextEvents.{events-or_refusal, with_events-append}
 use Rattle.gd_base.specs.Stamps.{Stamp}
@@ -38,7 +39,8 @@ OnAnswer (Err fault.NoMemory) P = Unit {0}
 OnAnswer (Err other) P = P
 
 -- where an edit is refused it becomes no event
-none-made : (x : Result Event EditRefusal) (why : EditFault) → EditIs x (Err why) → OnRefusal (Err why) (events_in x ≡ [])
+none-made : (x : Result Event EditRefusal) (why : EditFault) → EditIs x (Err why)
+    → OnRefusal (Err why) (events_in x ≡ [])
 none-made (Err w) fault.NoMemory h = tt
 none-made (Ok e) fault.NoMemory h = tt
 none-made (Err w) why h = refl

@@ -1,5 +1,6 @@
 -- What an `undo`, or a `redo`, comes to is what the reference site answers.
-use Rattle.std.proofs.Common.{◌≡◌, ℕ, ◌+◌, Bool, true, false, cond, List, [], ◌∷◌, drop, length, Result, Ok, Err, nat_lt, refl, sym, ap, ◌∙◌, subst, arith}
+use Rattle.std.proofs.Common.{◌≡◌, ℕ, ◌+◌, Bool, true, false, cond, List, [], ◌∷◌, drop, length, Result, Ok, Err}
+use Rattle.std.proofs.Common.{nat_lt, refl, sym, ap, ◌∙◌, subst, arith}
 use Rattle.std.proofs.lemmas.Bool.{leb-false}
 use Rattle.std.specs.Prelude.{IsOk}
 use Rattle.std.specs.List.{AllByRecursion as Every}
@@ -30,7 +31,8 @@ room_by a b = or_fault (cond a (Err ClockEnd) (cond b (Err SessionFull) (Ok tt))
 abbrev turn_of : Bool → Bool → List Event → Result (List Event) BackRefusal
 turn_of a b es = cond a (Err (Refused ClockEnd)) (cond b (Err (Refused SessionFull)) (Ok es))
 
-refused_by : (a b : Bool) (es : List Event) (why : BackFault) → room_by a b ≡ Err why → TurnIs (turn_of a b es) (Err why)
+refused_by : (a b : Bool) (es : List Event) (why : BackFault) → room_by a b ≡ Err why
+    → TurnIs (turn_of a b es) (Err why)
 refused_by true b es fault.ClockEnd h = refl
 refused_by false true es fault.SessionFull h = refl
 refused_by a b es why h = cc
@@ -133,7 +135,8 @@ module _ (slow : SlowSite) (s : SiteValue) (stands : StandsFor slow s) where
           passes = tt;
           keeps = tt;
           steps =
-              subst (λ (r : Result (List Event) BackRefusal). PaysFor (length (turned r)) (Err fault.NoMemory) before after)
+              subst (λ (r : Result (List Event) BackRefusal). PaysFor (length (turned r)) (Err fault.NoMemory) before
+              after)
               (sym turns) (paid.0, omega (arith, paid.1, count));
         }
 

@@ -16,7 +16,8 @@ use Rattle.gd_reference.specs.Backs.{Backs, due, kept, with_gesture, with_turn}
 use Rattle.gd_reference.specs.Judging.{edit, with_event}
 use Rattle.gd_reference.specs.SiteEffects.{turned}
 use Rattle.gd_reference.specs.SlowSite.{SlowSite, clock}
-use Rattle.gd_reference.specs.TakeBack.{Asked, BackRefusal, after_edit, after_gesture, after_turn, back_of, backs_of, events_in, made, turn, turn_by, with_events, with_made, with_turned}
+use Rattle.gd_reference.specs.TakeBack.{Asked, BackRefusal, after_edit, after_gesture, after_turn, back_of, backs_of}
+use Rattle.gd_reference.specs.TakeBack.{events_in, made, turn, turn_by, with_events, with_made, with_turned}
 use Rattle.gd_site.proofs.Stands.{stands_backs}
 use Rattle.gd_site.specs.Sites.{SiteValue, StandsFor}
 use Rattle.gd_takeback.specs.Answers.{OnBackRefusal, PaysFor, TurnIs}
@@ -54,7 +55,8 @@ module _ (slow : SlowSite) {old : SiteValue} {backs : Backs} (before : StandsWit
   unfolding after_edit with_events backs_of
   edit_stands wanted e ranged is s left stands keeps =
       let After : Result Event EditRefusal → SlowSite = λ r. with_made slow (events_in r) with_gesture in
-      let well = subst (λ (r : Result Event EditRefusal). IsWell (After r)) is (well_after_edit slow wanted ranged before.site.well) in
+      let well = subst (λ (r : Result Event EditRefusal). IsWell (After r)) is
+      (well_after_edit slow wanted ranged before.site.well) in
       subst (λ (r : Result Event EditRefusal). StandsWith (After r) s left) (sym is)
       (made_stands slow (e ∷ []) with_gesture well s left stands
       (keeps ∙ ap (with_gesture (back_of slow e ∷ [])) before.backs_are))

@@ -38,8 +38,8 @@ OnBackRefusal (Ok es) P = Unit {0}
 OnBackRefusal (Err fault.NoMemory) P = Unit {0}
 OnBackRefusal (Err other) P = P
 
--- The steps of events that were made together: one for each; none where they are refused; and where memory ran out of a part of
--- them.
+-- The steps of events that were made together: one for each; none where they are refused; and where memory ran out of a
+-- part of them.
 abbrev pub PaysFor : ℕ → Result (List Event) BackFault → ℕ → ℕ → Type 0
 PaysFor most (Ok es) before after = after ≡ before + length es
 PaysFor most (Err fault.NoMemory) before after = (before ≤ after) × (after ≤ before + most)

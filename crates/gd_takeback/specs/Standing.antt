@@ -30,8 +30,9 @@ pub record Passes (slow : SlowSite) (es : List Event) (old new : Handed) : Type 
   pub others : new.others ≡ kept (backs_of slow es) old.others
 
 -- the first that was due was done, or refused, or memory ran out
-pub record PassesOn (slow : SlowSite) (r : Result (List Event) BackFault) (old new : Handed) (before after : ℕ) : Type 0 where
-  pub answer : TurnIs (turn_by slow old.due) r
-  pub passes : IfOk r (λ es. Passes slow es old new)
-  pub keeps : OnBackRefusal r (new ≡ old)
-  pub steps : PaysFor (length (turned (turn_by slow old.due))) r before after
+pub record PassesOn (slow : SlowSite) (r : Result (List Event) BackFault) (old new : Handed) (before after : ℕ) : Type 0
+  where
+    pub answer : TurnIs (turn_by slow old.due) r
+    pub passes : IfOk r (λ es. Passes slow es old new)
+    pub keeps : OnBackRefusal r (new ≡ old)
+    pub steps : PaysFor (length (turned (turn_by slow old.due))) r before after

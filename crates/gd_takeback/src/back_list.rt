@@ -10,8 +10,8 @@ use std::alloc::{AllocError, Global};
 use std::collections::VecDeque;
 use std::marker::Model;
 
-/// What takes gestures back, the newest first, at most 1,024, each in the memory that it needs. Contracts see it, and beside it for
-/// how many more there is room.
+/// What takes gestures back, the newest first, at most 1,024, each in the memory that it needs. Contracts see it, and
+/// beside it for how many more there is room.
 #[derive(Drop)]
 pub(crate) struct BackList {
     /// The newest last, and of each gesture what takes its last event back last.
@@ -53,8 +53,8 @@ impl BackList {
         self.gestures.reserve(1)
     }
 
-    /// Keeps one more, where there is room for it, as there is after a `reserve`. Where there are 1,024 the oldest goes. It takes
-    /// no memory.
+    /// Keeps one more, where there is room for it, as there is after a `reserve`. Where there are 1,024 the oldest
+    /// goes. It takes no memory.
     pub(crate) fn keep(&mut self, back: Vec<PackedOp>)
         requires { 1 ≤ self.old.spare }
         ensures { self.new.gestures ≡ kept (newest_first back) self.old.gestures }

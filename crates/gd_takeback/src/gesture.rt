@@ -62,10 +62,10 @@ impl Gesture {
         (self.events, self.back)
     }
 
-    /// Has the site make the next event, of an edit of its user, and returns its stamp. `ClockEnd`, `SessionFull`, `NoObject`,
-    /// `NotShape`, `NotGroup`, `NotPlaced`, `NotConnector`, `SameMember`, `NotTop` and `TooFar` are decided in this order, before
-    /// any memory is taken, and then the site, the gesture and the steps are as before; `NoMemory` where it then ran out, and the
-    /// steps are as before.
+    /// Has the site make the next event, of an edit of its user, and returns its stamp. `ClockEnd`, `SessionFull`,
+    /// `NoObject`, `NotShape`, `NotGroup`, `NotPlaced`, `NotConnector`, `SameMember`, `NotTop` and `TooFar` are decided
+    /// in this order, before any memory is taken, and then the site, the gesture and the steps are as before;
+    /// `NoMemory` where it then ran out, and the steps are as before.
     pub fn edit<L: Ledger>(
         &mut self,
         site: &mut Site,
@@ -88,9 +88,9 @@ impl Gesture {
         Ok(stamp)
     }
 
-    /// Has it make the next event, of an operation that takes one back. An operation that can't be the next event is left out; what
-    /// takes the site's own events back always can, where there is room for one more. `AllocError` where memory ran out, and the
-    /// steps are as before.
+    /// Has it make the next event, of an operation that takes one back. An operation that can't be the next event is
+    /// left out; what takes the site's own events back always can, where there is room for one more. `AllocError` where
+    /// memory ran out, and the steps are as before.
     pub(crate) fn turn<L: Ledger>(
         &mut self,
         site: &mut Site,
@@ -119,7 +119,8 @@ impl Gesture {
     ) -> Result<(), AllocError>
         requires { event.now ≡ own_event site.old event.now.op }
         ensures makes { (slow : SlowSite) → StandsFor slow site.old
-            → OnOk result (Makes slow event.now (making site.old self.old) (making site.new self.new)) }
+            → OnOk result (Makes slow event.now (making site.old self.old)
+            (making site.new self.new)) }
         ensures steps { OnOk result (steps.new ≡ steps.old + 1) }
         ensures err_steps { OnErr result (steps.new ≡ steps.old) }
     {

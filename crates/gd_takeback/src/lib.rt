@@ -1,5 +1,5 @@
-//! Taking one's own edits back, and doing them again: a site's edits go through a `TakeBack`, which keeps what takes the last of
-//! them back.
+//! Taking one's own edits back, and doing them again: a site's edits go through a `TakeBack`, which keeps what takes
+//! the last of them back.
 #![tactic(auto)]
 
 mod back_list;

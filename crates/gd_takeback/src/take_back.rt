@@ -65,8 +65,8 @@ impl From<AllocError> for BackFault {
     }
 }
 
-/// What takes a site's last gestures back, and what does those again that were taken back: the newest first, at most 1,024 of each,
-/// in memory that is taken when it is needed. All edits of the site's user go through it.
+/// What takes a site's last gestures back, and what does those again that were taken back: the newest first, at most
+/// 1,024 of each, in memory that is taken when it is needed. All edits of the site's user go through it.
 #[derive(Drop)]
 pub struct TakeBack {
     alloc: Global,
@@ -94,10 +94,11 @@ impl TakeBack {
         }
     }
 
-    /// Carries out an edit of the site's user alone, and returns the event that it became. It keeps what takes the edit back, and
-    /// forgets what could be done again. `ClockEnd`, `SessionFull`, `NoObject`, `NotShape`, `NotGroup`, `NotPlaced`,
-    /// `NotConnector`, `SameMember`, `NotTop` and `TooFar` are decided in this order, before any memory is taken; `NoMemory` where
-    /// it then ran out. After each of them the site, what is kept here and the steps are as before.
+    /// Carries out an edit of the site's user alone, and returns the event that it became. It keeps what takes the edit
+    /// back, and forgets what could be done again. `ClockEnd`, `SessionFull`, `NoObject`, `NotShape`, `NotGroup`,
+    /// `NotPlaced`, `NotConnector`, `SameMember`, `NotTop` and `TooFar` are decided in this order, before any memory is
+    /// taken; `NoMemory` where it then ran out. After each of them the site, what is kept here and the steps are as
+    /// before.
     pub fn edit<L: Ledger>(
         &mut self,
         site: &mut Site,
@@ -123,8 +124,8 @@ impl TakeBack {
         Ok(event)
     }
 
-    /// Keeps what takes a gesture back that the site has made, and forgets what could be done again; of one without events nothing.
-    /// Returns its events. `AllocError` where memory ran out.
+    /// Keeps what takes a gesture back that the site has made, and forgets what could be done again; of one without
+    /// events nothing. Returns its events. `AllocError` where memory ran out.
     pub fn keep(&mut self, gesture: Gesture) -> Result<EventList, AllocError>
         ensures events { IfOk result (λ events. events ≡ gesture.events) }
         ensures kept { OnOk result (self.new ≡ with_gesture gesture.back self.old) }
@@ -139,9 +140,10 @@ impl TakeBack {
         Ok(events)
     }
 
-    /// Takes the last gesture back that wasn't taken back yet, or does the last one again that was, and returns the events that
-    /// it became. `Nothing`, `ClockEnd` and `SessionFull` are decided in this order, before any memory is taken, and then the
-    /// site, what is kept here and the steps are as before; `NoMemory` where it then ran out, and a part of the steps was taken.
+    /// Takes the last gesture back that wasn't taken back yet, or does the last one again that was, and returns the
+    /// events that it became. `Nothing`, `ClockEnd` and `SessionFull` are decided in this order, before any memory is
+    /// taken, and then the site, what is kept here and the steps are as before; `NoMemory` where it then ran out, and a
+    /// part of the steps was taken.
     pub fn turn<L: Ledger>(
         &mut self,
         site: &mut Site,
@@ -208,7 +210,8 @@ fn may_turn(due: &BackList, site: &Site) -> Result<(), BackFault>
     Ok(())
 }
 
-/// A gesture of the operations, the last one first. `AllocError` where memory ran out, and a part of them was done then.
+/// A gesture of the operations, the last one first. `AllocError` where memory ran out, and a part of them was done
+/// then.
 fn do_all<L: Ledger>(
     alloc: Global,
     back: Vec<PackedOp>,

@@ -9,7 +9,8 @@ use std::process::Abort;
 use std::rt::HostRuntime;
 use std::test;
 
-/// The log of session 7, which site 1 of 2 keeps, with a rect of site 2 and an ellipse of site 1, each with its check behind it.
+/// The log of session 7, which site 1 of 2 keeps, with a rect of site 2 and an ellipse of site 1, each with its check
+/// behind it.
 const TIE: &[u8] =
     b"GDOL\x07\x00\x00\x00\x07\x01\x02\xC3\x00\x00\x00\x00\x00\x01\x02\x00\x01\x01\x01\x00\x00\x00\x05\x00\x00\x00\x05\x00\x00\x00\x0A\x00\x00\x00\x0A\x00\x4F\x60\x36\x53\xC3\x00\x00\x00\x00\x00\x01\x01\x00\x01\x01\x02\x00\x00\x00\x00\x00\x00\x00\x00\x00\x00\x00\x14\x00\x00\x00\x14\x00\xFD\xF1\x13\x4D\x00";
 
@@ -41,7 +42,8 @@ fn close(bytes: &mut Vec<u8>, place: usize) {
     }
 }
 
-/// Starts a log, and adds the events of that one together, up to the first call that fails. How many of these two were done.
+/// Starts a log, and adds the events of that one together, up to the first call that fails. How many of these two were
+/// done.
 fn write_together<J: Journal>(
     alloc: Global,
     journal: &mut J,
@@ -93,8 +95,8 @@ fn count(alloc: Global, bytes: &[u8]) -> Result<Option<usize>, AllocError> {
     }
 }
 
-/// A call that fails; how many steps were done then; how long the journal is, which gate of it is closed, and how many events
-/// it has.
+/// A call that fails; how many steps were done then; how long the journal is, which gate of it is closed, and how many
+/// events it has.
 #[derive(Clone, Copy)]
 struct Case {
     call: Call,
@@ -150,7 +152,8 @@ fn expect_case<R: Abort>(rt: &R, alloc: Global, case: Case) -> Result<(), AllocE
     expect_count(rt, alloc, journal.bytes(), case.events)
 }
 
-/// An image of what is left where that sync fails, with this fill behind its first k writes, has to hold so many events.
+/// An image of what is left where that sync fails, with this fill behind its first k writes, has to hold so many
+/// events.
 fn expect_image<R: Abort>(
     rt: &R,
     alloc: Global,
@@ -182,8 +185,8 @@ fn a_gesture_is_there_or_not(rt: HostRuntime) -> Result<(), test::Fail> {
     Ok(())
 }
 
-// Where a sync fails the write before it may have landed or not, and left any bytes in its range, but for a gate alone, which has
-// then its byte or the one before. No image has one event alone.
+// Where a sync fails the write before it may have landed or not, and left any bytes in its range, but for a gate alone,
+// which has then its byte or the one before. No image has one event alone.
 #[test]
 fn each_image_of_a_crash_has_the_gesture_or_not(rt: HostRuntime) -> Result<(), test::Fail> {
     let rows: [(u64, u32, u8, usize); 12] = [

@@ -31,8 +31,8 @@ fn torn<R: Abort>(rt: &R, alloc: Global) -> Result<MemoryJournal, AllocError> {
     Ok(journal)
 }
 
-/// The image in which the first k writes stand as written has to have these contents. The last one is of one byte over another one,
-/// and isn't torn.
+/// The image in which the first k writes stand as written has to have these contents. The last one is of one byte over
+/// another one, and isn't torn.
 fn expect_image<R: Abort>(
     rt: &R,
     alloc: Global,

@@ -1,4 +1,5 @@
-//! What no clause says of the libraries, over their public calls. The tests stand here so that each library is proved once.
+//! What no clause says of the libraries, over their public calls. The tests stand here so that each library is proved
+//! once.
 #![tactic(auto)]
 
 #[cfg(test)]

@@ -1,5 +1,6 @@
 -- A chain that is followed link by link.
-use Rattle.std.proofs.Common.{◌≡◌, ℕ, suc, Bool, true, false, cond, Option, None, Some, refl, sym, ap, ◌∙◌, arith, pos, ◌+ℤ◌}
+use Rattle.std.proofs.Common.{◌≡◌, ℕ, suc, Bool, true, false, cond, Option, None, Some, refl, sym, ap, ◌∙◌, arith, pos}
+use Rattle.std.proofs.Common.{◌+ℤ◌}
 use Rattle.std.proofs.lemmas.Int.{ints}
 use Rattle.std.specs.Prelude.{option_map, is_some}
 use Rattle.std.specs.FinMap as map_of
@@ -25,7 +26,8 @@ abbrev pub after_link : Above → Link → Object → Above
 after_link s l g = with_link s (first_parent s.parent (parent_by l g)) l g
 
 -- the part of a chain that is known and the rest of it, along at most n links, make the whole
-pub record Followed (n : ℕ) (d : Drawing) (id : Stamp) (start : Option Link) (left : ℕ) (sum : Above) (below : Stamp) (next : Option Link) : Type 0 where
+pub record Followed (n : ℕ) (d : Drawing) (id : Stamp) (start : Option Link) (left : ℕ) (sum : Above) (below : Stamp)
+    (next : Option Link) : Type 0 where
   pub whole : joined sum (above_in left d below next) ≡ above_in n d id start
 
 -- an empty sum adds nothing
@@ -37,17 +39,20 @@ started (Some a) =
     λ i. Some record { parent = a.parent; dx = xs i; dy = ys i }
 
 -- before the first link
-pub start : (n : ℕ) (d : Drawing) (id : Stamp) (link : Option Link) (left : ℕ) → left ≡ n → Followed n d id link left (record { parent = None; dx = pos 0; dy = pos 0 }) id link
+pub start : (n : ℕ) (d : Drawing) (id : Stamp) (link : Option Link) (left : ℕ) → left ≡ n
+    → Followed n d id link left (record { parent = None; dx = pos 0; dy = pos 0 }) id link
 start n d id link left e = record { whole = started (above_in left d id link) ∙ ap (λ m. above_in m d id link) e }
 
 -- the first parent along two parts of a chain
-parents : (p : Option Stamp) (b : Bool) (l : Stamp) (q : Option Stamp) → first_parent p (cond b q (Some l)) ≡ first_parent (first_parent p (cond b None (Some l))) q
+parents : (p : Option Stamp) (b : Bool) (l : Stamp) (q : Option Stamp)
+    → first_parent p (cond b q (Some l)) ≡ first_parent (first_parent p (cond b None (Some l))) q
 parents None true l q = refl
 parents None false l q = refl
 parents (Some r) b l q = refl
 
 -- a link in front of the rest is one behind the sum
-one_more : (s : Above) (l : Link) (g : Object) (x : Option Above) → joined s (option_map (above_by l g) x) ≡ joined (after_link s l g) x
+one_more : (s : Above) (l : Link) (g : Object) (x : Option Above)
+    → joined s (option_map (above_by l g) x) ≡ joined (after_link s l g) x
 one_more s l g None = refl
 one_more s l g (Some a) =
     let xs : s.dx +ℤ ((l.dx +ℤ g.x) +ℤ a.dx) ≡ (s.dx +ℤ (l.dx +ℤ g.x)) +ℤ a.dx = omega (arith, ints) in
@@ -55,17 +60,22 @@ one_more s l g (Some a) =
     λ i. Some record { parent = parents s.parent g.dissolved l.parent a.parent i; dx = xs i; dy = ys i }
 
 -- no group, nothing above
-pub by_group : (l : Link) (rest : Object → Option Above) (t : Bool) (x : Option Object) → cond t (through l x rest) None ≡ through l (cond t x None) rest
+pub by_group : (l : Link) (rest : Object → Option Above) (t : Bool) (x : Option Object)
+    → cond t (through l x rest) None ≡ through l (cond t x None) rest
 by_group l rest true x = refl
 by_group l rest false x = refl
 
 -- one link of the definition
-above_step : (m : ℕ) (d : Drawing) (below : Stamp) (l : Link) → above_in (suc m) d below (Some l) ≡ through l (group_in d below l) (λ g. above_in m d l.parent g.link)
-above_step m d below l = by_group l (λ g. above_in m d l.parent g.link) (is_before below l.parent) (map_of.find stamp_cmp l.parent d)
+above_step : (m : ℕ) (d : Drawing) (below : Stamp) (l : Link)
+    → above_in (suc m) d below (Some l) ≡ through l (group_in d below l) (λ g. above_in m d l.parent g.link)
+above_step m d below l
+    = by_group l (λ g. above_in m d l.parent g.link) (is_before below l.parent) (map_of.find stamp_cmp l.parent d)
 
 -- one link is followed
-pub step : {n : ℕ} {d : Drawing} {id : Stamp} {start : Option Link} {left : ℕ} {sum : Above} {below : Stamp} (next : Option Link) → Followed n d id start left sum below next
-    → (l : Link) (o : Object) (m : ℕ) (s : Above) → next ≡ Some l → Some o ≡ group_in d below l → left ≡ suc m → s ≡ after_link sum l o → Followed n d id start m s l.parent o.link
+pub step : {n : ℕ} {d : Drawing} {id : Stamp} {start : Option Link} {left : ℕ} {sum : Above} {below : Stamp}
+    (next : Option Link) → Followed n d id start left sum below next
+    → (l : Link) (o : Object) (m : ℕ) (s : Above) → next ≡ Some l → Some o ≡ group_in d below l → left ≡ suc m
+    → s ≡ after_link sum l o → Followed n d id start m s l.parent o.link
 step {d = d} {sum = sum} {below = below} next f l o m s e g h is =
     record {
       whole =
@@ -78,7 +88,8 @@ step {d = d} {sum = sum} {below = below} next f l o m s e g h is =
     }
 
 -- a link leads nowhere
-pub lost : {n : ℕ} {d : Drawing} {id : Stamp} {start : Option Link} {left : ℕ} {sum : Above} {below : Stamp} (next : Option Link) → Followed n d id start left sum below next
+pub lost : {n : ℕ} {d : Drawing} {id : Stamp} {start : Option Link} {left : ℕ} {sum : Above} {below : Stamp}
+    (next : Option Link) → Followed n d id start left sum below next
     → (l : Link) (m : ℕ) → next ≡ Some l → None ≡ group_in d below l → left ≡ suc m → None ≡ above_in n d id start
 lost {d = d} {sum = sum} {below = below} next f l m e g h =
     ap (λ x. joined sum (through l x (λ g. above_in m d l.parent g.link))) g
@@ -87,7 +98,8 @@ lost {d = d} {sum = sum} {below = below} next f l m e g h =
     ∙ f.whole
 
 -- one link in front of the rest of a chain
-pub in_front : (l : Link) (g : Object) (a : Above) → with_link a (first_parent (parent_by l g) a.parent) l g ≡ above_by l g a
+pub in_front : (l : Link) (g : Object) (a : Above)
+    → with_link a (first_parent (parent_by l g) a.parent) l g ≡ above_by l g a
 in_front l g a =
     let xs : a.dx +ℤ (l.dx +ℤ g.x) ≡ (l.dx +ℤ g.x) +ℤ a.dx = omega (arith, ints) in
     let ys : a.dy +ℤ (l.dy +ℤ g.y) ≡ (l.dy +ℤ g.y) +ℤ a.dy = omega (arith, ints) in
@@ -98,7 +110,9 @@ in_front l g a =
     by false = refl
 
 -- a link that is left where no more may be followed
-pub cut : {n : ℕ} {d : Drawing} {id : Stamp} {start : Option Link} {left : ℕ} {sum : Above} {below : Stamp} (next : Option Link) → Followed n d id start left sum below next
+pub cut : {n : ℕ} {d : Drawing} {id : Stamp} {start : Option Link} {left : ℕ} {sum : Above} {below : Stamp}
+    (next : Option Link) → Followed n d id start left sum below next
     → is_some next ≡ true → left ≡ 0 → None ≡ above_in n d id start
 cut None f e h = cc
-cut {d = d} {sum = sum} {below = below} (Some l) f e h = ap (λ m. joined sum (above_in m d below (Some l))) (sym h) ∙ f.whole
+cut {d = d} {sum = sum} {below = below} (Some l) f e h = ap (λ m. joined sum (above_in m d below (Some l))) (sym h)
+    ∙ f.whole

@@ -1,6 +1,7 @@
 //! What stands above one object, by its chain of links.
 
-ghost use Rattle.std.specs.Prelude.{◌≡◌, ◌≤◌, ◌+◌, ◌+ℤ◌, ◌≤ℤ◌, pos, neg_ℤ, length, None, Some, IfSome, option_copied, option_map, if◌then◌else◌};
+ghost use Rattle.std.specs.Prelude.{◌≡◌, ◌≤◌, ◌+◌, ◌+ℤ◌, ◌≤ℤ◌, pos, neg_ℤ, length, None, Some, IfSome, option_copied};
+ghost use Rattle.std.specs.Prelude.{option_map, if◌then◌else◌};
 ghost use Rattle.gd_base.specs.declared.ranges.TheConstants.{SESSION_EVENTS};
 ghost use Rattle.gd_model.specs.Board.{listed};
 ghost use Rattle.gd_model.specs.Shown.{above, above_in};
@@ -12,8 +13,8 @@ use gd_base::{KeptObject, Link, Stamp};
 use gd_canvas::Canvas;
 use gd_model::Above;
 
-/// What stands above an object of that id and link. Ids rise along a chain, so it has at most as many links as there are
-/// objects.
+/// What stands above an object of that id and link. Ids rise along a chain, so it has at most as many links as there
+/// are objects.
 pub(crate) fn above(canvas: &Canvas, id: Stamp, link: Option<Link>) -> Option<Above>
     requires { length (listed (board_of canvas.now)) ≤ SESSION_EVENTS }
     ensures above { result ≡ above (listed (board_of canvas.now)) id link }

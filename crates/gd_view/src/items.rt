@@ -14,8 +14,8 @@ use gd_canvas::Canvas;
 use gd_model::Above;
 use std::alloc::AllocError;
 
-/// The item of that id, or none where it isn't shown: it isn't there, is hidden, is a dissolved group, or a connector of which an end
-/// isn't shown. It takes no memory; `AllocError` where its label has as many handles as can be counted.
+/// The item of that id, or none where it isn't shown: it isn't there, is hidden, is a dissolved group, or a connector
+/// of which an end isn't shown. It takes no memory; `AllocError` where its label has as many handles as can be counted.
 #[tactic(auto, using(crate::proofs::Rulesets::drawn))]
 pub fn item(canvas: &Canvas, id: Stamp) -> Result<Option<Item>, AllocError>
     requires { map_of.len (board_of canvas.now) ≤ SESSION_EVENTS }

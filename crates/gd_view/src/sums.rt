@@ -1,5 +1,5 @@
-//! What stands above all objects, from the greatest id to the least: a link leads to a greater id, whose sum is known by
-//! then.
+//! What stands above all objects, from the greatest id to the least: a link leads to a greater id, whose sum is known
+//! by then.
 
 ghost use Rattle.std.specs.Prelude.{◌≡◌, ◌≤◌, ◌+◌, Some, IsTrue, IfOk, IfSome, option_map, if◌then◌else◌};
 ghost use Rattle.std.specs.FinMap as map_of;

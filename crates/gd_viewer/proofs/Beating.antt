@@ -1,5 +1,7 @@
--- A viewer that takes what a frame says of its sender's clock, and refuses the frames that the reference viewer refuses.
-use Rattle.std.proofs.Common.{◌≡◌, ℕ, ◌≤◌, max, Bool, true, false, cond, ◌==◌, List, refl, sym, ap, ◌∙◌, subst, arith, IsTrue}
+-- A viewer that takes what a frame says of its sender's clock, and refuses the frames that the reference viewer
+-- refuses.
+use Rattle.std.proofs.Common.{◌≡◌, ℕ, ◌≤◌, max, Bool, true, false, cond, ◌==◌, List, refl, sym, ap, ◌∙◌, subst, arith}
+use Rattle.std.proofs.Common.{IsTrue}
 use Rattle.gd_base.specs.Sites.{is_site}
 use Rattle.gd_base.proofs.Lists.{Every-weaker}
 use Rattle.gd_base.proofs.SiteLemmas.{is_site-bounds}
@@ -19,7 +21,8 @@ use Rattle.gd_viewer.proofs.Taking.{heard_put}
 
 -- ---- sure clocks that rise
 
-module _ (s : ViewerValue) (sures : List ℕ) (v : SlowViewer) (stands : StandsFor v s) (sure : ℕ → ℕ) (are : (t : ℕ) → IsTrue (is_site v.sites t) → of_site sures t ≡ sure t) (rise : (t : ℕ) → v.sure t ≤ sure t) where
+module _ (s : ViewerValue) (sures : List ℕ) (v : SlowViewer) (stands : StandsFor v s) (sure : ℕ → ℕ)
+    (are : (t : ℕ) → IsTrue (is_site v.sites t) → of_site sures t ≡ sure t) (rise : (t : ℕ) → v.sure t ≤ sure t) where
   abbrev slower : SlowViewer
   slower = record v { sure = sure }
 
@@ -39,15 +42,19 @@ module _ (s : ViewerValue) (sures : List ℕ) (v : SlowViewer) (stands : StandsF
     after_it : Keeps v.base v.held (viewer_line slower) trimmed
     after_it =
         subst (λ (l : ℕ). Keeps v.base v.held l trimmed) line_new
-        (keeps_trimmed v.base v.held (viewer_line v) s.history stands.history higher (omega (arith, line_up, line_new)) trimmed trims)
+        (keeps_trimmed v.base v.held (viewer_line v) s.history stands.history higher (omega (arith, line_up, line_new))
+        trimmed trims)
 
-    risen_stands : StandsFor slower (record { session = s.session; history = trimmed; heard = record s.heard { sures = sures } })
+    risen_stands : StandsFor slower
+        (record { session = s.session; history = trimmed; heard = record s.heard { sures = sures } })
     risen_stands = record {
       well = record {
         some = stands.well.some;
         few = stands.well.few;
         by_members = stands.well.by_members;
-        passed = Every-weaker _ _ (λ (e : Event) (le : e.stamp.clock ≤ v.sure e.stamp.site). omega (arith, le, rise e.stamp.site)) v.held stands.well.passed;
+        passed = Every-weaker _ _
+            (λ (e : Event) (le : e.stamp.clock ≤ v.sure e.stamp.site). omega (arith, le, rise e.stamp.site)) v.held
+            stands.well.passed;
         numbered = stands.well.numbered;
         made = stands.well.made;
       };
@@ -87,7 +94,9 @@ module _ (s : ViewerValue) (f : Frame) (heard : HeardValue) (line : ℕ) (b : Be
     raised_are : (t : ℕ) → IsTrue (is_site v.sites t) → of_site raised t ≡ put v.sure f.head.from greater t
     raised_are t h =
         let bounds = is_site-bounds s.heard.sites f.head.from b.inside in
-        heard_put s.heard b.sized f.head.from bounds.0 bounds.1 (max (of_site s.heard.sures f.head.from) f.head.clock) s.heard.sures b.sized.sures (λ u. IsTrue (is_site v.sites u)) (λ u k. (is_site-bounds v.sites u k).0) v.sure stands.sures t h
+        heard_put s.heard b.sized f.head.from bounds.0 bounds.1 (max (of_site s.heard.sures f.head.from) f.head.clock)
+        s.heard.sures b.sized.sures (λ u. IsTrue (is_site v.sites u)) (λ u k. (is_site-bounds v.sites u k).0) v.sure
+        stands.sures t h
         ∙ ap (λ (n : ℕ). put v.sure f.head.from (max n f.head.clock) t) (stands.sures f.head.from there)
 
     rise : (t : ℕ) → v.sure t ≤ put v.sure f.head.from greater t
@@ -98,28 +107,43 @@ module _ (s : ViewerValue) (f : Frame) (heard : HeardValue) (line : ℕ) (b : Be
     line_by false = risen_line s s.heard.sures v stands v.sure stands.sures (λ t. omega arith)
 
     beat_line : s.history.line ≤ line
-    beat_line = let here = line_by (of_site s.heard.counts f.head.from == f.head.count) in omega (arith, here, b.line_is ∙ ap heard_line b.heard_is)
+    beat_line = let here = line_by (of_site s.heard.counts f.head.from == f.head.count)
+        in omega (arith, here, b.line_is ∙ ap heard_line b.heard_is)
 
     stands_by : (t : Bool) (trimmed : History) → Trimmed s.history (heard_line (beaten_by t)) trimmed
-        → StandsFor (cond t (record v { sure = put v.sure f.head.from greater }) v) (record { session = s.session; history = trimmed; heard = beaten_by t })
-    stands_by true trimmed trims = risen_stands s raised v stands (put v.sure f.head.from greater) raised_are rise trimmed trims
-    stands_by false trimmed trims = risen_stands s s.heard.sures v stands v.sure stands.sures (λ t. omega arith) trimmed trims
+        → StandsFor (cond t (record v { sure = put v.sure f.head.from greater }) v)
+        (record { session = s.session; history = trimmed; heard = beaten_by t })
+    stands_by true trimmed trims
+        = risen_stands s raised v stands (put v.sure f.head.from greater) raised_are rise trimmed trims
+    stands_by false trimmed trims
+        = risen_stands s s.heard.sures v stands v.sure stands.sures (λ t. omega arith) trimmed trims
 
-    pub beat_stands : (trimmed : History) → Trimmed s.history line trimmed → StandsFor (viewer_beat v f) (beaten_viewer trimmed)
+    pub beat_stands : (trimmed : History) → Trimmed s.history line trimmed
+        → StandsFor (viewer_beat v f) (beaten_viewer trimmed)
     beat_stands trimmed trims =
         let test : Bool = of_site s.heard.counts f.head.from == f.head.count in
-        subst (λ (h : HeardValue). StandsFor (viewer_beat v f) (record { session = s.session; history = trimmed; heard = h })) (sym b.heard_is)
-        (subst (λ (n : ℕ). StandsFor (cond (n == f.head.count) (record v { sure = put v.sure f.head.from greater }) v) (record { session = s.session; history = trimmed; heard = beaten_by test })) (stands.counts f.head.from there)
-        (stands_by test trimmed (subst (λ (l : ℕ). Trimmed s.history l trimmed) (b.line_is ∙ ap heard_line b.heard_is) trims)))
+        subst (λ (h : HeardValue). StandsFor (viewer_beat v f)
+        (record { session = s.session; history = trimmed; heard = h })) (sym b.heard_is)
+        (subst (λ (n : ℕ). StandsFor (cond (n == f.head.count) (record v { sure = put v.sure f.head.from greater }) v)
+        (record { session = s.session; history = trimmed; heard = beaten_by test }))
+        (stands.counts f.head.from there)
+        (stands_by test trimmed
+        (subst (λ (l : ℕ). Trimmed s.history l trimmed) (b.line_is ∙ ap heard_line b.heard_is) trims)))
 
   sized_by : IsHeard s.heard → (t : Bool) → IsHeard (beaten_by t)
-  sized_by h true = record { sites_to = h.sites_to; counts = h.counts; sures = length-put s.heard.sures f.head.from (max (of_site s.heard.sures f.head.from) f.head.clock) h.sures }
+  sized_by h true = record {
+    sites_to = h.sites_to;
+    counts = h.counts;
+    sures
+        = length-put s.heard.sures f.head.from (max (of_site s.heard.sures f.head.from) f.head.clock) h.sures;
+  }
   sized_by h false = h
 
   pub beaten_line : HasSlowViewer s → s.history.line ≤ line
   beaten_line i = beat_line i.slow i.stands
 
-  pub beaten_is_viewer : (trimmed : History) → Trimmed s.history line trimmed → HasSlowViewer s → HasSlowViewer (beaten_viewer trimmed)
+  pub beaten_is_viewer : (trimmed : History) → Trimmed s.history line trimmed → HasSlowViewer s
+      → HasSlowViewer (beaten_viewer trimmed)
   beaten_is_viewer trimmed trims i = record {
     slow = viewer_beat i.slow f;
     stands = beat_stands i.slow i.stands trimmed trims;
@@ -132,11 +156,21 @@ sites_by h sures true = refl
 sites_by h sures false = refl
 
 -- there is a site then too
-pub some_beaten : (s : ViewerValue) (f : Frame) (heard : HeardValue) → heard ≡ with_beat s.heard f.head.from f.head.count f.head.clock → HasSlowViewer s → 1 ≤ heard.sites
+pub some_beaten : (s : ViewerValue) (f : Frame) (heard : HeardValue)
+    → heard ≡ with_beat s.heard f.head.from f.head.count f.head.clock → HasSlowViewer s → 1 ≤ heard.sites
 some_beaten s f heard is i =
-    omega (arith, ap (λ (h : HeardValue). h.sites) is, sites_by s.heard (put_at s.heard.sures f.head.from (max (of_site s.heard.sures f.head.from) f.head.clock)) (of_site s.heard.counts f.head.from == f.head.count), i.stands.sites, i.stands.well.some)
+    omega (
+      arith,
+      ap (λ (h : HeardValue). h.sites) is,
+      sites_by s.heard
+          (put_at s.heard.sures f.head.from (max (of_site s.heard.sures f.head.from) f.head.clock))
+          (of_site s.heard.counts f.head.from == f.head.count),
+      i.stands.sites,
+      i.stands.well.some,
+    )
 
 -- ---- frames are refused alike
 
-pub refused_is : (v : SlowViewer) (s : ViewerValue) → StandsFor v s → (head : Head) → refused_by s head ≡ viewer_refusal v head
+pub refused_is : (v : SlowViewer) (s : ViewerValue) → StandsFor v s → (head : Head)
+    → refused_by s head ≡ viewer_refusal v head
 refused_is v s stands head = λ i. viewer_refusal (record v { session = stands.session i; sites = stands.sites i }) head

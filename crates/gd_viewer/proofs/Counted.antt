@@ -19,14 +19,31 @@ module _ (count : ℕ → ℕ) (site : ℕ) where
   unfolding counted_to
   counted_to-before zero before = omega arith
   counted_to-before (suc k) before =
-      omega (arith, counted_to-before k (omega (arith, before)), put_other count site (count site + 1) (suc k) (omega (arith, before)))
+      omega (
+        arith,
+        counted_to-before k (omega (arith, before)),
+        put_other count site (count site + 1) (suc k)
+            (omega (arith, before)),
+      )
 
   -- where one of the sites made one more, all of them did
-  pub counted_to-more : (k : ℕ) → 1 ≤ site → site ≤ k → counted_to (put count site (count site + 1)) k ≡ counted_to count k + 1
+  pub counted_to-more : (k : ℕ) → 1 ≤ site → site ≤ k
+      → counted_to (put count site (count site + 1)) k ≡ counted_to count k + 1
   unfolding counted_to
   counted_to-more zero low high = absurd (omega (arith, low, high))
   counted_to-more (suc k) low high =
       elim (cases_eq (suc k) site) [
-        | inl here ↦ omega (arith, put_same count site (count site + 1) (suc k) here, counted_to-before k (omega (arith, here)), ap count here)
-        | inr apart ↦ omega (arith, put_other count site (count site + 1) (suc k) apart, counted_to-more k low (omega (arith, high, apart)))
+        | inl here ↦ omega (
+          arith,
+          put_same count site (count site + 1) (suc k) here,
+          counted_to-before k
+              (omega (arith, here)),
+          ap count here,
+        )
+        | inr apart ↦ omega (
+          arith,
+          put_other count site (count site + 1) (suc k) apart,
+          counted_to-more k low
+              (omega (arith, high, apart)),
+        )
       ]

@@ -32,8 +32,8 @@ unfoldable pub counted_to : (ℕ → ℕ) → ℕ → ℕ
 counted_to count zero = 0
 counted_to count (suc k) = count (suc k) + counted_to count k
 
--- What a reference viewer keeps by itself: each held event is of a site of the session, and not above that site's sure clock;
--- no site made more events than it can; and there are no more objects and held events than the sites made.
+-- What a reference viewer keeps by itself: each held event is of a site of the session, and not above that site's sure
+-- clock; no site made more events than it can; and there are no more objects and held events than the sites made.
 pub record IsWellViewer (v : SlowViewer) : Type 0 where
   pub some : 1 ≤ v.sites
   pub few : v.sites ≤ SITES
@@ -42,9 +42,9 @@ pub record IsWellViewer (v : SlowViewer) : Type 0 where
   pub numbered : (t : ℕ) → v.count t ≤ EVENTS_OF_A_SITE
   pub made : map_of.len v.base + length v.held ≤ counted_to v.count v.sites
 
--- A viewer stands for a reference viewer that keeps itself well, as all do that begin with a good snapshot, where the session
--- and what is heard of each site agree. Its history has the reference viewer's line, the held events above it, each with the
--- before-value that the fold from the base finds, and the drawing of all.
+-- A viewer stands for a reference viewer that keeps itself well, as all do that begin with a good snapshot, where the
+-- session and what is heard of each site agree. Its history has the reference viewer's line, the held events above it,
+-- each with the before-value that the fold from the base finds, and the drawing of all.
 pub record StandsFor (v : SlowViewer) (s : ViewerValue) : Type 0 where
   pub well : IsWellViewer v
   pub session : s.session ≡ v.session

@@ -10,7 +10,8 @@ ghost use Rattle.gd_site.specs.Answers.{checked};
 ghost use Rattle.gd_stable.specs.Heard.{of_site};
 ghost use Rattle.gd_viewer.specs.Answers.{refused_by, steps_by, taken_by};
 ghost use Rattle.gd_viewer.specs.Viewers.{heard_line};
-ghost use Rattle.gd_viewing.specs.SlowViewer.{SlowViewer, opened, viewed, viewer_arrived, viewer_beat, viewer_offer, viewer_refusal, with_viewed};
+ghost use Rattle.gd_viewing.specs.SlowViewer.{SlowViewer, opened, viewed, viewer_arrived, viewer_beat, viewer_offer};
+ghost use Rattle.gd_viewing.specs.SlowViewer.{viewer_refusal, with_viewed};
 
 use crate::opening::{canvas_of, heard_of, snapshot_holds};
 use gd_arriving::arrived_from;
@@ -27,9 +28,9 @@ use std::alloc::{AllocError, Global};
 use std::marker::Model;
 use std::sync::ledger::Ledger;
 
-/// A viewer of a session, in memory. Contracts see the session, its history, and what is heard of each site. There is always a
-/// reference viewer for which it stands: one that holds the same events, keeps no drawing but the one that it began with, and
-/// finds all else from these events each time.
+/// A viewer of a session, in memory. Contracts see the session, its history, and what is heard of each site. There is
+/// always a reference viewer for which it stands: one that holds the same events, keeps no drawing but the one that it
+/// began with, and finds all else from these events each time.
 #[derive(Drop)]
 pub struct Viewer {
     alloc: Global,
@@ -52,8 +53,8 @@ impl Model for Viewer {
 impl Viewer {
     ghost use Rattle.gd_viewer.specs.Viewers.{StandsFor};
 
-    /// A viewer that shows what a snapshot tells. The snapshot's objects and events are moved. The steps rise by what the
-    /// arrivals of the kept events cost.
+    /// A viewer that shows what a snapshot tells. The snapshot's objects and events are moved. The steps rise by what
+    /// the arrivals of the kept events cost.
     ///
     /// `AllocError` where memory ran out; the steps then rose by what some of the first arrivals cost.
     pub fn open<L: Ledger>(
@@ -88,8 +89,8 @@ impl Viewer {
         self.heard.sites()
     }
 
-    /// Whether the frame is taken: `Session` where it is of another session, else `NoSuchSite` where its sender is no site of
-    /// the session. For whom it is, and what it acknowledges, doesn't matter.
+    /// Whether the frame is taken: `Session` where it is of another session, else `NoSuchSite` where its sender is no
+    /// site of the session. For whom it is, and what it acknowledges, doesn't matter.
     pub fn check_frame(&self, frame: &Frame) -> Result<(), FrameFault>
         ensures { (slow : SlowViewer) → StandsFor slow self.now
             → result ≡ checked (viewer_refusal slow frame.now.head) }
@@ -110,9 +111,9 @@ impl Viewer {
         Ok(())
     }
 
-    /// Takes an event where it is the next one of its site; the history is then trimmed to the line. At every other answer
-    /// the viewer and the steps are as before, and no memory was taken. `AllocError` where memory ran out, which comes for
-    /// the next event alone; then too they are as before.
+    /// Takes an event where it is the next one of its site; the history is then trimmed to the line. At every other
+    /// answer the viewer and the steps are as before, and no memory was taken. `AllocError` where memory ran out, which
+    /// comes for the next event alone; then too they are as before.
     pub fn arrive<L: Ledger>(
         &mut self,
         event: Event,

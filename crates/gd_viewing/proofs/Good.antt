@@ -1,5 +1,7 @@
 -- The snapshot of a well site is good.
-use Rattle.std.proofs.Common.{◌≡◌, ℕ, zero, suc, ◌+◌, ◌-◌, ◌<◌, ◌≤◌, get_or, true, List, [], ◌∷◌, length, filter, Option, Some, None, Contains, refl, sym, ap, ◌∙◌, subst, arith, ◌==◌, le-leb, length-append}
+use Rattle.std.proofs.Common.{◌≡◌, ℕ, zero, suc, ◌+◌, ◌-◌, ◌<◌, ◌≤◌, get_or, true, List, [], ◌∷◌, length, filter}
+use Rattle.std.proofs.Common.{Option, Some, None, Contains, refl, sym, ap, ◌∙◌, subst, arith, ◌==◌, le-leb}
+use Rattle.std.proofs.Common.{length-append}
 use Rattle.std.proofs.lemmas.Bool.{and_from, cond_both, leb-true}
 use Rattle.std.specs.FinMap as map_of
 use Rattle.std.specs.List.{AllByRecursion as Every}
@@ -22,7 +24,8 @@ use Rattle.gd_protocol.proofs.Members.{contains_made, every_contained, every_fro
 use Rattle.gd_protocol.proofs.WellSites.{well_distinct}
 use Rattle.gd_protocol.specs.Sites.{IsWell}
 use Rattle.gd_reference.specs.SlowSite.{SlowSite, clock, count, kept, line, made_by}
-use Rattle.gd_snapshots.specs.Snapshots.{IsKept, IsKnown, IsPlaced, IsSnapshot, id_of, is_bounded, known_of, least_sure, stamp_of, total, unknown}
+use Rattle.gd_snapshots.specs.Snapshots.{IsKept, IsKnown, IsPlaced, IsSnapshot, id_of, is_bounded, known_of, least_sure}
+use Rattle.gd_snapshots.specs.Snapshots.{stamp_of, total, unknown}
 use Rattle.gd_snapshots.specs.declared.known.Known.{Known}
 use Rattle.gd_viewing.proofs.Arriving.{held_below}
 use Rattle.gd_viewing.proofs.Known.{known_is, length-known, line_above}
@@ -58,18 +61,23 @@ module _ (slow : SlowSite) (well : IsWell slow) where
   -- ---- what is known of the sites
 
   sound_made : (t : ℕ) → Every IsSound (made_by t slow.held)
-  sound_made t = every_from_contained IsSound (made_by t slow.held) (λ e m. every_contained IsSound slow.held e well.sound (contains_made t slow.held e m))
+  sound_made t = every_from_contained IsSound (made_by t slow.held)
+      (λ e m. every_contained IsSound slow.held e well.sound (contains_made t slow.held e m))
 
   clock_fits : clock slow < CLOCK_LIMIT
   clock_fits =
-      let bound = greatest_clock-bound (CLOCK_LIMIT - 1) slow.held (Every-weaker IsSound _ (λ (e : Event) s. let fits = s.stamp.clock_below in omega (arith, fits)) slow.held well.sound) in
+      let bound = greatest_clock-bound (CLOCK_LIMIT - 1) slow.held
+      (Every-weaker IsSound _ (λ (e : Event) s. let fits = s.stamp.clock_below in omega (arith, fits)) slow.held
+      well.sound) in
       omega (arith, bound)
 
   known_good : (t : ℕ) → IsKnown (known_by slow t)
   known_good t =
       record {
-        count = let few = few_made t 0 0 (made_by t slow.held) (well.chains t) (sound_made t) (omega arith) in omega (arith, few);
-        sure = cond_both (t == slow.me) (clock slow) (slow.sure t) (λ n. n < CLOCK_LIMIT) (λ mine. clock_fits) (λ other. well.clocked t);
+        count = let few = few_made t 0 0 (made_by t slow.held) (well.chains t) (sound_made t) (omega arith)
+            in omega (arith, few);
+        sure = cond_both (t == slow.me) (clock slow) (slow.sure t) (λ n. n < CLOCK_LIMIT) (λ mine. clock_fits)
+            (λ other. well.clocked t);
       }
 
   all_known_good : (site k : ℕ) → Every IsKnown (known_behind slow site k)
@@ -82,13 +90,16 @@ module _ (slow : SlowSite) (well : IsWell slow) where
   bounded : (e : Event) → Contains slow.held e → line slow < e.stamp.clock → is_bounded all_known e ≡ true
   bounded e m above =
       let t = e.stamp.site in
-      let inside = every_contained (λ (f : Event). is_site slow.sites f.stamp.site ≡ true) slow.held e well.by_members m in
+      let inside = every_contained (λ (f : Event). is_site slow.sites f.stamp.site ≡ true) slow.held e well.by_members m
+      in
       let bounds = is_site-bounds slow.sites t inside in
       let its = known_is slow t inside in
-      let number = every_contained (λ (f : Event). f.number ≤ 0 + count slow t) (made_by t slow.held) e (numbered_within t 0 0 (made_by t slow.held) (well.chains t)) (made_contains slow.held e m) in
+      let number = every_contained (λ (f : Event). f.number ≤ 0 + count slow t) (made_by t slow.held) e
+      (numbered_within t 0 0 (made_by t slow.held) (well.chains t)) (made_contains slow.held e m) in
       let sure = held_below slow well e m in
       and_from _ _ (le-leb t (length all_known) (omega (arith, bounds.1, length-known slow 0 slow.sites)))
-      (and_from _ _ (le-leb e.number (known_of all_known t).count (omega (arith, number, ap (λ (k : Known). k.count) its)))
+      (and_from _ _ (le-leb e.number (known_of all_known t).count
+      (omega (arith, number, ap (λ (k : Known). k.count) its)))
       (and_from _ _ (le-leb (suc (least_sure all_known)) e.stamp.clock (omega (arith, above, least_below)))
       (le-leb e.stamp.clock (known_of all_known t).sure (omega (arith, sure, ap (λ (k : Known). k.sure) its)))))
 
@@ -110,11 +121,13 @@ module _ (slow : SlowSite) (well : IsWell slow) where
   IsBefore None es = Unit {0}
   IsBefore (Some last) es = Every (λ e. is_before last e.stamp ≡ true) es
 
-  above_last : (last : Option Stamp) (e : Event) (es : List Event) → IsBefore last (e ∷ es) → is_above last e.stamp ≡ true
+  above_last : (last : Option Stamp) (e : Event) (es : List Event) → IsBefore last (e ∷ es)
+      → is_above last e.stamp ≡ true
   above_last None e es h = refl
   above_last (Some last) e es h = h.0
 
-  kept_behind : (last : Option Stamp) (es : List Event) → AreRising es → IsBefore last es → Every IsFine es → AllFollow (IsKept all_known) stamp_of last es
+  kept_behind : (last : Option Stamp) (es : List Event) → AreRising es → IsBefore last es → Every IsFine es
+      → AllFollow (IsKept all_known) stamp_of last es
   unfolding AllFollow
   kept_behind last [] rise before fine = tt
   kept_behind last (e ∷ es) rise before fine = (
@@ -123,7 +136,9 @@ module _ (slow : SlowSite) (well : IsWell slow) where
   )
 
   kept_good : AllFollow (IsKept all_known) stamp_of None (kept slow)
-  kept_good = kept_behind None (kept slow) (filtered_rise (is_high (line slow)) (ordered slow.held) (ordered_rise slow.held (well_distinct slow well))) tt kept_fine
+  kept_good = kept_behind None (kept slow)
+      (filtered_rise (is_high (line slow)) (ordered slow.held) (ordered_rise slow.held (well_distinct slow well))) tt
+      kept_fine
 
   -- ---- the objects
 
@@ -142,8 +157,21 @@ module _ (slow : SlowSite) (well : IsWell slow) where
       let most = len-apply_all low_events map_of.empty in
       let none = map_of.len-empty stamp_cmp Object in
       let count = map_of.len-entries (base_of slow) in
-      let parts : length (ordered slow.held) ≡ length low_events + length (kept slow) = ap (λ (l : List Event). length l) (split (line slow) (ordered slow.held) (InOrder-ordered slow.held)) ∙ length-append low_events (kept slow) in
-      omega (arith, most, none, count, parts, length-ordered slow.held, all_counted slow.sites slow.held well.by_members, total-known slow 0 slow.sites)
+      let parts : length (ordered slow.held)
+      ≡ length low_events + length (kept slow)
+      = ap (λ (l : List Event). length l) (split (line slow) (ordered slow.held) (InOrder-ordered slow.held))
+      ∙ length-append low_events (kept slow) in
+      omega (
+        arith,
+        most,
+        none,
+        count,
+        parts,
+        length-ordered slow.held,
+        all_counted slow.sites slow.held
+            well.by_members,
+        total-known slow 0 slow.sites,
+      )
 
 pub snapshot_good : (slow : SlowSite) → IsWell slow → IsSnapshot (snapshot_of slow)
 unfolding snapshot_of

@@ -13,12 +13,15 @@ module _ {X : Type 0} where
   filter-none test (x ∷ xs) h = rw h.0 (filter-none test xs h.1)
 
   -- a filter behind one that lets through all that it keeps
-  pub filter-within : (p q : X → Bool) → ((x : X) → p x ≡ true → q x ≡ true) → (xs : List X) → filter p (filter q xs) ≡ filter p xs
+  pub filter-within : (p q : X → Bool) → ((x : X) → p x ≡ true → q x ≡ true) → (xs : List X)
+      → filter p (filter q xs) ≡ filter p xs
   filter-within p q h [] = refl
   filter-within p q h (x ∷ xs) =
       let rest = filter-within p q h xs in
-      cond_both (q x) _ _ (λ l. filter p l ≡ filter p (x ∷ xs)) (λ within. ap (λ (l : List X). cond (p x) (x ∷ l) l) rest)
-      (λ outside. let fails : p x ≡ false = false_from_ne_true (p x) (λ passes. let inside = h x passes in cc) in rw fails rest)
+      cond_both (q x) _ _ (λ l. filter p l ≡ filter p (x ∷ xs))
+      (λ within. ap (λ (l : List X). cond (p x) (x ∷ l) l) rest)
+      (λ outside. let fails : p x
+      ≡ false = false_from_ne_true (p x) (λ passes. let inside = h x passes in cc) in rw fails rest)
 
   -- two filters in either order
   pub filter-swap : (p q : X → Bool) (xs : List X) → filter p (filter q xs) ≡ filter q (filter p xs)
@@ -34,9 +37,14 @@ module _ {X : Type 0} where
 
   pub Every-filter : (P : X → Type 0) (test : X → Bool) (xs : List X) → Every P xs → Every P (filter test xs)
   Every-filter P test [] h = tt
-  Every-filter P test (x ∷ xs) h = cond_both (test x) _ _ (Every P) (λ passes. (h.0, Every-filter P test xs h.1)) (λ fails. Every-filter P test xs h.1)
+  Every-filter P test (x ∷ xs) h
+      = cond_both (test x) _ _ (Every P) (λ passes. (h.0, Every-filter P test xs h.1))
+      (λ fails. Every-filter P test xs h.1)
 
   -- what holds of those that pass holds of all that are kept
-  pub every-passing : (P : X → Type 0) (test : X → Bool) (xs : List X) → Every (λ x. test x ≡ true → P x) xs → Every P (filter test xs)
+  pub every-passing : (P : X → Type 0) (test : X → Bool) (xs : List X) → Every (λ x. test x ≡ true → P x) xs
+      → Every P (filter test xs)
   every-passing P test [] h = tt
-  every-passing P test (x ∷ xs) h = cond_both (test x) _ _ (Every P) (λ passes. (h.0 passes, every-passing P test xs h.1)) (λ fails. every-passing P test xs h.1)
+  every-passing P test (x ∷ xs) h
+      = cond_both (test x) _ _ (Every P) (λ passes. (h.0 passes, every-passing P test xs h.1))
+      (λ fails. every-passing P test xs h.1)

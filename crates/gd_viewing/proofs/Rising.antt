@@ -23,14 +23,16 @@ new_still : (e : Event) (es done : List Event) → AllNew es done → is_new es 
 new_still e [] done h n = tt
 new_still e (f ∷ fs) done h n =
     let parts = and_parts (not (is_same e.stamp f.stamp)) (is_new fs e) n in
-    let apart : is_same f.stamp e.stamp ≡ false = is_same-comm f.stamp e.stamp ∙ not-true (is_same e.stamp f.stamp) parts.0 in
+    let apart : is_same f.stamp e.stamp ≡ false = is_same-comm f.stamp e.stamp
+    ∙ not-true (is_same e.stamp f.stamp) parts.0 in
     (Every-inserted stamp_in (λ g. is_same f.stamp g.stamp ≡ false) done e h.0 apart, new_still e fs done h.1 parts.1)
 
 none_done : (es : List Event) → AllNew es []
 none_done [] = tt
 none_done (e ∷ es) = (tt, none_done es)
 
-rising_done : (es done : List Event) → AreRising done → AllNew es done → are_distinct es ≡ true → AreRising (fold inserted done es)
+rising_done : (es done : List Event) → AreRising done → AllNew es done → are_distinct es ≡ true
+    → AreRising (fold inserted done es)
 rising_done [] done r n d = r
 rising_done (e ∷ es) done r n d =
     let parts = and_parts (is_new es e) (are_distinct es) d in
@@ -42,4 +44,6 @@ ordered_rise es d = rising_done es [] tt (none_done es) d
 pub filtered_rise : (test : Event → Bool) (es : List Event) → AreRising es → AreRising (filter test es)
 filtered_rise test [] r = tt
 filtered_rise test (e ∷ es) r =
-    cond_both (test e) _ _ AreRising (λ passes. (Every-filter (λ f. is_before e.stamp f.stamp ≡ true) test es r.0, filtered_rise test es r.1)) (λ fails. filtered_rise test es r.1)
+    cond_both (test e) _ _ AreRising
+    (λ passes. (Every-filter (λ f. is_before e.stamp f.stamp ≡ true) test es r.0, filtered_rise test es r.1))
+    (λ fails. filtered_rise test es r.1)

@@ -17,7 +17,8 @@ use Rattle.gd_viewing.specs.SlowViewer.{opened}
 
 -- a board is that of its objects
 board_of_entries : (b : Board) → map_of.from_entries (map_of.entries b) ≡ b
-board_of_entries b = map_of.same_map stamp_cmp-total stamp_cmp-IsAntisymmetric (map_of.from_entries (map_of.entries b)) b (λ q. map_of.get-from_entries stamp_cmp-total (map_of.entries b) q ∙ sym (map_of.get-entries b q))
+board_of_entries b = map_of.same_map stamp_cmp-total stamp_cmp-IsAntisymmetric (map_of.from_entries (map_of.entries b))
+    b (λ q. map_of.get-from_entries stamp_cmp-total (map_of.entries b) q ∙ sym (map_of.get-entries b q))
 
 pub begun-base : (slow : SlowSite) → (opened (snapshot_of slow)).base ≡ base_of slow
 unfolding opened snapshot_of
@@ -28,12 +29,14 @@ unfolding opened snapshot_of
 begun-held slow = refl
 
 -- events above the line, put behind those that are held
-pub board_with : (slow : SlowSite) (es : List Event) → Every (λ e. line slow < e.stamp.clock) es → apply_all (ordered (kept slow ++ es)) (base_of slow) ≡ board (slow.held ++ es)
+pub board_with : (slow : SlowSite) (es : List Event) → Every (λ e. line slow < e.stamp.clock) es
+    → apply_all (ordered (kept slow ++ es)) (base_of slow) ≡ board (slow.held ++ es)
 board_with slow es above =
     let n = line slow in
     let all = ordered (slow.held ++ es) in
     ap (λ (l : List Event). apply_all l (base_of slow)) (sym (high_with n slow.held es above))
-    ∙ ap (λ (l : List Event). apply_all (filter (is_high n) all) (apply_all l map_of.empty)) (sym (low_with n slow.held es above))
+    ∙ ap (λ (l : List Event). apply_all (filter (is_high n) all) (apply_all l map_of.empty))
+    (sym (low_with n slow.held es above))
     ∙ sym (fold-append _ map_of.empty (filter (is_low n) all) (filter (is_high n) all))
     ∙ ap (λ (l : List Event). apply_all l map_of.empty) (sym (split n all (InOrder-ordered (slow.held ++ es))))
 

@@ -1,5 +1,6 @@
 -- Events in order are those up to a clock and behind them those above it.
-use Rattle.std.proofs.Common.{◌≡◌, ℕ, suc, ◌<◌, ◌≤◌, Bool, true, false, cond, List, [], ◌∷◌, ◌++◌, filter, fold, refl, sym, ap, ◌∙◌, nat_le, nat_lt, arith, le-leb, append-nil}
+use Rattle.std.proofs.Common.{◌≡◌, ℕ, suc, ◌<◌, ◌≤◌, Bool, true, false, cond, List, [], ◌∷◌, ◌++◌, filter, fold, refl}
+use Rattle.std.proofs.Common.{sym, ap, ◌∙◌, nat_le, nat_lt, arith, le-leb, append-nil}
 use Rattle.std.proofs.lemmas.Bool.{cond_both, lt-leb, leb-false, leb-true}
 use Rattle.std.proofs.lemmas.List.Elements.{filter-append}
 use Rattle.std.proofs.lemmas.List.Sums.{fold-append}
@@ -39,7 +40,8 @@ split n [] h = refl
 split n (e ∷ es) h = go (is_low n e) refl (split n es h.1)
   where
     above : n < e.stamp.clock → Every (λ f. n < f.stamp.clock) es
-    above high = Every-weaker _ _ (λ (f : Event) (le : e.stamp.clock ≤ f.stamp.clock). omega (arith, le, high)) es (none_lower e es h.0)
+    above high = Every-weaker _ _ (λ (f : Event) (le : e.stamp.clock ≤ f.stamp.clock). omega (arith, le, high)) es
+        (none_lower e es h.0)
 
     go : (b : Bool) → is_low n e ≡ b → es ≡ filter (is_low n) es ++ filter (is_high n) es
         → e ∷ es ≡ cond b (e ∷ filter (is_low n) es) (filter (is_low n) es) ++ filter (is_high n) (e ∷ es)
@@ -48,24 +50,35 @@ split n (e ∷ es) h = go (is_low n e) refl (split n es h.1)
         rw fails (ap (λ (l : List Event). e ∷ l) rest)
     go false high rest =
         let up : n < e.stamp.clock = leb-false e.stamp.clock n high in
-        let none = filter-none (is_low n) es (Every-weaker _ _ (λ (f : Event) (lt : n < f.stamp.clock). lt-leb f.stamp.clock n lt) es (above up)) in
-        let all = filter-all (is_high n) (e ∷ es) (le-leb (suc n) e.stamp.clock up, Every-weaker _ _ (λ (f : Event) (lt : n < f.stamp.clock). le-leb (suc n) f.stamp.clock lt) es (above up)) in
+        let none = filter-none (is_low n) es
+        (Every-weaker _ _ (λ (f : Event) (lt : n < f.stamp.clock). lt-leb f.stamp.clock n lt) es (above up)) in
+        let all = filter-all (is_high n) (e ∷ es) (
+          le-leb (suc n) e.stamp.clock up,
+          Every-weaker _ _
+              (λ (f : Event) (lt : n < f.stamp.clock). le-leb (suc n) f.stamp.clock lt) es (above up),
+        ) in
         rw (none, all) refl
 
 -- ---- a filter of events in order
 
 none_filtered : (test : Event → Bool) (e : Event) (es : List Event) → NoneBefore e es → NoneBefore e (filter test es)
 none_filtered test e [] h = tt
-none_filtered test e (f ∷ fs) h = cond_both (test f) _ _ (NoneBefore e) (λ passes. (h.0, none_filtered test e fs h.1)) (λ fails. none_filtered test e fs h.1)
+none_filtered test e (f ∷ fs) h
+    = cond_both (test f) _ _ (NoneBefore e) (λ passes. (h.0, none_filtered test e fs h.1))
+    (λ fails. none_filtered test e fs h.1)
 
 pub order_filtered : (test : Event → Bool) (es : List Event) → InOrder es → InOrder (filter test es)
 order_filtered test [] h = tt
-order_filtered test (e ∷ es) h = cond_both (test e) _ _ InOrder (λ passes. (none_filtered test e es h.0, order_filtered test es h.1)) (λ fails. order_filtered test es h.1)
+order_filtered test (e ∷ es) h
+    = cond_both (test e) _ _ InOrder (λ passes. (none_filtered test e es h.0, order_filtered test es h.1))
+    (λ fails. order_filtered test es h.1)
 
 pub filter-ordered : (test : Event → Bool) (es : List Event) → filter test (ordered es) ≡ ordered (filter test es)
 filter-ordered test es =
-    order-unique (filter test (ordered es)) (ordered (filter test es)) (order_filtered test (ordered es) (InOrder-ordered es)) (InOrder-ordered (filter test es))
-    (λ e. filter-swap _ test (ordered es) ∙ ap (filter test) (tied-ordered e es) ∙ filter-swap test _ es ∙ sym (tied-ordered e (filter test es)))
+    order-unique (filter test (ordered es)) (ordered (filter test es))
+    (order_filtered test (ordered es) (InOrder-ordered es)) (InOrder-ordered (filter test es))
+    (λ e. filter-swap _ test (ordered es) ∙ ap (filter test) (tied-ordered e es) ∙ filter-swap test _ es
+    ∙ sym (tied-ordered e (filter test es)))
 
 -- events in order are their own order
 pub ordered-same : (es : List Event) → InOrder es → ordered es ≡ es
@@ -74,19 +87,29 @@ ordered-same es h = order-unique (ordered es) es (InOrder-ordered es) h (λ e. t
 -- it makes no difference whether the first ones were in order
 pub ordered-twice : (es fs : List Event) → ordered (ordered es ++ fs) ≡ ordered (es ++ fs)
 ordered-twice es fs =
-    fold-append inserted [] (ordered es) fs ∙ ap (λ (l : List Event). fold inserted l fs) (ordered-same (ordered es) (InOrder-ordered es)) ∙ sym (fold-append inserted [] es fs)
+    fold-append inserted [] (ordered es) fs
+    ∙ ap (λ (l : List Event). fold inserted l fs) (ordered-same (ordered es) (InOrder-ordered es))
+    ∙ sym (fold-append inserted [] es fs)
 
 -- ---- with events above the clock put behind
 
 -- those up to it are the same
-pub low_with : (n : ℕ) (es fs : List Event) → Every (λ f. n < f.stamp.clock) fs → filter (is_low n) (ordered (es ++ fs)) ≡ filter (is_low n) (ordered es)
+pub low_with : (n : ℕ) (es fs : List Event) → Every (λ f. n < f.stamp.clock) fs
+    → filter (is_low n) (ordered (es ++ fs)) ≡ filter (is_low n) (ordered es)
 low_with n es fs above =
-    let none = filter-none (is_low n) fs (Every-weaker _ _ (λ (f : Event) (lt : n < f.stamp.clock). lt-leb f.stamp.clock n lt) fs above) in
-    filter-ordered (is_low n) (es ++ fs) ∙ ap ordered (filter-append (is_low n) es fs ∙ ap (λ (l : List Event). filter (is_low n) es ++ l) none ∙ append-nil (filter (is_low n) es)) ∙ sym (filter-ordered (is_low n) es)
+    let none = filter-none (is_low n) fs
+    (Every-weaker _ _ (λ (f : Event) (lt : n < f.stamp.clock). lt-leb f.stamp.clock n lt) fs above) in
+    filter-ordered (is_low n) (es ++ fs)
+    ∙ ap ordered (filter-append (is_low n) es fs ∙ ap (λ (l : List Event). filter (is_low n) es ++ l) none
+    ∙ append-nil (filter (is_low n) es)) ∙ sym (filter-ordered (is_low n) es)
 
 -- those above it are those that were there, and these
-pub high_with : (n : ℕ) (es fs : List Event) → Every (λ f. n < f.stamp.clock) fs → filter (is_high n) (ordered (es ++ fs)) ≡ ordered (filter (is_high n) (ordered es) ++ fs)
+pub high_with : (n : ℕ) (es fs : List Event) → Every (λ f. n < f.stamp.clock) fs
+    → filter (is_high n) (ordered (es ++ fs)) ≡ ordered (filter (is_high n) (ordered es) ++ fs)
 high_with n es fs above =
-    let all = filter-all (is_high n) fs (Every-weaker _ _ (λ (f : Event) (lt : n < f.stamp.clock). le-leb (suc n) f.stamp.clock lt) fs above) in
-    filter-ordered (is_high n) (es ++ fs) ∙ ap ordered (filter-append (is_high n) es fs ∙ ap (λ (l : List Event). filter (is_high n) es ++ l) all) ∙ sym (ordered-twice (filter (is_high n) es) fs)
+    let all = filter-all (is_high n) fs
+    (Every-weaker _ _ (λ (f : Event) (lt : n < f.stamp.clock). le-leb (suc n) f.stamp.clock lt) fs above) in
+    filter-ordered (is_high n) (es ++ fs)
+    ∙ ap ordered (filter-append (is_high n) es fs ∙ ap (λ (l : List Event). filter (is_high n) es ++ l) all)
+    ∙ sym (ordered-twice (filter (is_high n) es) fs)
     ∙ ap (λ (l : List Event). ordered (l ++ fs)) (sym (filter-ordered (is_high n) es))

@@ -1,5 +1,5 @@
--- The snapshot that a reference site hands on: what it knows of each site, the drawing of its held events up to its line, and
--- the held events above the line.
+-- The snapshot that a reference site hands on: what it knows of each site, the drawing of its held events up to its
+-- line, and the held events above the line.
 use Rattle.std.specs.Prelude.{◌≡◌, ℕ, zero, suc, ◌+◌, List, [], ◌∷◌, ◌==◌, nat_le, if◌then◌else◌, IsTrue, ⊤}
 use Rattle.std.specs.List.{filter}
 use Rattle.std.specs.FinMap as map_of

@@ -1,14 +1,14 @@
 -- The reference viewer, which is slow: it shows the drawing of a session, and is no member.
 --
--- It begins with a snapshot: with the board of the events up to a site's line, and with the events that the site kept. It
--- holds the events that it accepted behind these, in the order in which it accepted them. Of each site it keeps how many of
--- its events were held, those in the board too, and its sure clock. Its line is the least of the sure clocks, and what it
--- shows is the board with the held events applied by stamp.
+-- It begins with a snapshot: with the board of the events up to a site's line, and with the events that the site kept.
+-- It holds the events that it accepted behind these, in the order in which it accepted them. Of each site it keeps how
+-- many of its events were held, those in the board too, and its sure clock. Its line is the least of the sure clocks,
+-- and what it shows is the board with the held events applied by stamp.
 --
--- An event stands to what is held as at a site. A frame is refused where it is of another session or from no site of it,
--- judged in this order; then nothing changes. It need not be for the viewer. Otherwise its events are offered one after the
--- other; then, where the count of its sender's events is the frame's count, the sender's sure clock becomes the frame's clock
--- where that is greater. A viewer takes no acknowledgement and no note.
+-- An event stands to what is held as at a site. A frame is refused where it is of another session or from no site of
+-- it, judged in this order; then nothing changes. It need not be for the viewer. Otherwise its events are offered one
+-- after the other; then, where the count of its sender's events is the frame's count, the sender's sure clock becomes
+-- the frame's clock where that is greater. A viewer takes no acknowledgement and no note.
 use Rattle.std.specs.Prelude.{ℕ, ◌+◌, max, List, [], ◌∷◌, ◌++◌, length, Option, Some, None, ◌==◌, if◌then◌else◌}
 use Rattle.std.specs.FinMap as map_of
 use Rattle.gd_base.specs.Sites.{is_site}

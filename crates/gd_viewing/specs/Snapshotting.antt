@@ -1,5 +1,5 @@
--- The run that writes a snapshot: of the site that begins anew with the events of a log. Its kept events are undone to find
--- the drawing up to the line, which takes a step each.
+-- The run that writes a snapshot: of the site that begins anew with the events of a log. Its kept events are undone to
+-- find the drawing up to the line, which takes a step each.
 use Rattle.std.specs.Prelude.{ℕ, List, [], ◌∷◌, ◌++◌, length, map, replicate, Result, Ok, Err}
 use Rattle.gd_effects.specs.Effects.{Effect, Print, Work}
 use Rattle.gd_events.specs.Events.{Event}

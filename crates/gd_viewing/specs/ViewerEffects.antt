@@ -1,11 +1,11 @@
 -- What the events and frames that come to a viewer do to the outside, beside what they do to the viewer.
 --
--- An event that is taken costs its steps, and is printed with what came of it. One that is backdated is printed as refused; a
--- repeat, and one behind a gap, print nothing. A frame that is refused is printed as that, and nothing else comes of it. A
--- viewer records nothing and sends nothing.
+-- An event that is taken costs its steps, and is printed with what came of it. One that is backdated is printed as
+-- refused; a repeat, and one behind a gap, print nothing. A frame that is refused is printed as that, and nothing else
+-- comes of it. A viewer records nothing and sends nothing.
 --
--- What comes of an event, and what it costs, goes by the events that are held when it arrives, without those of the board that
--- the viewer began with: what is next lies above the line, and so above all of those.
+-- What comes of an event, and what it costs, goes by the events that are held when it arrives, without those of the
+-- board that the viewer began with: what is next lies above the line, and so above all of those.
 use Rattle.std.specs.Prelude.{List, [], ◌∷◌, ◌++◌, Option, Some, None}
 use Rattle.gd_base.specs.declared.offer.Offer.{Offer}
 use Rattle.gd_base.specs.declared.offer.Offer.TheVariants.{Next, Repeat, Gap, Backdated}

@@ -1,8 +1,9 @@
 -- The run of a viewer: a snapshot, and items behind it.
 --
--- An item is a length of two bytes and that many bytes, a frame; it begins only where a byte stands. The first item that is
--- longer than any frame, or that isn't whole, or that is one too many, is the last one. Each frame is taken, and what came of
--- it is printed; behind the last item the drawing is. A fault is printed in place of the drawing, with its place in all bytes.
+-- An item is a length of two bytes and that many bytes, a frame; it begins only where a byte stands. The first item
+-- that is longer than any frame, or that isn't whole, or that is one too many, is the last one. Each frame is taken,
+-- and what came of it is printed; behind the last item the drawing is. A fault is printed in place of the drawing, with
+-- its place in all bytes.
 use Rattle.std.specs.Prelude.{ℕ, zero, suc, nat_lt, if◌then◌else◌, List, [], ◌∷◌, ◌++◌, map, Result, Ok, Err}
 use Rattle.gd_base.specs.Results.{◌>>=◌}
 use Rattle.gd_base.specs.declared.fault.ViewWhy.TheVariants.{Long}

@@ -11,11 +11,12 @@ ghost use Rattle.gd_protocol.specs.Sites.{IsWell};
 ghost use Rattle.gd_reference.specs.SlowSite.{SlowSite, count, kept, line};
 ghost use Rattle.gd_snapshots.specs.Snapshots.{IsSnapshot};
 ghost use Rattle.gd_viewing.specs.Handing.{Follows, snapshot_of, sure_of};
-ghost use Rattle.gd_viewing.specs.SlowViewer.{SlowViewer, opened, viewed, viewer_all_arrived, viewer_arrived, viewer_beat, viewer_line, viewer_offer, viewer_taken};
+ghost use Rattle.gd_viewing.specs.SlowViewer.{SlowViewer, opened, viewed, viewer_all_arrived, viewer_arrived};
+ghost use Rattle.gd_viewing.specs.SlowViewer.{viewer_beat, viewer_line, viewer_offer, viewer_taken};
 ghost use Rattle.gd_viewing.specs.Views.{IsViewOf, taken_by, taken_frames, taken_of, viewer_all_taken};
 
-/// A viewer of a site's snapshot shows the site's drawing. It is of the same session, has the site's line, and knows of each
-/// site what the site knows.
+/// A viewer of a site's snapshot shows the site's drawing. It is of the same session, has the site's line, and knows of
+/// each site what the site knows.
 pub fn a_viewer_of_a_snapshot_shows_the_site()
     ensures drawing { (slow : SlowSite) → IsWell slow
         → viewed (opened (snapshot_of slow)) ≡ picture slow.held }
@@ -29,8 +30,9 @@ pub fn a_viewer_of_a_snapshot_shows_the_site()
     ensures sites { (slow : SlowSite) → (opened (snapshot_of slow)).sites ≡ slow.sites }
 {}
 
-/// Where events arrive at it, each as the next one of its site, it shows the drawing of what the site held and of these. What
-/// comes of an event above the line is what comes of it where all of these are held, and the next one is above the line.
+/// Where events arrive at it, each as the next one of its site, it shows the drawing of what the site held and of
+/// these. What comes of an event above the line is what comes of it where all of these are held, and the next one is
+/// above the line.
 pub fn what_arrives_is_shown()
     ensures drawing { (slow : SlowSite) (es : List Event) → IsWell slow
         → Follows (opened (snapshot_of slow)) es
@@ -66,8 +68,9 @@ pub fn viewers_stay_views()
         → IsViewOf slow v fresh → IsViewOf slow (viewer_taken v f) (fresh ++ taken_of v f) }
 {}
 
-/// What holds of each viewer of a site's snapshot: what it shows, that its line is no lower than the site's was, that the next
-/// event of a site lies above that one, and that what comes of such an event is what comes of it where all events are held.
+/// What holds of each viewer of a site's snapshot: what it shows, that its line is no lower than the site's was, that
+/// the next event of a site lies above that one, and that what comes of such an event is what comes of it where all
+/// events are held.
 pub fn views_show_all_that_is_held()
     ensures drawing { (slow : SlowSite) (v : SlowViewer) (fresh : List Event)
         → IsViewOf slow v fresh → viewed v ≡ picture (slow.held ++ fresh) }

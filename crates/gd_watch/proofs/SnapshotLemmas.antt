@@ -1,5 +1,6 @@
 -- What `snapshot` ends with, by what it read and what it wrote.
-use Rattle.std.proofs.Common.{◌≡◌, ℕ, ◌+◌, ◌-◌, ◌≤◌, List, [], ◌∷◌, ◌++◌, length, replicate, sum, sym, ap, ◌∙◌, arith, append_assoc}
+use Rattle.std.proofs.Common.{◌≡◌, ℕ, ◌+◌, ◌-◌, ◌≤◌, List, [], ◌∷◌, ◌++◌, length, replicate, sum, sym, ap, ◌∙◌, arith}
+use Rattle.std.proofs.Common.{append_assoc}
 use Rattle.std.specs.Prelude.{Result, Ok, Err, OnErr, OnOk}
 use Rattle.std.proofs.lemmas.List.{replicate-append-replicate}
 use Rattle.std.proofs.lemmas.List.Folds.{sum_by-replicate}
@@ -25,16 +26,27 @@ use Rattle.gd_watch.specs.Capturing.{steps_of}
 
 -- ---- the rules of a log
 
-next-newest : (h : Header) (seen es : List Event) → AreNext IsOp drawings h seen es → AreNext IsOp drawings (upgraded drawings h) seen es
+next-newest : (h : Header) (seen es : List Event) → AreNext IsOp drawings h seen es
+    → AreNext IsOp drawings (upgraded drawings h) seen es
 unfolding AreNext
 next-newest h seen [] next = tt
-next-newest h seen (e ∷ es) next =
-    (record { sound = next.0.sound; spelled = drawing_laws.newer h.version e.op next.0.spelled }, next.1, next-newest h (seen ++ e ∷ []) es next.2)
+next-newest h seen (e ∷ es) next = (
+  record { sound = next.0.sound; spelled = drawing_laws.newer h.version e.op next.0.spelled },
+  next.1,
+  next-newest h
+      (seen ++ e ∷ []) es next.2,
+)
 
 -- what obeys them in an older version does so in the newest
-pub ruled-newest : (h : Header) (events : List Event) → IsRuled IsOp drawings h events → IsRuled IsOp drawings (upgraded drawings h) events
+pub ruled-newest : (h : Header) (events : List Event) → IsRuled IsOp drawings h events
+    → IsRuled IsOp drawings (upgraded drawings h) events
 ruled-newest h events ruled = record {
-  header = record { site_above = ruled.header.site_above; site_below = ruled.header.site_below; few = ruled.header.few };
+  header = record {
+    site_above = ruled.header.site_above;
+    site_below = ruled.header.site_below;
+    few
+        = ruled.header.few;
+  };
   session = ruled.session;
   version = has-newest drawings.newest;
   next = next-newest h [] events ruled.next;
@@ -52,7 +64,8 @@ sum-more : (ns : List ℕ) (k : ℕ) → sum (ns ++ ones k) ≡ sum ns + k
 sum-more ns k = omega (arith, sum_by-append (λ (n : ℕ). n) ns (ones k), sum-ones k)
 
 ones-behind : (ns : List ℕ) (k a b : ℕ) → k ≡ a + b → ns ++ ones k ≡ (ns ++ ones a) ++ ones b
-ones-behind ns k a b e = ap (λ (n : ℕ). ns ++ ones n) e ∙ ap (λ (l : List ℕ). ns ++ l) (sym (replicate-append-replicate a b 1)) ∙ sym (append_assoc ns (ones a) (ones b))
+ones-behind ns k a b e = ap (λ (n : ℕ). ns ++ ones n) e
+    ∙ ap (λ (l : List ℕ). ns ++ l) (sym (replicate-append-replicate a b 1)) ∙ sym (append_assoc ns (ones a) (ones b))
 
 module _ (slow : SlowSite) (old middle new : ℕ) where
   -- the events arrived, and the kept ones were undone
@@ -60,7 +73,8 @@ module _ (slow : SlowSite) (old middle new : ℕ) where
   took_all arrived undone = omega (arith, arrived, undone, sum-more (costs slow.held) (length (kept slow)))
 
   -- memory ran out while they were undone
-  took_undone : middle ≡ old + sum (costs slow.held) → middle ≤ new → new ≤ middle + length (kept slow) → PaidFront (steps_of slow) old new
+  took_undone : middle ≡ old + sum (costs slow.held) → middle ≤ new → new ≤ middle + length (kept slow)
+      → PaidFront (steps_of slow) old new
   took_undone arrived rose most =
       let left : ℕ = middle + length (kept slow) - new in
       record {
@@ -71,28 +85,33 @@ module _ (slow : SlowSite) (old middle new : ℕ) where
       }
 
 -- memory ran out while the events arrived
-took_arrivals : (slow : SlowSite) (old new : ℕ) (front back : List ℕ) → costs slow.held ≡ front ++ back → new ≡ old + sum front → PaidFront (steps_of slow) old new
+took_arrivals : (slow : SlowSite) (old new : ℕ) (front back : List ℕ) → costs slow.held ≡ front ++ back
+    → new ≡ old + sum front → PaidFront (steps_of slow) old new
 took_arrivals slow old new front back split paid = record {
   front = front;
   back = back ++ ones (length (kept slow));
-  split = ap (λ (l : List ℕ). l ++ ones (length (kept slow))) split ∙ append_assoc front back (ones (length (kept slow)));
+  split = ap (λ (l : List ℕ). l ++ ones (length (kept slow))) split
+      ∙ append_assoc front back (ones (length (kept slow)));
   paid = paid;
 }
 
 -- the same of the site of a log, by the results of the calls
 module _ (h : Header) (events : List Event) (old : ℕ) where
-  pub err_arrivals : (new : ℕ) (front back : List ℕ) → costs events ≡ front ++ back → new ≡ old + sum front → PaidFront (steps_of (site_of h events)) old new
+  pub err_arrivals : (new : ℕ) (front back : List ℕ) → costs events ≡ front ++ back → new ≡ old + sum front
+      → PaidFront (steps_of (site_of h events)) old new
   unfolding resumed
   err_arrivals new front back split paid = took_arrivals (site_of h events) old new front back split paid
 
   module _ (middle new : ℕ) where
-    pub ok_all : {A E : Type 0} (r : Result A E) → middle ≡ old + sum (costs events) → OnOk r (new ≡ middle + length (kept (site_of h events)))
+    pub ok_all : {A E : Type 0} (r : Result A E) → middle ≡ old + sum (costs events)
+        → OnOk r (new ≡ middle + length (kept (site_of h events)))
         → OnOk r (new ≡ old + sum (steps_of (site_of h events)))
     unfolding resumed
     ok_all (Ok x) arrived undone = took_all (site_of h events) old middle new arrived undone
     ok_all (Err e) arrived undone = tt
 
-    pub err_undone : {A E : Type 0} (r : Result A E) → middle ≡ old + sum (costs events) → OnErr r (middle ≤ new) → OnErr r (new ≤ middle + length (kept (site_of h events)))
+    pub err_undone : {A E : Type 0} (r : Result A E) → middle ≡ old + sum (costs events) → OnErr r (middle ≤ new)
+        → OnErr r (new ≤ middle + length (kept (site_of h events)))
         → OnErr r (PaidFront (steps_of (site_of h events)) old new)
     unfolding resumed
     err_undone (Ok x) arrived rose most = tt
@@ -108,5 +127,8 @@ owes-snapshot bytes h events e = (ap (snapshotted_as bytes) e, ap ended_as e)
 -- for bytes that are no log it is the line of their first fault
 pub owes-refusal : (bytes : List ℕ) (at : ℕ) (why : LogWhy) → IsFault (log bytes) bytes at why
     → (snapshotted bytes ≡ says (reply.BadLog at why) ∷ []) × (ended_by bytes ≡ status.BadLog)
-owes-refusal bytes at why fault =
-    (ap (snapshotted_as bytes) fault.is ∙ ap (λ (p : ℕ). says (reply.BadLog p why) ∷ []) (sym fault.there), ap ended_as fault.is)
+owes-refusal bytes at why fault = (
+  ap (snapshotted_as bytes) fault.is
+      ∙ ap (λ (p : ℕ). says (reply.BadLog p why) ∷ []) (sym fault.there),
+  ap ended_as fault.is,
+)

@@ -1,5 +1,6 @@
 -- What comes of an event, a frame and an item that comes to a viewer.
-use Rattle.std.proofs.Common.{◌≡◌, ℕ, ◌+◌, ◌≤◌, Bool, true, false, cond, ◌==◌, List, [], ◌∷◌, ◌++◌, length, refl, sym, ap, ◌∙◌, subst, eqb-true, arith, IsTrue}
+use Rattle.std.proofs.Common.{◌≡◌, ℕ, ◌+◌, ◌≤◌, Bool, true, false, cond, ◌==◌, List, [], ◌∷◌, ◌++◌, length, refl, sym}
+use Rattle.std.proofs.Common.{ap, ◌∙◌, subst, eqb-true, arith, IsTrue}
 use Rattle.std.proofs.lemmas.Bool.{and_parts}
 use Rattle.std.specs.Prelude.{Option, Some, None, Result, Ok, Err, OnOk}
 use Rattle.gd_answers.proofs.Heard.{reply_by_offer}
@@ -34,8 +35,10 @@ use Rattle.gd_site.specs.declared.answers.Taken.{Taken}
 use Rattle.gd_viewer.proofs.Counted.{counted_to-few}
 use Rattle.gd_viewer.specs.Answers.{steps_by, taken_by}
 use Rattle.gd_viewer.specs.Viewers.{StandsFor, ViewerValue}
-use Rattle.gd_viewing.specs.SlowViewer.{SlowViewer, viewer_all_arrived, viewer_beat, viewer_offer, viewer_refusal, viewer_taken, viewer_unless_refused}
-use Rattle.gd_viewing.specs.ViewerEffects.{of_viewer_event, of_viewer_events, of_viewer_frame, of_viewer_frame_unless, viewing}
+use Rattle.gd_viewing.specs.SlowViewer.{SlowViewer, viewer_all_arrived, viewer_beat, viewer_offer, viewer_refusal}
+use Rattle.gd_viewing.specs.SlowViewer.{viewer_taken, viewer_unless_refused}
+use Rattle.gd_viewing.specs.ViewerEffects.{of_viewer_event, of_viewer_events, of_viewer_frame, of_viewer_frame_unless}
+use Rattle.gd_viewing.specs.ViewerEffects.{viewing}
 use Rattle.gd_watch.specs.Taking.{AreInside}
 
 -- ---- what is said of an event
@@ -50,31 +53,39 @@ came_by v e (Backdated clock sure) = refl
 abbrev pub said_of : Event → Arrived → List Effect
 said_of e came = all_said (reply_list (arrived_reply e came))
 
-said_is : (v : SlowViewer) (e : Event) (o : Offer) → said_of e (arrived_of (taken_by o v e)) ≡ all_said (offer_replies v.held e o)
+said_is : (v : SlowViewer) (e : Event) (o : Offer)
+    → said_of e (arrived_of (taken_by o v e)) ≡ all_said (offer_replies v.held e o)
 said_is v e o = ap (said_of e) (came_by v e o) ∙ ap all_said (reply_by_offer v.held e o)
 
-worked_by : (v : SlowViewer) (e : Event) (o : Offer) (input : SeenSource) (output : SeenSink) (journal : SeenJournal) (link : SeenLink) {old new : ℕ} → new ≡ old + steps_by o v e
+worked_by : (v : SlowViewer) (e : Event) (o : Offer) (input : SeenSource) (output : SeenSink) (journal : SeenJournal)
+    (link : SeenLink) {old new : ℕ} → new ≡ old + steps_by o v e
     → DoesAll (outside input output journal link old) (viewing v.held e o) (outside input output journal link new)
 worked_by v e Next input output journal link paid = worked input output journal link (cost_of v.held e) paid
 worked_by v e Repeat input output journal link paid = nothing_done input output journal link (omega (arith, paid))
 worked_by v e Gap input output journal link paid = nothing_done input output journal link (omega (arith, paid))
-worked_by v e (Backdated clock sure) input output journal link paid = nothing_done input output journal link (omega (arith, paid))
+worked_by v e (Backdated clock sure) input output journal link paid
+    = nothing_done input output journal link (omega (arith, paid))
 
 -- the steps, and then what is said
-pub event_done : {T : Type 0} (v : SlowViewer) (e : Event) (t : Taken) (r : Result T End) {old new : ℕ} {a b : SeenSink} → t ≡ taken_by (viewer_offer v e) v e
-    → new ≡ old + steps_by (viewer_offer v e) v e → Prints a (said_of e (arrived_of t)) r b → PrintsInSteps a old (of_viewer_event v e) r b new
+pub event_done : {T : Type 0} (v : SlowViewer) (e : Event) (t : Taken) (r : Result T End) {old new : ℕ} {a b : SeenSink}
+    → t ≡ taken_by (viewer_offer v e) v e
+    → new ≡ old + steps_by (viewer_offer v e) v e → Prints a (said_of e (arrived_of t)) r b
+    → PrintsInSteps a old (of_viewer_event v e) r b new
 event_done v e t r {old} {new} {a} is paid prints = λ input journal link.
     let o = viewer_offer v e in
-    let said : said_of e (arrived_of t) ≡ all_said (offer_replies v.held e o) = ap (λ (z : Taken). said_of e (arrived_of z)) is ∙ said_is v e o in
+    let said : said_of e (arrived_of t)
+    ≡ all_said (offer_replies v.held e o) = ap (λ (z : Taken). said_of e (arrived_of z)) is ∙ said_is v e o in
     does_as (ap (λ (z : List Effect). viewing v.held e o ++ z) (sym said))
     (does_then (worked_by v e o input a journal link paid) (prints input journal link new))
 
 -- ---- an arrival undoes no more events than a session can have
 
 held_few : (v : SlowViewer) (s : ViewerValue) → StandsFor v s → length v.held ≤ 1048560
-held_few v s stands = omega (arith, stands.well.made, stands.well.few, counted_to-few v.count v.sites stands.well.numbered)
+held_few v s stands = omega
+    (arith, stands.well.made, stands.well.few, counted_to-few v.count v.sites stands.well.numbered)
 
-pub has_few : (v : SlowViewer) (s : ViewerValue) → StandsFor v s → (e : Event) (t : Taken) → t ≡ taken_by (viewer_offer v e) v e → IsShort t
+pub has_few : (v : SlowViewer) (s : ViewerValue) → StandsFor v s → (e : Event) (t : Taken)
+    → t ≡ taken_by (viewer_offer v e) v e → IsShort t
 has_few v s stands e t is = subst IsShort (sym is) (go (viewer_offer v e))
   where
     go : (o : Offer) → IsShort (taken_by o v e)
@@ -100,7 +111,8 @@ checked_none None u e = refl
 
 module _ (v : SlowViewer) (f : Frame) where
   -- one that is refused
-  pub refused_is : (why : FrameFault) → Err why ≡ checked (viewer_refusal v f.head) → FrameIs v f (says (reply.NotTaken why) ∷ []) v
+  pub refused_is : (why : FrameFault) → Err why ≡ checked (viewer_refusal v f.head)
+      → FrameIs v f (says (reply.NotTaken why) ∷ []) v
   unfolding viewer_taken
   refused_is why said =
       let is = checked_some (viewer_refusal v f.head) why (sym said) in
@@ -110,13 +122,15 @@ module _ (v : SlowViewer) (f : Frame) where
       }
 
   -- one that isn't
-  pub accepted_is : (events : List Event) (u : Unit {0}) → events ≡ f.events → Ok u ≡ checked (viewer_refusal v f.head) → FrameIs v f (of_viewer_events v events) (viewer_beat (viewer_all_arrived v events) f)
+  pub accepted_is : (events : List Event) (u : Unit {0}) → events ≡ f.events → Ok u ≡ checked (viewer_refusal v f.head)
+      → FrameIs v f (of_viewer_events v events) (viewer_beat (viewer_all_arrived v events) f)
   unfolding viewer_taken
   accepted_is events u are said =
       let is = checked_none (viewer_refusal v f.head) u (sym said) in
       record {
         effects = ap (of_viewer_frame_unless v f) is ∙ ap (of_viewer_events v) (sym are);
-        then_is = ap (λ (r : Option FrameFault). viewer_unless_refused r v f) is ∙ ap (λ (l : List Event). viewer_beat (viewer_all_arrived v l) f) (sym are);
+        then_is = ap (λ (r : Option FrameFault). viewer_unless_refused r v f) is
+            ∙ ap (λ (l : List Event). viewer_beat (viewer_all_arrived v l) f) (sym are);
       }
 
 within : (same inside : Bool) → cond same (cond inside None (Some NoSuchSite)) (Some Session) ≡ None → inside ≡ true
@@ -125,17 +139,21 @@ within true false e = absurd cc
 within false inside e = absurd cc
 
 -- its sender is a site of the session
-pub sender_inside : (v : SlowViewer) (s : ViewerValue) → StandsFor v s → (f : Frame) (u : Unit {0}) → Ok u ≡ checked (viewer_refusal v f.head) → IsTrue (is_site s.heard.sites f.head.from)
+pub sender_inside : (v : SlowViewer) (s : ViewerValue) → StandsFor v s → (f : Frame) (u : Unit {0})
+    → Ok u ≡ checked (viewer_refusal v f.head) → IsTrue (is_site s.heard.sites f.head.from)
 sender_inside v s stands f u said =
-    let is = within (f.head.session == v.session) (is_site v.sites f.head.from) (checked_none (viewer_refusal v f.head) u (sym said)) in
+    let is = within (f.head.session == v.session) (is_site v.sites f.head.from)
+    (checked_none (viewer_refusal v f.head) u (sym said)) in
     subst (λ (n : ℕ). IsTrue (is_site n f.head.from)) (sym stands.sites) is
 
 -- and the events of a frame are of its sender
-inside_turns : (sites : ℕ) (head : Head) (last : Option Last) (es : List Event) → IsTrue (is_site sites head.from) → AreInTurn head last es → AreInside sites es
+inside_turns : (sites : ℕ) (head : Head) (last : Option Last) (es : List Event) → IsTrue (is_site sites head.from)
+    → AreInTurn head last es → AreInside sites es
 unfolding AllFollow
 inside_turns sites head last [] inside h = tt
 inside_turns sites head last (e ∷ es) inside h = (
-  subst (λ (t : ℕ). IsTrue (is_site sites t)) (sym (eqb-true e.stamp.site head.from (and_parts (e.stamp.site == head.from) _ h.0.next).0)) inside,
+  subst (λ (t : ℕ). IsTrue (is_site sites t))
+      (sym (eqb-true e.stamp.site head.from (and_parts (e.stamp.site == head.from) _ h.0.next).0)) inside,
   inside_turns sites head (Some (last_of e)) es inside h.1,
 )
 

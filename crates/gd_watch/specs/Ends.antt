@@ -1,6 +1,7 @@
 -- The statuses that `view` ends with.
 use Rattle.gd_outside.specs.declared.status.Status.{Status}
-use Rattle.gd_outside.specs.declared.status.Status.TheVariants.{Done, BadView, LineLimit, ReadFault, WriteFault, NoMemory}
+use Rattle.gd_outside.specs.declared.status.Status.TheVariants.{Done, BadView, LineLimit, ReadFault, WriteFault}
+use Rattle.gd_outside.specs.declared.status.Status.TheVariants.{NoMemory}
 
 abbrev pub IsViewEnd : Status → Type 0
 IsViewEnd Done = Unit {0}

@@ -1,5 +1,6 @@
 -- What bytes that were read ahead say of the next item.
-use Rattle.std.specs.Prelude.{◌≡◌, ◌<◌, ◌≤◌, ℕ, ◌+◌, List, [], ◌++◌, length, take, drop, Option, Some, None, Result, Ok, Err, IsSome}
+use Rattle.std.specs.Prelude.{◌≡◌, ◌<◌, ◌≤◌, ℕ, ◌+◌, List, [], ◌++◌, length, take, drop, Option, Some, None, Result, Ok}
+use Rattle.std.specs.Prelude.{Err, IsSome}
 use Rattle.gd_base.specs.declared.fault.ViewWhy.{ViewWhy}
 use Rattle.gd_grammar.specs.declared.sizes.TheConstants.{FRAME_BYTES}
 use Rattle.gd_handover.specs.Parts.{cut}

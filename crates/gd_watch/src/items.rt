@@ -29,8 +29,8 @@ pub(crate) enum Next {
     TooMany,
 }
 
-/// Reads until the next item is ahead, or its fault is known, where `left` more may come. Only bytes that it needs for that
-/// are waited for.
+/// Reads until the next item is ahead, or its fault is known, where `left` more may come. Only bytes that it needs for
+/// that are waited for.
 ///
 /// Fails where a read failed. Then what is ahead is no whole item, and has no fault yet.
 pub(crate) fn next_item<S: Source>(
@@ -51,7 +51,8 @@ pub(crate) fn next_item<S: Source>(
     }
 }
 
-/// What these bytes say of the next item, whatever follows them. None where they are the beginning of an item that may come.
+/// What these bytes say of the next item, whatever follows them. None where they are the beginning of an item that may
+/// come.
 fn settled(bytes: &[u8], left: u32) -> Option<Next>
     ensures { Settles left bytes.now result }
 {

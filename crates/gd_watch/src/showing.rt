@@ -28,9 +28,9 @@ use std::sync::ledger::Ledger;
 /// How many items may come.
 const MOST_ITEMS: u32 = 1_000_000;
 
-/// Has a viewer take the items of an input, and prints what comes of each, and then the drawing or the fault of an item, whose
-/// place is counted on from `place`. `Done` behind the drawing, `BadView` behind a fault, and `LineLimit` behind the line of an
-/// item that is one too many.
+/// Has a viewer take the items of an input, and prints what comes of each, and then the drawing or the fault of an
+/// item, whose place is counted on from `place`. `Done` behind the drawing, `BadView` behind a fault, and `LineLimit`
+/// behind the line of an item that is one too many.
 pub(crate) fn show_items<S: Source, K: Sink, L: Ledger>(
     alloc: Global,
     viewer: &mut Viewer,

@@ -29,12 +29,13 @@ use gd_wire::{Drawings, LogHeader};
 use std::alloc::{AllocError, Global};
 use std::sync::ledger::Ledger;
 
-/// Reads a log to its end, and writes the snapshot of the site that its header names, where that begins anew with its events.
+/// Reads a log to its end, and writes the snapshot of the site that its header names, where that begins anew with its
+/// events.
 ///
-/// `Done` after the snapshot, and `BadLog` after the line of the first fault where the bytes are no log. `ReadFault` where a
-/// read failed and `NoMemory` where memory ran out, both with nothing written, and `WriteFault` where a write failed, with a
-/// prefix written. Each event that arrives takes the steps that its repair costs, and each kept event, which is undone to find
-/// the drawing at the line, one more; after `BadLog` and `ReadFault` there are none.
+/// `Done` after the snapshot, and `BadLog` after the line of the first fault where the bytes are no log. `ReadFault`
+/// where a read failed and `NoMemory` where memory ran out, both with nothing written, and `WriteFault` where a write
+/// failed, with a prefix written. Each event that arrives takes the steps that its repair costs, and each kept event,
+/// which is undone to find the drawing at the line, one more; after `BadLog` and `ReadFault` there are none.
 pub fn snapshot<S: Source, K: Sink, L: Ledger>(
     alloc: Global,
     source: &mut S,

@@ -21,8 +21,8 @@ use std::sync::ledger::Ledger;
 
 /// Has a viewer take the bytes of an item, which are a frame or none, and prints what comes of it.
 ///
-/// `NoMemory` where there was no memory for the frame or for an event, and `WriteFault` where a write failed. Then what was
-/// done before stays.
+/// `NoMemory` where there was no memory for the frame or for an event, and `WriteFault` where a write failed. Then what
+/// was done before stays.
 pub(crate) fn take_item<K: Sink, L: Ledger>(
     alloc: Global,
     viewer: &mut Viewer,

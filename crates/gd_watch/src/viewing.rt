@@ -24,14 +24,15 @@ use gd_words::Reply;
 use std::alloc::Global;
 use std::sync::ledger::Ledger;
 
-/// Reads a snapshot and the items behind it, which are a length of two bytes and a frame each, and prints what comes of each
-/// frame and then the drawing.
+/// Reads a snapshot and the items behind it, which are a length of two bytes and a frame each, and prints what comes of
+/// each frame and then the drawing.
 ///
-/// `Done` after the drawing. `BadView` after the line of the first fault: of the snapshot, with nothing printed before it, or
-/// of an item that is longer than any frame or isn't whole, in place of the drawing. `LineLimit` after the line that says so,
-/// where a byte of item 1,000,001 stands. An item that is no frame, and a frame that is refused, are printed as that, and the
-/// next item follows. `ReadFault` where a read failed, with all done that the snapshot and the whole items before it ask for;
-/// `WriteFault` where a write failed, with a prefix written; `NoMemory` where memory ran out.
+/// `Done` after the drawing. `BadView` after the line of the first fault: of the snapshot, with nothing printed before
+/// it, or of an item that is longer than any frame or isn't whole, in place of the drawing. `LineLimit` after the line
+/// that says so, where a byte of item 1,000,001 stands. An item that is no frame, and a frame that is refused, are
+/// printed as that, and the next item follows. `ReadFault` where a read failed, with all done that the snapshot and the
+/// whole items before it ask for; `WriteFault` where a write failed, with a prefix written; `NoMemory` where memory ran
+/// out.
 ///
 /// Each kept event of the snapshot, and each event of a frame that is taken, takes the steps that its repair costs.
 pub fn view<S: Source, K: Sink, L: Ledger>(

@@ -1,4 +1,5 @@
--- The bytes of an object, put one part behind the other, and how many bytes of it and of what restores it there are at most.
+-- The bytes of an object, put one part behind the other, and how many bytes of it and of what restores it there are at
+-- most.
 use Rattle.std.proofs.Common.{◌≡◌, ℕ, ◌+◌, ◌*◌, ◌≤◌, true, List, [], ◌∷◌, ◌++◌, length, append_assoc, subst, arith}
 use Rattle.std.specs.Prelude.{nat_le}
 use Rattle.std.proofs.lemmas.Bool.{and_parts, leb-true}
@@ -18,7 +19,8 @@ use Rattle.gd_base.specs.declared.ranges.TheConstants.{MOST_MEMBERS}
 use Rattle.gd_events.specs.Ops.{Op}
 use Rattle.gd_events.specs.Sound.{IsOp}
 use Rattle.gd_grammar.specs.FieldBytes.{word_bytes, signed_bytes, text_bytes}
-use Rattle.gd_grammar.specs.LookBytes.{fill_bytes, dash_byte, heads_byte, round_bytes, letters_bytes, align_byte, look_bytes, set_bytes, single, looks_bytes}
+use Rattle.gd_grammar.specs.LookBytes.{fill_bytes, dash_byte, heads_byte, round_bytes, letters_bytes, align_byte}
+use Rattle.gd_grammar.specs.LookBytes.{look_bytes, set_bytes, single, looks_bytes}
 use Rattle.gd_grammar.specs.Spelling.{kind_byte, flag_byte, ends_bytes, link_bytes, rank_bytes, object_bytes}
 use Rattle.gd_grammar.specs.declared.sizes.TheConstants.{EVENT_BYTES}
 use Rattle.gd_grammar.proofs.DrawingKind.{newest-spelled}
@@ -28,7 +30,8 @@ use Rattle.gd_grammar.proofs.SoundObjects.{IsOwnLabel}
 
 -- its parts were put behind the bytes that were there
 pub object_put : (o : Object) (out : List ℕ)
-    → out ++ kind_byte o.kind ∷ signed_bytes o.x ++ signed_bytes o.y ++ signed_bytes o.w ++ signed_bytes o.h ++ look_bytes o.look ++ text_bytes o.label
+    → out ++ kind_byte o.kind ∷ signed_bytes o.x ++ signed_bytes o.y ++ signed_bytes o.w ++ signed_bytes o.h
+    ++ look_bytes o.look ++ text_bytes o.label
     ++ ends_bytes o.ends ++ link_bytes o.link ++ flag_byte o.dissolved ∷ [] ++ rank_bytes o.rank
     ≡ out ++ object_bytes o
 unfolding object_bytes
@@ -36,7 +39,8 @@ object_put o out = simp append_assoc
 
 -- the parts of a look were
 pub look_put : (l : Look) (out : List ℕ)
-    → out ++ word_bytes l.stroke ++ fill_bytes l.fill ++ l.width ∷ [] ++ dash_byte l.dash ∷ [] ++ heads_byte l.heads ∷ [] ++ round_bytes l.round
+    → out ++ word_bytes l.stroke ++ fill_bytes l.fill ++ l.width ∷ [] ++ dash_byte l.dash ∷ []
+    ++ heads_byte l.heads ∷ [] ++ round_bytes l.round
     ++ l.opacity ∷ [] ++ letters_bytes l.letters ++ align_byte l.align ∷ []
     ≡ out ++ look_bytes l
 unfolding look_bytes
@@ -44,7 +48,8 @@ look_put l out = simp append_assoc
 
 -- and what is set of looks
 pub looks_put : (l : Looks) (out : List ℕ)
-    → out ++ set_bytes word_bytes l.stroke ++ set_bytes fill_bytes l.fill ++ set_bytes (single (λ n. n)) l.width ++ set_bytes (single dash_byte) l.dash
+    → out ++ set_bytes word_bytes l.stroke ++ set_bytes fill_bytes l.fill ++ set_bytes (single (λ n. n)) l.width
+    ++ set_bytes (single dash_byte) l.dash
     ++ set_bytes (single heads_byte) l.heads ++ set_bytes round_bytes l.round ++ set_bytes (single (λ n. n)) l.opacity
     ++ set_bytes letters_bytes l.letters ++ set_bytes (single align_byte) l.align
     ≡ out ++ looks_bytes l
@@ -54,7 +59,8 @@ looks_put l out = simp append_assoc
 -- ---- how long they are
 
 -- an object is put in at most 578 bytes
-pub object_most : (o : Object) (out : List ℕ) → length o.label ≤ most_label → length (out ++ object_bytes o) ≤ length out + 578
+pub object_most : (o : Object) (out : List ℕ) → length o.label ≤ most_label
+    → length (out ++ object_bytes o) ≤ length out + 578
 object_most o out few = omega (arith, few, object-most o, text-most o.label, length-append out (object_bytes o))
 
 -- a label and ties of an object of that kind: what isn't a group has no ties
@@ -71,7 +77,8 @@ by-kind Connector label count own few =
     omega (arith, none, own.fits, text-most label)
 
 -- there is room for the ties of what is restored
-pub restore_room : (op : Op) (id : Stamp) (o : Object) (ties : List Tie) → (stamp : Stamp) × IsOp stamp op → op ≡ Restore id o ties
+pub restore_room : (op : Op) (id : Stamp) (o : Object) (ties : List Tie) → (stamp : Stamp) × IsOp stamp op
+    → op ≡ Restore id o ties
     → 17 + length (object_bytes o) + 1 + 23 * length ties ≤ EVENT_BYTES
 restore_room op id o ties s is =
     let restore = Restore id o ties in

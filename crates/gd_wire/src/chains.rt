@@ -15,7 +15,8 @@ use gd_base::{FieldFault, SITES};
 use gd_check::check;
 use std::marker::Model;
 
-/// For each site, the check of its events, one behind the other. Contracts see them as a list, in the order of the sites.
+/// For each site, the check of its events, one behind the other. Contracts see them as a list, in the order of the
+/// sites.
 #[derive(Drop)]
 pub struct Chains {
     checks: [u32; SITES as usize],

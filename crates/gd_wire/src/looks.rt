@@ -3,8 +3,10 @@ ghost use Rattle.std.specs.Prelude.{◌≡◌, ◌≤◌, ◌+◌, ◌++◌, len
 ghost use Rattle.gd_base.specs.Results.{Gives};
 ghost use Rattle.gd_grammar.specs.EventBytes.{colour_at, fill_at};
 ghost use Rattle.gd_grammar.specs.FieldBytes.{word_bytes};
-ghost use Rattle.gd_grammar.specs.LookBytes.{align_at, align_byte, all_looks_at, dash_at, dash_byte, fill_bytes, heads_at, heads_byte, if_set};
-ghost use Rattle.gd_grammar.specs.LookBytes.{is_style, letters_at, letters_bytes, lone, lone_by, look_at, look_bytes, looks_bytes};
+ghost use Rattle.gd_grammar.specs.LookBytes.{align_at, align_byte, all_looks_at, dash_at, dash_byte, fill_bytes};
+ghost use Rattle.gd_grammar.specs.LookBytes.{heads_at, heads_byte, if_set};
+ghost use Rattle.gd_grammar.specs.LookBytes.{is_style, letters_at, letters_bytes, lone, lone_by, look_at, look_bytes};
+ghost use Rattle.gd_grammar.specs.LookBytes.{looks_bytes};
 ghost use Rattle.gd_grammar.specs.LookBytes.{opacity_at, round_at, round_bytes, set_bytes, single, thin_at};
 ghost use Rattle.gd_grammar.specs.OpBytes.{style_at};
 ghost use Rattle.gd_grammar.specs.Spelling.{lone_or, looks_tag};

@@ -2,7 +2,8 @@
 ghost use Rattle.std.specs.Prelude.{◌≡◌, ◌≤◌, ◌<◌, ◌+◌, ◌++◌, ◌∷◌, [], IfOk, length, option_map};
 ghost use Rattle.gd_base.specs.Results.{Gives};
 ghost use Rattle.gd_grammar.specs.FieldBytes.{signed_bytes};
-ghost use Rattle.gd_grammar.specs.ObjectBytes.{ends_or_none_at, joined_at, kind_at, flag_at, parent_at, some_ends_at, some_link_at, link_at};
+ghost use Rattle.gd_grammar.specs.ObjectBytes.{ends_or_none_at, joined_at, kind_at, flag_at, parent_at, some_ends_at};
+ghost use Rattle.gd_grammar.specs.ObjectBytes.{some_link_at, link_at};
 ghost use Rattle.gd_grammar.specs.ObjectBytes.{given_at, object_at, of_kind_at, own_ends_at, own_label_at, rank_at};
 ghost use Rattle.gd_grammar.specs.Spelling.{ends_bytes, kind_byte, flag_byte, link_bytes, rank_bytes, object_bytes};
 ghost use Rattle.gd_grammar.specs.declared.sizes.TheConstants.{EVENT_BYTES, OBJECT_BYTES};
@@ -22,9 +23,9 @@ const GROUP: u8 = 5;
 const CONNECTOR: u8 = 6;
 
 impl<'a> Bytes<'a> {
-    /// An object of at most `OBJECT_BYTES`, without its id, and the operation that names it, if one does. The first fault is
-    /// returned: `Short` at the end of all bytes where a field isn't whole, `FutureId` at a group or a rank that this operation
-    /// may not name, and `Field` at the first byte of any other field that is out of its range.
+    /// An object of at most `OBJECT_BYTES`, without its id, and the operation that names it, if one does. The first
+    /// fault is returned: `Short` at the end of all bytes where a field isn't whole, `FutureId` at a group or a rank
+    /// that this operation may not name, and `Field` at the first byte of any other field that is out of its range.
     #[tactic(auto, unfolding(gd_grammar::specs::ObjectBytes::object_at, gd_grammar::specs::Readers::steps))]
     pub fn object(&mut self, naming: &Option<Naming>) -> Result<Object, FieldFault>
         ensures { Gives (λ object. (object, self.new)) result (object_at naming.now self.old) }

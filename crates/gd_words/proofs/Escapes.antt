@@ -1,5 +1,7 @@
 -- What is typed in a label, byte by byte.
-use Rattle.std.proofs.Common.{◌≡◌, ◌≢◌, ◌∙◌, ℕ, suc, ◌+◌, ◌<◌, ◌≤◌, Bool, true, false, List, [], ◌∷◌, ◌++◌, Option, Some, None, length, drop, get_or, ◌==◌, append_assoc, append-nil, length-append, ap, sym, refl, subst, arith}
+use Rattle.std.proofs.Common.{◌≡◌, ◌≢◌, ◌∙◌, ℕ, suc, ◌+◌, ◌<◌, ◌≤◌, Bool, true, false, List, [], ◌∷◌, ◌++◌, Option}
+use Rattle.std.proofs.Common.{Some, None, length, drop, get_or, ◌==◌, append_assoc, append-nil, length-append, ap, sym}
+use Rattle.std.proofs.Common.{refl, subst, arith}
 use Rattle.std.proofs.lemmas.Bool.{eqb-true}
 use Rattle.std.proofs.lemmas.List.{drop_more, drop_all}
 use Rattle.std.specs.Prelude.{IfSome}
@@ -11,12 +13,14 @@ use Rattle.gd_words.specs.Told.{IsNoLabel, IsTyped, escape_of, label_of, typed_w
 -- ---- a byte that stands for one
 
 one_more : (bytes : List ℕ) (b : ℕ) (rest : Option (List ℕ))
-    → option_map (λ more. bytes ++ more) (option_map (λ text. b ∷ text) rest) ≡ option_map (λ more. (bytes ++ b ∷ []) ++ more) rest
+    → option_map (λ more. bytes ++ more) (option_map (λ text. b ∷ text) rest)
+    ≡ option_map (λ more. (bytes ++ b ∷ []) ++ more) rest
 one_more bytes b None = refl
 one_more bytes b (Some rest) = ap Some (sym (append_assoc bytes (b ∷ []) rest))
 
 too_many : (bytes : List ℕ) (b : ℕ) (rest : Option (List ℕ)) → most_label ≤ length bytes
-    → IfSome (option_map (λ more. bytes ++ more) (option_map (λ text. b ∷ text) rest)) (λ text. most_label < length text)
+    → IfSome (option_map (λ more. bytes ++ more) (option_map (λ text. b ∷ text) rest))
+    (λ text. most_label < length text)
 too_many bytes b None full = tt
 too_many bytes b (Some rest) full = omega (arith, full, length-append bytes (b ∷ rest))
 
@@ -26,7 +30,8 @@ no_mark_by : (b : ℕ) (t : Bool) → (b == 92) ≡ t → b ≢ 92 → (b == 92)
 no_mark_by b true e other = absurd (other (eqb-true b 92 e))
 no_mark_by b false e other = e
 
-unmarked : (b : ℕ) (rest : List ℕ) → (b == 92) ≡ false → unescaped false (b ∷ rest) ≡ option_map (λ text. b ∷ text) (unescaped false rest)
+unmarked : (b : ℕ) (rest : List ℕ) → (b == 92) ≡ false
+    → unescaped false (b ∷ rest) ≡ option_map (λ text. b ∷ text) (unescaped false rest)
 unfolding unescaped
 unmarked b rest e = rw e refl
 
@@ -53,17 +58,21 @@ marked_by b c rest true m e f is = let same : 10 ≡ c = let h = rw e at is in c
 marked_by b c rest false true e f is = let same : 92 ≡ c = let h = rw (e, f) at is in cc in rw (e, f, ← same) refl
 marked_by b c rest false false e f is = let h = rw (e, f) at is in cc
 
-marked : (b c : ℕ) (rest : List ℕ) → escape_of b ≡ Some c → unescaped true (b ∷ rest) ≡ option_map (λ text. c ∷ text) (unescaped false rest)
+marked : (b c : ℕ) (rest : List ℕ) → escape_of b ≡ Some c
+    → unescaped true (b ∷ rest) ≡ option_map (λ text. c ∷ text) (unescaped false rest)
 marked b c rest is = marked_by b c rest (b == 110) (b == 92) refl refl is
 
-strange_by : (b : ℕ) (rest : List ℕ) (n m : Bool) → (b == 110) ≡ n → (b == 92) ≡ m → escape_of b ≡ None → unescaped true (b ∷ rest) ≡ None
+strange_by : (b : ℕ) (rest : List ℕ) (n m : Bool) → (b == 110) ≡ n → (b == 92) ≡ m → escape_of b ≡ None
+    → unescaped true (b ∷ rest) ≡ None
 unfolding unescaped
 strange_by b rest true m e f is = let h = rw e at is in cc
 strange_by b rest false true e f is = let h = rw (e, f) at is in cc
 strange_by b rest false false e f is = rw (e, f) refl
 
-pub typed_marked : (bytes more : List ℕ) (b c : ℕ) → Some c ≡ escape_of b → more ≡ bytes ++ c ∷ [] → IsTyped bytes true b false more
-typed_marked bytes more b c is same = λ rest. rw (same, marked b c rest (sym is)) (one_more bytes c (unescaped false rest))
+pub typed_marked : (bytes more : List ℕ) (b c : ℕ) → Some c ≡ escape_of b → more ≡ bytes ++ c ∷ []
+    → IsTyped bytes true b false more
+typed_marked bytes more b c is same
+    = λ rest. rw (same, marked b c rest (sym is)) (one_more bytes c (unescaped false rest))
 
 pub full_marked : (bytes : List ℕ) (b c : ℕ) → Some c ≡ escape_of b → most_label ≤ length bytes → IsNoLabel bytes true b
 full_marked bytes b c is full = λ rest. rw (marked b c rest (sym is)) (too_many bytes c (unescaped false rest) full)
@@ -73,12 +82,14 @@ no_mark bytes b is = λ rest. rw (strange_by b rest (b == 110) (b == 92) refl re
 
 -- ---- the loop over the bytes
 
-pub typed_more : (text bytes more : List ℕ) (behind next : Bool) (i : ℕ) → i < length text → IsTyped bytes behind (get_or text i 0) next more
+pub typed_more : (text bytes more : List ℕ) (behind next : Bool) (i : ℕ) → i < length text
+    → IsTyped bytes behind (get_or text i 0) next more
     → typed_with bytes behind (drop i text) ≡ typed_with more next (drop (i + 1) text)
 typed_more text bytes more behind next i within typed =
     ap (typed_with bytes behind) (drop_more text i 0 within) ∙ typed (drop (i + 1) text)
 
-pub none_more : (text bytes : List ℕ) (behind : Bool) (i : ℕ) → i < length text → IsNoLabel bytes behind (get_or text i 0)
+pub none_more : (text bytes : List ℕ) (behind : Bool) (i : ℕ) → i < length text
+    → IsNoLabel bytes behind (get_or text i 0)
     → IfSome (typed_with bytes behind (drop i text)) (λ t. most_label < length t)
 none_more text bytes behind i within none = rw (drop_more text i 0 within) (none (drop (i + 1) text))
 
@@ -97,15 +108,19 @@ pub marked_end : (text bytes : List ℕ) (i : ℕ) → length text ≤ i → typ
 unfolding unescaped
 marked_end text bytes i done = rw (drop_all i text done) refl
 
-pub ended_marked : (text bytes : List ℕ) (behind : Bool) (i : ℕ) → behind ≡ true → length text ≤ i → unescaped false text ≡ typed_with bytes behind (drop i text)
+pub ended_marked : (text bytes : List ℕ) (behind : Bool) (i : ℕ) → behind ≡ true → length text ≤ i
+    → unescaped false text ≡ typed_with bytes behind (drop i text)
     → IfSome (unescaped false text) (λ t. most_label < length t)
 ended_marked text bytes behind i at done told =
-    let none : unescaped false text ≡ None = told ∙ ap (λ m. typed_with bytes m (drop i text)) at ∙ marked_end text bytes i done in
+    let none : unescaped false text ≡ None = told ∙ ap (λ m. typed_with bytes m (drop i text)) at
+    ∙ marked_end text bytes i done in
     rw none tt
 
-pub ended_plain : (text bytes : List ℕ) (behind : Bool) (i : ℕ) → behind ≡ false → length text ≤ i → unescaped false text ≡ typed_with bytes behind (drop i text)
+pub ended_plain : (text bytes : List ℕ) (behind : Bool) (i : ℕ) → behind ≡ false → length text ≤ i
+    → unescaped false text ≡ typed_with bytes behind (drop i text)
     → unescaped false text ≡ Some bytes
-ended_plain text bytes behind i at done told = told ∙ ap (λ m. typed_with bytes m (drop i text)) at ∙ typed_end text bytes i done
+ended_plain text bytes behind i at done told = told ∙ ap (λ m. typed_with bytes m (drop i text)) at
+    ∙ typed_end text bytes i done
 
 -- ---- the label of what was typed
 

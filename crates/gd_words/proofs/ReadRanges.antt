@@ -1,5 +1,7 @@
 -- What is read is in its ranges: word by word, and then row by row.
-use Rattle.std.proofs.Common.{◌≡◌, ℕ, zero, suc, ℤ, pos, negsuc, neg_ℤ, nat_abs, ◌+◌, ◌-◌, ◌^◌, ◌<◌, ◌≤◌, Bool, true, false, ◌&&◌, ◌||◌, ◌/◌, List, [], ◌∷◌, ◌++◌, length, take, drop, Option, Some, None, Ok, Err, nat_lt, nat_le, ◌==◌, if◌then◌else◌, subst, refl, arith}
+use Rattle.std.proofs.Common.{◌≡◌, ℕ, zero, suc, ℤ, pos, negsuc, neg_ℤ, nat_abs, ◌+◌, ◌-◌, ◌^◌, ◌<◌, ◌≤◌, Bool, true}
+use Rattle.std.proofs.Common.{false, ◌&&◌, ◌||◌, ◌/◌, List, [], ◌∷◌, ◌++◌, length, take, drop, Option, Some, None, Ok}
+use Rattle.std.proofs.Common.{Err, nat_lt, nat_le, ◌==◌, if◌then◌else◌, subst, refl, arith}
 use Rattle.std.specs.Prelude.{IfSome, All, Result, is_some, unwrap_or}
 use Rattle.std.specs.Bool.{then_some}
 use Rattle.std.specs.List.{fold, list_all, position_or_len}
@@ -11,7 +13,8 @@ use Rattle.std.proofs.lemmas.List.Elements.{All-nil, All-push, recursion_from_Al
 use Rattle.gd_base.specs.Contents.{Said, IsSaid}
 use Rattle.gd_base.specs.Labels.{IsLabel, is_name, is_text, most_label}
 use Rattle.gd_base.specs.Looks.{are_looks, are_numbers, has_look, no_looks}
-use Rattle.gd_base.specs.Ranges.{place_limit, size_limit, is_within, is_colour, is_fill, is_letters, is_opacity, is_round, is_width}
+use Rattle.gd_base.specs.Ranges.{place_limit, size_limit, is_within, is_colour, is_fill, is_letters, is_opacity}
+use Rattle.gd_base.specs.Ranges.{is_round, is_width}
 use Rattle.gd_base.specs.declared.look.Align.{Align}
 use Rattle.gd_base.specs.declared.look.Dash.{Dash}
 use Rattle.gd_base.specs.declared.look.Heads.{Heads}
@@ -20,7 +23,8 @@ use Rattle.gd_base.specs.declared.object.Ends.{Ends}
 use Rattle.gd_base.specs.Typed.{AreEnds}
 use Rattle.gd_base.specs.Sites.{is_site, IsSite}
 use Rattle.gd_base.specs.Stamps.{Stamp, IsStamp}
-use Rattle.gd_base.specs.declared.ranges.TheConstants.{CLOCK_LIMIT, LETTERS_LIMIT, MOST_MEMBERS, OPACITY_LIMIT, ROUND_LIMIT, SITES, WIDTH_LIMIT}
+use Rattle.gd_base.specs.declared.ranges.TheConstants.{CLOCK_LIMIT, LETTERS_LIMIT, MOST_MEMBERS, OPACITY_LIMIT}
+use Rattle.gd_base.specs.declared.ranges.TheConstants.{ROUND_LIMIT, SITES, WIDTH_LIMIT}
 use Rattle.gd_base.specs.declared.refusal.LineFault.{LineFault}
 use Rattle.gd_base.specs.declared.refusal.LineFault.TheVariants.{BadNumber}
 use Rattle.gd_base.proofs.SiteLemmas.{is_site-bounds}
@@ -28,18 +32,24 @@ use Rattle.gd_lines.specs.declared.command.Command.{Command}
 use Rattle.gd_lines.specs.declared.command.Command.TheVariants as command
 use Rattle.gd_lines.specs.declared.command.ScriptLine.{ScriptLine}
 use Rattle.gd_lines.specs.declared.command.ScriptLine.TheVariants as script
-use Rattle.gd_lines.specs.Edits.{kind_at, place_at, size_at, natural_at, width_at, id_at, colour_at, fill_at, label_at, ids_at, create_words, delete_words, group_words, set_words, place_words, size_words, value_at, look_words, named_at, looks_at, style_words, ends_at, ends_words, connect_words, text_words, pairs, other_rows, look_rows, edit_rows}
+use Rattle.gd_lines.specs.Edits.{kind_at, place_at, size_at, natural_at, width_at, id_at, colour_at, fill_at, label_at}
+use Rattle.gd_lines.specs.Edits.{ids_at, create_words, delete_words, group_words, set_words, place_words, size_words}
+use Rattle.gd_lines.specs.Edits.{value_at, look_words, named_at, looks_at, style_words, ends_at, ends_words}
+use Rattle.gd_lines.specs.Edits.{connect_words, text_words, pairs, other_rows, look_rows, edit_rows}
 use Rattle.gd_lines.specs.InRange.{IsCommand, IsAsked, IsScriptLine}
 use Rattle.gd_lines.specs.LineWords.{word, behind, without_cr}
 use Rattle.gd_lines.specs.Lines.{focus_at, name_at, focus_words, name_words, asked_rows, command_rows, read}
 use Rattle.gd_lines.specs.Reading.{Reader, next}
 use Rattle.gd_lines.specs.Rows.{by_name, reader_of}
-use Rattle.gd_lines.specs.ScriptLines.{site_at, mail_at, site_words, at_words, send_words, deliver_words, script_rows, read_script}
+use Rattle.gd_lines.specs.ScriptLines.{site_at, mail_at, site_words, at_words, send_words, deliver_words, script_rows}
+use Rattle.gd_lines.specs.ScriptLines.{read_script}
 use Rattle.gd_lines.specs.declared.look_name.LookName.{LookName}
 use Rattle.gd_lines.specs.declared.look_name.LookName.TheVariants as look
-use Rattle.gd_lines.specs.WordKinds.{unescaped, digit, is_digit, push_digit, value, numeral, number, is_between, number_in, natural_in, in_ranges, is_dot, id, colour, fill, focus, label, name}
+use Rattle.gd_lines.specs.WordKinds.{unescaped, digit, is_digit, push_digit, value, numeral, number, is_between}
+use Rattle.gd_lines.specs.WordKinds.{number_in, natural_in, in_ranges, is_dot, id, colour, fill, focus, label, name}
 use Rattle.gd_words.proofs.Digits.{push_small}
-use Rattle.gd_words.proofs.Readers.{Yields, Reads, then_reads, pure_reads, fault_reads, any, weaker_yields, by_spelling, AllRead, all_weaker, named_reads, line_reads}
+use Rattle.gd_words.proofs.Readers.{Yields, Reads, then_reads, pure_reads, fault_reads, any, weaker_yields, by_spelling}
+use Rattle.gd_words.proofs.Readers.{AllRead, all_weaker, named_reads, line_reads}
 
 then_holds : {A : Type 0} (P : A → Type 0) (test : Bool) (x : A) → (test ≡ true → P x) → IfSome (then_some test x) P
 then_holds P true x h = h refl
@@ -60,7 +70,8 @@ bounded_in low high (Some z) = then_holds (InBounds low high) (is_between low hi
 abbrev InLimit : ℕ → ℤ → Type 0
 InLimit limit z = is_within limit z ≡ true
 
-within_in : (limit : ℕ) (line : List ℕ) → Yields (InLimit limit) (next BadNumber (number_in (neg_ℤ (pos limit)) (pos limit)) line)
+within_in : (limit : ℕ) (line : List ℕ)
+    → Yields (InLimit limit) (next BadNumber (number_in (neg_ℤ (pos limit)) (pos limit)) line)
 unfolding number_in
 within_in limit line =
     let low = neg_ℤ (pos limit) in
@@ -108,21 +119,26 @@ id_in : (line : List ℕ) → Yields IsStamp (id_at line)
 unfolding id_at
 id_in line = by_spelling IsStamp _ _ (id (word line)) (id_of (word line))
 
-small : (text : List ℕ) (n i : ℕ) → list_all (is_digit 16) text ≡ true → n < 16 ^ i → fold (push_digit 16) n text < 16 ^ (i + length text)
+small : (text : List ℕ) (n i : ℕ) → list_all (is_digit 16) text ≡ true → n < 16 ^ i
+    → fold (push_digit 16) n text < 16 ^ (i + length text)
 small [] n i all h = let same : i + 0 ≡ i = omega arith in rw same h
 small (b ∷ bs) n i all h =
     let p = and_parts _ _ all in
     let same : (i + 1) + length bs ≡ i + length (b ∷ bs) = omega arith in
-    subst (λ k. fold (push_digit 16) (push_digit 16 n b) bs < 16 ^ k) same (small bs (push_digit 16 n b) (i + 1) p.1 (push_small n 16 (digit b) i h (omega arith) (ltb-true _ _ p.0)))
+    subst (λ k. fold (push_digit 16) (push_digit 16 n b) bs < 16 ^ k) same
+    (small bs (push_digit 16 n b) (i + 1) p.1 (push_small n 16 (digit b) i h (omega arith) (ltb-true _ _ p.0)))
 
 six : (n : ℕ) → (nat_le 6 n && nat_le n 6) ≡ true → n ≡ 6
 six n e = grind arith
 
-colour_small : (text : List ℕ) → ((nat_le 6 (length text) && nat_le (length text) 6) && list_all (is_digit 16) text) ≡ true → is_colour (value 16 text) ≡ true
+colour_small : (text : List ℕ)
+    → ((nat_le 6 (length text) && nat_le (length text) 6) && list_all (is_digit 16) text) ≡ true
+    → is_colour (value 16 text) ≡ true
 colour_small text e =
     let p = and_parts _ _ e in
     let long : 0 + length text ≡ 6 = omega (arith, six (length text) p.0) in
-    let least : value 16 text < 16777216 = subst (λ k. value 16 text < 16 ^ k) long (small text 0 0 p.1 (omega arith)) in
+    let least : value 16 text < 16777216 = subst (λ k. value 16 text < 16 ^ k) long (small text 0 0 p.1 (omega arith))
+    in
     grind (arith, nat_tests, least)
 
 colour_of : (text : List ℕ) → IfSome (colour text) (λ c. is_colour c ≡ true)
@@ -134,7 +150,8 @@ unfolding colour_at
 colour_in line = by_spelling _ _ _ (colour (word line)) (colour_of (word line))
 
 -- a word that stands for none, or one that is read
-or_none : {A : Type 0} (P : A → Type 0) (Q : Option A → Type 0) (b : Bool) (o : Option A) → Q None → ((x : A) → P x → Q (Some x)) → IfSome o P
+or_none : {A : Type 0} (P : A → Type 0) (Q : Option A → Type 0) (b : Bool) (o : Option A) → Q None
+    → ((x : A) → P x → Q (Some x)) → IfSome o P
     → IfSome (if b then Some None else option_map Some o) Q
 or_none P Q true o none some h = none
 or_none P Q false None none some h = tt
@@ -142,7 +159,9 @@ or_none P Q false (Some x) none some h = some x h
 
 fill_in : (line : List ℕ) → Yields (λ f. is_fill f ≡ true) (fill_at line)
 unfolding fill_at fill
-fill_in line = by_spelling (λ f. is_fill f ≡ true) _ _ _ (or_none (λ c. is_colour c ≡ true) (λ f. is_fill f ≡ true) _ (colour (word line)) refl (λ c h. h) (colour_of (word line)))
+fill_in line = by_spelling (λ f. is_fill f ≡ true) _ _ _
+    (or_none (λ c. is_colour c ≡ true) (λ f. is_fill f ≡ true) _ (colour (word line)) refl (λ c h. h)
+    (colour_of (word line)))
 
 IsFocus : Option Stamp → Type 0
 IsFocus f = IsCommand (command.Focus f)
@@ -160,7 +179,8 @@ name_in line =
 label_of : (text : List ℕ) → (nat_le (length text) most_label && is_text text) ≡ true → IsLabel text
 label_of text e = grind arith
 
-label_by : (o : Option (List ℕ)) → IfSome (option_and_then (λ t. then_some (nat_le (length t) most_label && is_text t) t) o) IsLabel
+label_by : (o : Option (List ℕ))
+    → IfSome (option_and_then (λ t. then_some (nat_le (length t) most_label && is_text t) t) o) IsLabel
 label_by None = tt
 label_by (Some text) = then_holds IsLabel _ text (label_of text)
 
@@ -205,17 +225,20 @@ name_at_read = record { at = name_in }
 abbrev AreIds : ℕ → List Stamp → Type 0
 AreIds n ids = (length ids ≡ n) × All IsStamp ids
 
-ids_read : (count n : ℕ) (ids : List Stamp) → length ids + count ≡ n → All IsStamp ids → Reads (AreIds n) (ids_at count ids)
+ids_read : (count n : ℕ) (ids : List Stamp) → length ids + count ≡ n → All IsStamp ids
+    → Reads (AreIds n) (ids_at count ids)
 unfolding ids_at
 ids_read zero n ids total h = pure_reads _ (omega (arith, total), h)
 ids_read (suc count) n ids total h =
-    then_reads id_read (λ i is. ids_read count n (ids ++ i ∷ []) (omega (arith, total, length_push ids i)) (All-push IsStamp ids i h is))
+    then_reads id_read (λ i is. ids_read count n (ids ++ i ∷ []) (omega (arith, total, length_push ids i))
+    (All-push IsStamp ids i h is))
 
 -- ---- contents
 
 place_said : Reads IsSaid place_words
 unfolding place_words
-place_said = then_reads place_read (λ x in_x. then_reads place_read (λ y in_y. pure_reads _ (tt, and_from _ _ in_x in_y)))
+place_said = then_reads place_read
+    (λ x in_x. then_reads place_read (λ y in_y. pure_reads _ (tt, and_from _ _ in_x in_y)))
 
 size_said : Reads IsSaid size_words
 unfolding size_words
@@ -260,13 +283,16 @@ each_six a b c d e f h =
     let t = and_parts e f s.1 in
     (p.0, q.0, r.0, s.0, t.0, t.1)
 
-all_six : (a b c d e f : Bool) → a ≡ true → b ≡ true → c ≡ true → d ≡ true → e ≡ true → f ≡ true → (a && (b && (c && (d && (e && f))))) ≡ true
+all_six : (a b c d e f : Bool) → a ≡ true → b ≡ true → c ≡ true → d ≡ true → e ≡ true → f ≡ true
+    → (a && (b && (c && (d && (e && f))))) ≡ true
 all_six a b c d e f p q r s t u = and_from a _ p (and_from b _ q (and_from c _ r (and_from d _ s (and_from e f t u))))
 
 abbrev SixHold : Looks → Type 0
 SixHold l =
-    (is_colour (unwrap_or l.stroke 0) ≡ true) × (is_fill (unwrap_or l.fill None) ≡ true) × (is_width (unwrap_or l.width 1) ≡ true)
-    × (is_round (unwrap_or l.round None) ≡ true) × (is_opacity (unwrap_or l.opacity 1) ≡ true) × (is_letters (unwrap_or l.letters None) ≡ true)
+    (is_colour (unwrap_or l.stroke 0) ≡ true) × (is_fill (unwrap_or l.fill None) ≡ true)
+    × (is_width (unwrap_or l.width 1) ≡ true)
+    × (is_round (unwrap_or l.round None) ≡ true) × (is_opacity (unwrap_or l.opacity 1) ≡ true)
+    × (is_letters (unwrap_or l.letters None) ≡ true)
 
 numbers : (l : Looks) → AreNumbers l → SixHold l
 numbers l h =
@@ -277,7 +303,8 @@ looks_by : (l : Looks) → has_look l ≡ true → SixHold l → AreLooks l
 looks_by l has h =
     and_from (has_look l) (are_numbers l) has
     (all_six (is_colour (unwrap_or l.stroke 0)) (is_fill (unwrap_or l.fill None)) (is_width (unwrap_or l.width 1))
-    (is_round (unwrap_or l.round None)) (is_opacity (unwrap_or l.opacity 1)) (is_letters (unwrap_or l.letters None)) h.0 h.1 h.2 h.3 h.4 h.5)
+    (is_round (unwrap_or l.round None)) (is_opacity (unwrap_or l.opacity 1)) (is_letters (unwrap_or l.letters None)) h.0
+    h.1 h.2 h.3 h.4 h.5)
 
 stroke_put : (l : Looks) (c : ℕ) → AreNumbers l → is_colour c ≡ true → AreLooks (record l { stroke = Some c })
 stroke_put l c h is =
@@ -292,32 +319,39 @@ fill_put l f h is =
 width_put : (l : Looks) (n : ℕ) → AreNumbers l → is_width n ≡ true → AreLooks (record l { width = Some n })
 width_put l n h is =
     let p = numbers l h in
-    looks_by (record l { width = Some n }) (or_third (is_some l.stroke) (is_some l.fill) _ refl) (p.0, p.1, is, p.3, p.4, p.5)
+    looks_by (record l { width = Some n }) (or_third (is_some l.stroke) (is_some l.fill) _ refl)
+    (p.0, p.1, is, p.3, p.4, p.5)
 
 dash_put : (l : Looks) (d : Dash) → AreNumbers l → AreLooks (record l { dash = Some d })
 dash_put l d h = and_from _ _ (or_third (is_some l.stroke) (is_some l.fill) _ (or_second (is_some l.width) _ refl)) h
 
 heads_put : (l : Looks) (d : Heads) → AreNumbers l → AreLooks (record l { heads = Some d })
-heads_put l d h = and_from _ _ (or_third (is_some l.stroke) (is_some l.fill) _ (or_third (is_some l.width) (is_some l.dash) _ refl)) h
+heads_put l d h = and_from _ _
+    (or_third (is_some l.stroke) (is_some l.fill) _ (or_third (is_some l.width) (is_some l.dash) _ refl)) h
 
-round_put : (l : Looks) (n : ℕ) → AreNumbers l → nat_le n ROUND_LIMIT ≡ true → AreLooks (record l { round = Some (Some n) })
+round_put : (l : Looks) (n : ℕ) → AreNumbers l → nat_le n ROUND_LIMIT ≡ true
+    → AreLooks (record l { round = Some (Some n) })
 round_put l n h is =
     let p = numbers l h in
     looks_by (record l { round = Some (Some n) })
-    (or_sixth (is_some l.stroke) (is_some l.fill) (is_some l.width) (is_some l.dash) (is_some l.heads) _ refl) (p.0, p.1, p.2, is, p.4, p.5)
+    (or_sixth (is_some l.stroke) (is_some l.fill) (is_some l.width) (is_some l.dash) (is_some l.heads) _ refl)
+    (p.0, p.1, p.2, is, p.4, p.5)
 
 opacity_put : (l : Looks) (n : ℕ) → AreNumbers l → is_opacity n ≡ true → AreLooks (record l { opacity = Some n })
 opacity_put l n h is =
     let p = numbers l h in
     looks_by (record l { opacity = Some n })
-    (or_sixth (is_some l.stroke) (is_some l.fill) (is_some l.width) (is_some l.dash) (is_some l.heads) _ (or_second (is_some l.round) _ refl))
+    (or_sixth (is_some l.stroke) (is_some l.fill) (is_some l.width) (is_some l.dash) (is_some l.heads) _
+    (or_second (is_some l.round) _ refl))
     (p.0, p.1, p.2, p.3, is, p.5)
 
-letters_put : (l : Looks) (n : ℕ) → AreNumbers l → is_letters (Some n) ≡ true → AreLooks (record l { letters = Some (Some n) })
+letters_put : (l : Looks) (n : ℕ) → AreNumbers l → is_letters (Some n) ≡ true
+    → AreLooks (record l { letters = Some (Some n) })
 letters_put l n h is =
     let p = numbers l h in
     looks_by (record l { letters = Some (Some n) })
-    (or_sixth (is_some l.stroke) (is_some l.fill) (is_some l.width) (is_some l.dash) (is_some l.heads) _ (or_third (is_some l.round) (is_some l.opacity) _ refl))
+    (or_sixth (is_some l.stroke) (is_some l.fill) (is_some l.width) (is_some l.dash) (is_some l.heads) _
+    (or_third (is_some l.round) (is_some l.opacity) _ refl))
     (p.0, p.1, p.2, p.3, p.4, is)
 
 align_put : (l : Looks) (a : Option Align) → AreNumbers l → AreLooks (record l { align = Some a })
@@ -332,7 +366,8 @@ value_read look.Fill l h = then_reads fill_read (λ f is. pure_reads _ (fill_put
 value_read look.Width l h = then_reads width_read (λ n is. pure_reads _ (width_put l n h is))
 value_read look.Dash l h = then_reads (any _) (λ d is. pure_reads _ (dash_put l d h))
 value_read look.Heads l h = then_reads (any _) (λ d is. pure_reads _ (heads_put l d h))
-value_read look.Round l h = then_reads (natural_read 0 ROUND_LIMIT) (λ n is. pure_reads _ (round_put l n h (and_parts _ _ is).1))
+value_read look.Round l h
+    = then_reads (natural_read 0 ROUND_LIMIT) (λ n is. pure_reads _ (round_put l n h (and_parts _ _ is).1))
 value_read look.Opacity l h = then_reads (natural_read 1 OPACITY_LIMIT) (λ n is. pure_reads _ (opacity_put l n h is))
 value_read look.Size l h = then_reads (natural_read 1 LETTERS_LIMIT) (λ n is. pure_reads _ (letters_put l n h is))
 value_read look.Align l h = then_reads (any _) (λ a is. pure_reads _ (align_put l (Some a) h))
@@ -368,7 +403,8 @@ BothStamps ends = AreEnds (Some ends)
 
 ends_read : Reads BothStamps ends_at
 unfolding ends_at BothStamps
-ends_read = then_reads id_read (λ first is_first. then_reads id_read (λ second is_second. pure_reads _ (is_first, is_second)))
+ends_read = then_reads id_read
+    (λ first is_first. then_reads id_read (λ second is_second. pure_reads _ (is_first, is_second)))
 
 ends_said : Reads IsSaid ends_words
 unfolding ends_words BothStamps
@@ -543,11 +579,18 @@ line_in bytes c e = line_reads IsCommand command_rows command.Blank commands_rea
 
 site_read : Reads IsSite site_at
 unfolding site_at
-site_read = record { at = λ line. weaker_yields (InRange 1 SITES) IsSite (natural_at 1 SITES line) (is_site-bounds SITES) (natural_in_range 1 SITES line) }
+site_read = record {
+  at
+      = λ line. weaker_yields (InRange 1 SITES) IsSite (natural_at 1 SITES line) (is_site-bounds SITES)
+      (natural_in_range 1 SITES line);
+}
 
-site_command_read : (given : Result (Reader Command) LineFault) → Reads IsFit (reader_of given) → Reads IsScriptLine (site_words given)
+site_command_read : (given : Result (Reader Command) LineFault) → Reads IsFit (reader_of given)
+    → Reads IsScriptLine (site_words given)
 site_command_read (Err why) h = fault_reads IsScriptLine why
-site_command_read (Ok words) h = then_reads site_read (λ site is. then_reads (any _) (λ name a. then_reads h (λ c fit. pure_reads _ (is, fit.0, fit.1))))
+site_command_read (Ok words) h
+    = then_reads site_read
+    (λ site is. then_reads (any _) (λ name a. then_reads h (λ c fit. pure_reads _ (is, fit.0, fit.1))))
 
 at_read : (n : ℕ) → Reads IsScriptLine (at_words n)
 unfolding at_words
@@ -559,7 +602,8 @@ at_read n = record {
 
 send_read : Reads IsScriptLine send_words
 unfolding send_words
-send_read = then_reads site_read (λ sender is_from. then_reads site_read (λ receiver is_to. pure_reads _ (is_from, is_to)))
+send_read = then_reads site_read
+    (λ sender is_from. then_reads site_read (λ receiver is_to. pure_reads _ (is_from, is_to)))
 
 deliver_read : Reads IsScriptLine deliver_words
 unfolding deliver_words

@@ -1,5 +1,6 @@
 -- What readers read has a property, step by step and row by row.
-use Rattle.std.proofs.Common.{◌≡◌, ℕ, Bool, true, false, List, [], ◌∷◌, Option, Some, None, Ok, Err, refl, nat_lt, ◌==◌, length, subst, if◌then◌else◌}
+use Rattle.std.proofs.Common.{◌≡◌, ℕ, Bool, true, false, List, [], ◌∷◌, Option, Some, None, Ok, Err, refl, nat_lt, ◌==◌}
+use Rattle.std.proofs.Common.{length, subst, if◌then◌else◌}
 use Rattle.std.specs.Prelude.{IfSome, Result}
 use Rattle.std.specs.Str.{bytes_eq}
 use Rattle.gd_base.specs.Results.{◌>>=◌}
@@ -26,9 +27,11 @@ bound : {A B : Type 0} (P : A → Type 0) (Q : B → Type 0) (r : ReadsWords A) 
 bound P Q (Ok x) f h k = k x h
 bound P Q (Err why) f h k = tt
 
-pub then_reads : {A B : Type 0} {P : A → Type 0} {Q : B → Type 0} {r : Reader A} {f : A → Reader B} → Reads P r → ((x : A) → P x → Reads Q (f x)) → Reads Q (then_at r f)
+pub then_reads : {A B : Type 0} {P : A → Type 0} {Q : B → Type 0} {r : Reader A} {f : A → Reader B} → Reads P r
+    → ((x : A) → P x → Reads Q (f x)) → Reads Q (then_at r f)
 unfolding then_at
-then_reads {P = P} {Q = Q} {r = r} {f = f} h k = record { at = λ line. bound P Q (r line) (λ x. f x.0 x.1) (h.at line) (λ x p. (k x.0 p).at x.1) }
+then_reads {P = P} {Q = Q} {r = r} {f = f} h k
+    = record { at = λ line. bound P Q (r line) (λ x. f x.0 x.1) (h.at line) (λ x p. (k x.0 p).at x.1) }
 
 pub pure_reads : {A : Type 0} {P : A → Type 0} (value : A) → P value → Reads P (pure value)
 pure_reads value h = record { at = λ line. h }
@@ -69,12 +72,14 @@ unfoldable pub AllRead : {A : Type 0} → (A → Type 0) → List (Row A) → Ty
 AllRead P [] = Unit {0}
 AllRead P (r ∷ rs) = RowReads P r × AllRead P rs
 
-pub all_weaker : {A : Type 0} (P Q : A → Type 0) (rs : List (Row A)) → ((x : A) → P x → Q x) → AllRead P rs → AllRead Q rs
+pub all_weaker : {A : Type 0} (P Q : A → Type 0) (rs : List (Row A)) → ((x : A) → P x → Q x) → AllRead P rs
+    → AllRead Q rs
 unfolding AllRead
 all_weaker P Q [] f h = tt
 all_weaker P Q (r ∷ rs) f h = (λ n fits. weaker f (h.0 n fits), all_weaker P Q rs f h.1)
 
-counted_by : {A : Type 0} (P : A → Type 0) (fits : Bool) (words : Reader A) → (fits ≡ true → Reads P words) → Reads P (reader_of (if fits then Ok words else Err WrongCount))
+counted_by : {A : Type 0} (P : A → Type 0) (fits : Bool) (words : Reader A) → (fits ≡ true → Reads P words)
+    → Reads P (reader_of (if fits then Ok words else Err WrongCount))
 counted_by P true words h = h refl
 counted_by P false words h = fault_reads P WrongCount
 
@@ -83,14 +88,17 @@ named_by : {A : Type 0} (P : A → Type 0) (same : Bool) (this others : Result (
 named_by P true this others h k = h
 named_by P false this others h k = k
 
-pub named_reads : {A : Type 0} (P : A → Type 0) (rs : List (Row A)) → AllRead P rs → (name : List ℕ) (n : ℕ) → Reads P (reader_of (by_name rs name n))
+pub named_reads : {A : Type 0} (P : A → Type 0) (rs : List (Row A)) → AllRead P rs → (name : List ℕ) (n : ℕ)
+    → Reads P (reader_of (by_name rs name n))
 unfolding AllRead by_name
 named_reads P [] all name n = fault_reads P _
 named_reads P (r ∷ rs) all name n =
-    named_by P (bytes_eq name r.name) (counted r n) (by_name rs name n) (counted_by P (r.fits n) (r.words n) (all.0 n)) (named_reads P rs all.1 name n)
+    named_by P (bytes_eq name r.name) (counted r n) (by_name rs name n) (counted_by P (r.fits n) (r.words n) (all.0 n))
+    (named_reads P rs all.1 name n)
 
 -- a whole line, by the tests whether it's too long and whether it's blank
-line_in : {A : Type 0} (P : A → Type 0) (long blank : Bool) (nothing : A) (r : ReadsWords A) (x : A) → P nothing → Yields P r
+line_in : {A : Type 0} (P : A → Type 0) (long blank : Bool) (nothing : A) (r : ReadsWords A) (x : A) → P nothing
+    → Yields P r
     → (if long then Err LongLine else if blank then Ok nothing else first_of r) ≡ Ok x → P x
 line_in P true blank nothing r x a h e = absurd cc
 line_in P false true nothing r x a h e = let same : nothing ≡ x = cc in subst P same a
@@ -98,6 +106,8 @@ line_in P false false nothing (Ok y) x a h e = let same : y.0 ≡ x = cc in subs
 line_in P false false nothing (Err why) x a h e = absurd cc
 
 -- what a line asks for by such rows has the property
-pub line_reads : {A : Type 0} (P : A → Type 0) (rs : List (Row A)) (nothing : A) → AllRead P rs → P nothing → (line : List ℕ) (x : A) → line_by rs nothing line ≡ Ok x → P x
+pub line_reads : {A : Type 0} (P : A → Type 0) (rs : List (Row A)) (nothing : A) → AllRead P rs → P nothing
+    → (line : List ℕ) (x : A) → line_by rs nothing line ≡ Ok x → P x
 line_reads P rs nothing all a line x e =
-    line_in P (nat_lt LONGEST_LINE (length line)) (count_words line == 0) nothing _ x a ((named_reads P rs all (word line) _).at (behind line)) e
+    line_in P (nat_lt LONGEST_LINE (length line)) (count_words line == 0) nothing _ x a
+    ((named_reads P rs all (word line) _).at (behind line)) e

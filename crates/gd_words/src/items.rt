@@ -1,9 +1,12 @@
 //! The parts of an item's line.
 
 ghost use Rattle.std.specs.Prelude.{◌≡◌, ◌≤◌, ◌+◌, ◌*◌, ◌++◌, [], length};
-ghost use Rattle.gd_lines.specs.Text.{align_text, align_word, between_text, colours_text, dash_text, escaped, escaped_byte, fill_text, head_text};
-ghost use Rattle.gd_lines.specs.Text.{heads_text, joined_text, kind_word, label_text, letters_text, look_of, look_text, marks_text, opacity_text};
-ghost use Rattle.gd_lines.specs.Text.{parent_text, place_text, round_text, shape_word, size_text, style_text, where_text, width_text};
+ghost use Rattle.gd_lines.specs.Text.{align_text, align_word, between_text, colours_text, dash_text, escaped};
+ghost use Rattle.gd_lines.specs.Text.{escaped_byte, fill_text, head_text};
+ghost use Rattle.gd_lines.specs.Text.{heads_text, joined_text, kind_word, label_text, letters_text, look_of, look_text};
+ghost use Rattle.gd_lines.specs.Text.{marks_text, opacity_text};
+ghost use Rattle.gd_lines.specs.Text.{parent_text, place_text, round_text, shape_word, size_text, style_text};
+ghost use Rattle.gd_lines.specs.Text.{where_text, width_text};
 ghost use Rattle.gd_words.specs.declared.reply_text.TheConstants.{LONGEST_REPLY};
 
 use crate::colours::push_colour;

@@ -3,8 +3,10 @@
 ghost use Rattle.std.specs.List.{flat_map};
 ghost use Rattle.std.specs.Prelude.{◌≡◌, ◌≤◌, ◌+◌, ◌*◌, ◌++◌, codes, decimal, is_some, length};
 ghost use Rattle.std.specs.Int.{from_bool};
-ghost use Rattle.gd_lines.specs.OpText.{align_or_none, behind_text, both_text, command_text, content_text, dash_word, dissolved_text, ends_text, heads_word, looks_text};
-ghost use Rattle.gd_lines.specs.OpText.{kind_text, number_or_none, parts_of, link_text, member_text, op_text, rank_text, spaced, state_text, tie_text, two_text, whole_text};
+ghost use Rattle.gd_lines.specs.OpText.{align_or_none, behind_text, both_text, command_text, content_text, dash_word};
+ghost use Rattle.gd_lines.specs.OpText.{dissolved_text, ends_text, heads_word, looks_text};
+ghost use Rattle.gd_lines.specs.OpText.{kind_text, number_or_none, parts_of, link_text, member_text, op_text};
+ghost use Rattle.gd_lines.specs.OpText.{rank_text, spaced, state_text, tie_text, two_text, whole_text};
 ghost use Rattle.gd_lines.specs.Text.{colour_text, fill_text, shape_word};
 ghost use Rattle.gd_words.specs.Told.{led_text, named_text, part_text};
 ghost use Rattle.gd_words.specs.declared.reply_text.TheConstants.{LONGEST_REPLY};
@@ -495,7 +497,8 @@ fn push_whole(text: &mut ReplyText, object: &Object)
 fn push_look(text: &mut ReplyText, stroke: u32, fill: Option<u32>, width: u8)
     requires room { length text.old + 39 ≤ LONGEST_REPLY }
     ensures value { text.new ≡
-        text.old ++ spaced (colour_text stroke) ++ spaced (fill_text fill) ++ spaced (decimal width) }
+        text.old ++ spaced (colour_text stroke) ++ spaced (fill_text fill)
+        ++ spaced (decimal width) }
     ensures grown { length text.new ≤ length text.old + 39 }
 {
     text.word(b" ");

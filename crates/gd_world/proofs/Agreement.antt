@@ -1,6 +1,8 @@
--- A churn ends with every site holding every event, and so with all showing the same: its draws come to steps of a world, its
--- rounds to rounds of passages.
-use Rattle.std.proofs.Common.{◌≡◌, ℕ, zero, suc, ◌+◌, ◌<◌, ◌≤◌, Bool, true, not, ◌&&◌, List, [], ◌∷◌, ◌++◌, length, map, fold, Option, Some, None, Ok, bytes_eq, slice_get, refl, sym, ap, ◌∙◌, subst, length-append, arith, eqb-true, eq-eqb, ◌==◌}
+-- A churn ends with every site holding every event, and so with all showing the same: its draws come to steps of a
+-- world, its rounds to rounds of passages.
+use Rattle.std.proofs.Common.{◌≡◌, ℕ, zero, suc, ◌+◌, ◌<◌, ◌≤◌, Bool, true, not, ◌&&◌, List, [], ◌∷◌, ◌++◌, length, map}
+use Rattle.std.proofs.Common.{fold, Option, Some, None, Ok, bytes_eq, slice_get, refl, sym, ap, ◌∙◌, subst}
+use Rattle.std.proofs.Common.{length-append, arith, eqb-true, eq-eqb, ◌==◌}
 use Rattle.std.specs.List.{concat, list_all}
 use Rattle.std.proofs.lemmas.Bool.{and_parts, cond_both}
 use Rattle.std.proofs.lemmas.List.{append_assoc}
@@ -26,8 +28,10 @@ use Rattle.gd_reference.specs.Offers.{frame_for}
 use Rattle.gd_reference.specs.Said.{all_said, says}
 use Rattle.gd_reference.specs.SlowSite.{count, own}
 use Rattle.gd_reference.specs.Tally.{tally_reply}
-use Rattle.gd_reference.specs.World.{At, Deliver, Send, Step, World, after, after_from, delivered, happens, start, with_site}
-use Rattle.gd_worlds.specs.Churn.{Churning, all_hold_all, churn_effects, churn_sites, churned, holds_all_of, is_same, new_churning, passages, rounded, rounds_to_all, stepped, times, with_drawn, with_line}
+use Rattle.gd_reference.specs.World.{At, Deliver, Send, Step, World, after, after_from, delivered, happens, start}
+use Rattle.gd_reference.specs.World.{with_site}
+use Rattle.gd_worlds.specs.Churn.{Churning, all_hold_all, churn_effects, churn_sites, churned, holds_all_of, is_same}
+use Rattle.gd_worlds.specs.Churn.{new_churning, passages, rounded, rounds_to_all, stepped, times, with_drawn, with_line}
 use Rattle.gd_worlds.specs.Churn as churn
 use Rattle.gd_worlds.specs.Rehearsal.{after_script, may_send, told_by}
 
@@ -73,7 +77,9 @@ leads_stepped c =
 leads_steps : (n : ℕ) (c : Churning) → Leads n c.world (times n stepped c).world
 unfolding times after_from
 leads_steps zero c = record { steps = []; few = omega arith; is = refl }
-leads_steps (suc n) c = leads_on n c.world (stepped c).world (times n stepped (stepped c)).world (leads_stepped c) (leads_steps n (stepped c))
+leads_steps (suc n) c
+    = leads_on n c.world (stepped c).world (times n stepped (stepped c)).world (leads_stepped c)
+    (leads_steps n (stepped c))
 
 -- ---- the number of sites stays
 
@@ -84,7 +90,8 @@ sites_delivered w (Some f) = refl
 
 sites_sent : (w : World) (from to : ℕ) → (happens w (Send from to)).sites ≡ w.sites
 unfolding happens
-sites_sent w from to = cond_both (may_send w from to) _ w (λ (v : World). v.sites ≡ w.sites) (λ sends. refl) (λ other. refl)
+sites_sent w from to = cond_both (may_send w from to) _ w (λ (v : World). v.sites ≡ w.sites) (λ sends. refl)
+    (λ other. refl)
 
 sites_passed : (w : World) (p : Passage) → (protocol.passed w p).sites ≡ w.sites
 unfolding protocol.passed happens
@@ -110,17 +117,22 @@ abbrev are_apart : ℕ × ℕ → Bool
 are_apart p = is_site 4 p.0 && is_site 4 p.1 && not (p.0 == p.1)
 
 -- what is sent is the last mail
-mail_sent : (w : World) (from to : ℕ) → may_send w from to ≡ true → length (happens w (Send from to)).mail ≡ suc (length w.mail)
+mail_sent : (w : World) (from to : ℕ) → may_send w from to ≡ true
+    → length (happens w (Send from to)).mail ≡ suc (length w.mail)
 unfolding happens
 mail_sent w from to sends = rw sends (omega (arith, length-append w.mail (frame_for (w.at from) to ∷ [])))
 
-world_passed : (c : Churning) (p : ℕ × ℕ) → c.world.sites ≡ 4 → are_apart p ≡ true → (churn.passed c p).world ≡ protocol.passed c.world (passage p)
+world_passed : (c : Churning) (p : ℕ × ℕ) → c.world.sites ≡ 4 → are_apart p ≡ true
+    → (churn.passed c p).world ≡ protocol.passed c.world (passage p)
 unfolding protocol.passed with_line
 world_passed c p four apart =
     let sent = happens c.world (Send p.0 p.1) in
-    ap (λ (number : ℕ). after_script sent (Ok (script.Deliver number))) (mail_sent c.world p.0 p.1 (subst (λ (n : ℕ). (is_site n p.0 && is_site n p.1 && not (p.0 == p.1)) ≡ true) (sym four) apart))
+    ap (λ (number : ℕ). after_script sent (Ok (script.Deliver number)))
+    (mail_sent c.world p.0 p.1
+    (subst (λ (n : ℕ). (is_site n p.0 && is_site n p.1 && not (p.0 == p.1)) ≡ true) (sym four) apart))
 
-world_all_passed : (ps : List (ℕ × ℕ)) (c : Churning) → c.world.sites ≡ 4 → list_all are_apart ps ≡ true → (fold churn.passed c ps).world ≡ all_passed c.world (map passage ps)
+world_all_passed : (ps : List (ℕ × ℕ)) (c : Churning) → c.world.sites ≡ 4 → list_all are_apart ps ≡ true
+    → (fold churn.passed c ps).world ≡ all_passed c.world (map passage ps)
 unfolding all_passed
 world_all_passed [] c four apart = refl
 world_all_passed (p ∷ ps) c four apart =
@@ -148,7 +160,8 @@ rounded_four c is = subst IsFour (sym (round_is c is.four)) (passed_four c.world
 
 -- ---- a test of all four sites
 
-each_of_four : (test : ℕ → Bool) → test 1 ≡ true → test 2 ≡ true → test 3 ≡ true → test 4 ≡ true → (s : ℕ) → 0 < s → s ≤ 4 → test s ≡ true
+each_of_four : (test : ℕ → Bool) → test 1 ≡ true → test 2 ≡ true → test 3 ≡ true → test 4 ≡ true → (s : ℕ) → 0 < s
+    → s ≤ 4 → test s ≡ true
 each_of_four test one two three four zero low high = absurd (omega (arith, low))
 each_of_four test one two three four (suc zero) low high = one
 each_of_four test one two three four (suc (suc zero)) low high = two
@@ -187,7 +200,8 @@ module _ (w : World) (is : IsFour w) where
   test_of_held all =
       let counts = all_counted w is.kept all in
       all_pass (λ t. list_all (holds_all_of w t) churn_sites)
-      (λ t t_in. all_pass (holds_all_of w t) (λ s s_in. eq-eqb (count (w.at t) s) (length (own (w.at s))) (counts s t (inside s s_in) (inside t t_in))))
+      (λ t t_in. all_pass (holds_all_of w t)
+      (λ s s_in. eq-eqb (count (w.at t) s) (length (own (w.at s))) (counts s t (inside s s_in) (inside t t_in))))
 
 -- ---- the rounds go on until every site holds every event
 
@@ -195,13 +209,15 @@ record IsEnd (w : World) : Type 0 where
   is : IsFour w
   held : AllHoldAll w
 
-rounds_end : (most : ℕ) (c : Churning) → IsFour c.world → AllHoldAll (all_passed c.world (rounds most)) → IsEnd (rounds_to_all most c).world
+rounds_end : (most : ℕ) (c : Churning) → IsFour c.world → AllHoldAll (all_passed c.world (rounds most))
+    → IsEnd (rounds_to_all most c).world
 unfolding rounds_to_all rounds all_passed
 rounds_end zero c is all = record { is = is; held = all }
 rounds_end (suc most) c is all =
     cond_both (all_hold_all c.world) c (rounds_to_all most (rounded c)) (λ (d : Churning). IsEnd d.world)
     (λ held. record { is = is; held = held_by_test c.world is held })
-    (λ other. rounds_end most (rounded c) (rounded_four c is) (subst (λ (w : World). AllHoldAll (all_passed w (rounds most))) (sym (round_is c is.four)) all))
+    (λ other. rounds_end most (rounded c) (rounded_four c is)
+    (subst (λ (w : World). AllHoldAll (all_passed w (rounds most))) (sym (round_is c is.four)) all))
 
 -- and one more keeps them
 ends : (seed steps : ℕ) → IsEnd (churned seed steps).world
@@ -210,23 +226,29 @@ ends seed steps =
     let led = leads_steps steps (new_churning seed) in
     let c = times steps stepped (new_churning seed) in
     let d = rounds_to_all (4 + steps) c in
-    let is : IsFour c.world = subst IsFour (sym led.is) (record { kept = kept_after 4 1 led.steps; four = sites_after led.steps }) in
+    let is : IsFour c.world
+    = subst IsFour (sym led.is) (record { kept = kept_after 4 1 led.steps; four = sites_after led.steps }) in
     let all : AllHoldAll (all_passed c.world (rounds (4 + steps))) =
-    subst (λ (w : World). AllHoldAll (all_passed w (rounds (4 + steps)))) (sym led.is) (rounds_bring_all 1 steps led.steps led.few) in
+    subst (λ (w : World). AllHoldAll (all_passed w (rounds (4 + steps)))) (sym led.is)
+    (rounds_bring_all 1 steps led.steps led.few) in
     let end = rounds_end (4 + steps) c is all in
-    subst IsEnd (sym (round_is d end.is.four)) (record { is = passed_four d.world end.is; held = held_passed d.world end.is.kept end.held round })
+    subst IsEnd (sym (round_is d end.is.four))
+    (record { is = passed_four d.world end.is; held = held_passed d.world end.is.kept end.held round })
 
 pub ends_with_all : (seed steps : ℕ) → all_hold_all (churned seed steps).world ≡ true
 ends_with_all seed steps = let end = ends seed steps in test_of_held (churned seed steps).world end.is end.held
 
 -- ---- sites that show the same drawing show the same text
 
-same_text : (xs ys : List Event) → picture xs ≡ picture ys → bytes_eq (concat (text (picture xs))) (concat (text (picture ys))) ≡ true
-same_text xs ys same = (bytes_eq-Decides (concat (text (picture xs))) (concat (text (picture ys)))).1 (ap (λ d. concat (text d)) same)
+same_text : (xs ys : List Event) → picture xs ≡ picture ys
+    → bytes_eq (concat (text (picture xs))) (concat (text (picture ys))) ≡ true
+same_text xs ys same = (bytes_eq-Decides (concat (text (picture xs))) (concat (text (picture ys)))).1
+    (ap (λ d. concat (text d)) same)
 
 same_for_all : (w : World) → w.sites ≡ 4 → AllAgree w → is_same w ≡ true
 same_for_all w four agree =
-    let inside : (s : ℕ) → is_site 4 s ≡ true → is_site w.sites s ≡ true = λ s is. subst (λ (n : ℕ). is_site n s ≡ true) (sym four) is in
+    let inside : (s : ℕ) → is_site 4 s ≡ true
+    → is_site w.sites s ≡ true = λ s is. subst (λ (n : ℕ). is_site n s ≡ true) (sym four) is in
     let same : (s : ℕ) → is_site 4 s ≡ true → bytes_eq (churn.shown_at w 1) (churn.shown_at w s) ≡ true =
     λ s is. same_text (w.at 1).held (w.at s).held (agree 1 s (inside 1 refl) (inside s is)) in
     rw (same 2 refl, same 3 refl, same 4 refl) refl
@@ -238,8 +260,15 @@ ends_alike seed steps =
     same_for_all w end.is.four (held_agree w end.is.kept end.held)
 
 -- the last line that is printed
-pub said_alike : (seed steps : ℕ) → (front : List Effect) × (churn_effects seed steps ≡ front ++ says (reply.Same true) ∷ [])
+pub said_alike : (seed steps : ℕ)
+    → (front : List Effect) × (churn_effects seed steps ≡ front ++ says (reply.Same true) ∷ [])
 said_alike seed steps =
     let c = churned seed steps in
-    let six : List Effect = all_said (map (churn.site_reply c.world) churn_sites ++ reply.Churned c.counts.edits c.counts.refused c.counts.sent c.counts.delivered c.counts.idle ∷ tally_reply c.counts.arrivals ∷ []) in
-    (c.work ++ six, ap (λ (b : Bool). c.work ++ (six ++ says (reply.Same b) ∷ [])) (ends_alike seed steps) ∙ sym (append_assoc c.work six (says (reply.Same true) ∷ [])))
+    let six : List Effect
+    = all_said (map (churn.site_reply c.world) churn_sites
+    ++ reply.Churned c.counts.edits c.counts.refused c.counts.sent c.counts.delivered c.counts.idle
+    ∷ tally_reply c.counts.arrivals ∷ []) in (
+      c.work ++ six,
+      ap (λ (b : Bool). c.work ++ (six ++ says (reply.Same b) ∷ [])) (ends_alike seed steps)
+          ∙ sym (append_assoc c.work six (says (reply.Same true) ∷ [])),
+    )

@@ -1,5 +1,7 @@
 -- The work of a churn only grows, and is all steps.
-use Rattle.std.proofs.Common.{◌≡◌, ℕ, zero, suc, ◌+◌, ◌-◌, ◌<◌, ◌≤◌, Bool, true, false, cond, List, [], ◌∷◌, ◌++◌, length, map, fold, take, get_or, refl, sym, ◌∙◌, ap, subst, append_assoc, add-one, zero-add, arith}
+use Rattle.std.proofs.Common.{◌≡◌, ℕ, zero, suc, ◌+◌, ◌-◌, ◌<◌, ◌≤◌, Bool, true, false, cond, List, [], ◌∷◌, ◌++◌}
+use Rattle.std.proofs.Common.{length, map, fold, take, get_or, refl, sym, ◌∙◌, ap, subst, append_assoc, add-one}
+use Rattle.std.proofs.Common.{zero-add, arith}
 use Rattle.std.proofs.lemmas.Bool.{cond_both}
 use Rattle.std.proofs.lemmas.List.{append-nil, map-append}
 use Rattle.std.proofs.lemmas.List.Sums.{fold_more}
@@ -8,7 +10,8 @@ use Rattle.std.specs.Prelude.{Option, None, Some, Ok}
 use Rattle.gd_effects.specs.Effects.{Effect, Head, Print, Record, Try, Work}
 use Rattle.gd_lines.specs.declared.command.ScriptLine.{ScriptLine}
 use Rattle.gd_lines.specs.declared.command.ScriptLine.TheVariants as script
-use Rattle.gd_worlds.specs.Churn.{Churning, all_hold_all, passages, passed, rounded, rounds_to_all, step, stepped, times, with_drawn, with_line}
+use Rattle.gd_worlds.specs.Churn.{Churning, all_hold_all, passages, passed, rounded, rounds_to_all, step, stepped}
+use Rattle.gd_worlds.specs.Churn.{times, with_drawn, with_line}
 use Rattle.gd_worlds.specs.Rehearsal.{is_work, of_site}
 
 -- these steps were added
@@ -37,7 +40,8 @@ only_works (Try to frame ∷ xs) = only_works xs
 
 pub grows_line : (c : Churning) (line : ScriptLine) → Grows c (with_line c line)
 unfolding with_line
-grows_line c line = let r = only_works (of_site c.world (Ok line)) in record { works = r.0; work = ap (λ xs. c.work ++ xs) r.1 }
+grows_line c line = let r = only_works (of_site c.world (Ok line))
+    in record { works = r.0; work = ap (λ xs. c.work ++ xs) r.1 }
 
 grows_drawn : (c : Churning) (line : Option ScriptLine) → Grows c (with_drawn c line)
 grows_drawn c None = record { works = []; work = sym (append-nil c.work) }
@@ -56,7 +60,8 @@ grows_pass c (from, to) =
 
 -- the send is a front of it
 pub pass_front : (c : Churning) (from to : ℕ) → Grows (with_line c (script.Send from to)) (passed c (from, to))
-pass_front c from to = let sent = with_line c (script.Send from to) in grows_line sent (script.Deliver (length sent.world.mail))
+pass_front c from to = let sent = with_line c (script.Send from to)
+    in grows_line sent (script.Deliver (length sent.world.mail))
 
 pub grows_passes : (c : Churning) (all : List (ℕ × ℕ)) → Grows c (fold passed c all)
 grows_passes c [] = grows_none c
@@ -72,8 +77,11 @@ passes_front c [] (suc k) = grows_none c
 passes_front c (passage ∷ rest) (suc k) = passes_front (passed c passage) rest k
 
 -- one more than these is a front of all
-pub passage_front : (c : Churning) (all : List (ℕ × ℕ)) (k : ℕ) (d : ℕ × ℕ) → k < length all → Grows (passed (fold passed c (take k all)) (get_or all k d)) (fold passed c all)
-passage_front c all k d inside = subst (λ (b : Churning). Grows b (fold passed c all)) (fold_more passed c all k d inside) (passes_front c all (k + 1))
+pub passage_front : (c : Churning) (all : List (ℕ × ℕ)) (k : ℕ) (d : ℕ × ℕ) → k < length all
+    → Grows (passed (fold passed c (take k all)) (get_or all k d)) (fold passed c all)
+passage_front c all k d inside
+    = subst (λ (b : Churning). Grows b (fold passed c all)) (fold_more passed c all k d inside)
+    (passes_front c all (k + 1))
 
 module _ (next : Churning → Churning) where
   times_suc : (n : ℕ) (c : Churning) → times (suc n) next c ≡ next (times n next c)
@@ -106,7 +114,8 @@ module _ (next : Churning → Churning) where
     times_front n all c inside =
         let rest = all - (n + 1) in
         subst (λ (d : Churning). Grows (next (times n next c)) d) (sym (times_split (n + 1) rest all c (omega arith)))
-        (subst (λ (b : Churning). Grows b (times rest next (times (n + 1) next c))) (times_one_more n c) (times_grows rest (times (n + 1) next c)))
+        (subst (λ (b : Churning). Grows b (times rest next (times (n + 1) next c))) (times_one_more n c)
+        (times_grows rest (times (n + 1) next c)))
 
 -- ---- rounds until every site holds every event
 
@@ -122,7 +131,8 @@ pub to_all_grows : (most : ℕ) (c : Churning) → Grows c (rounds_to_all most c
 unfolding rounds_to_all
 to_all_grows zero c = grows_none c
 to_all_grows (suc most) c =
-    cond_both (is_done c) c (rounds_to_all most (rounded c)) (Grows c) (λ done. grows_none c) (λ other. grows_then (grows_round c) (to_all_grows most (rounded c)))
+    cond_both (is_done c) c (rounds_to_all most (rounded c)) (Grows c) (λ done. grows_none c)
+    (λ other. grows_then (grows_round c) (to_all_grows most (rounded c)))
 
 chosen_first : (test : Bool) (c d : Churning) → test ≡ true → cond test c d ≡ c
 chosen_first true c d e = refl
@@ -143,7 +153,8 @@ unfolding rounds_to_all
 to_all_one c other = chosen_other (is_done c) c (rounded c) other
 
 -- where it is chosen among two, both lead to the same
-chosen_leads : (test : Bool) (n : ℕ) (all c near : Churning) → (test ≡ true → cond test c all ≡ rounds_to_all n c) → all ≡ rounds_to_all n near → cond test c all ≡ rounds_to_all n (cond test c near)
+chosen_leads : (test : Bool) (n : ℕ) (all c near : Churning) → (test ≡ true → cond test c all ≡ rounds_to_all n c)
+    → all ≡ rounds_to_all n near → cond test c all ≡ rounds_to_all n (cond test c near)
 chosen_leads true n all c near stays goes = stays refl
 chosen_leads false n all c near stays goes = goes
 
@@ -157,16 +168,22 @@ to_all_split (suc m) n (suc all) c e =
     (to_all_split m n all (rounded c) (omega arith))
 
 -- one round more
-pub to_all_more : (n : ℕ) (c : Churning) → is_done (rounds_to_all n c) ≡ false → rounds_to_all (n + 1) c ≡ rounded (rounds_to_all n c)
+pub to_all_more : (n : ℕ) (c : Churning) → is_done (rounds_to_all n c) ≡ false
+    → rounds_to_all (n + 1) c ≡ rounded (rounds_to_all n c)
 to_all_more n c other = to_all_split n (suc zero) (n + 1) c (omega arith) ∙ to_all_one (rounds_to_all n c) other
 
 -- no more are done
-pub to_all_done : (n most : ℕ) (c : Churning) → n ≤ most → is_done (rounds_to_all n c) ≡ true → rounds_to_all n c ≡ rounds_to_all most c
-to_all_done n most c few done = sym (to_all_split n (most - n) most c (omega (arith, few)) ∙ to_all_stays (most - n) (rounds_to_all n c) done)
+pub to_all_done : (n most : ℕ) (c : Churning) → n ≤ most → is_done (rounds_to_all n c) ≡ true
+    → rounds_to_all n c ≡ rounds_to_all most c
+to_all_done n most c few done
+    = sym (to_all_split n (most - n) most c (omega (arith, few)) ∙ to_all_stays (most - n) (rounds_to_all n c) done)
 
 -- one more than were done is a front of all
-pub to_all_front : (n most : ℕ) (c : Churning) → n < most → is_done (rounds_to_all n c) ≡ false → Grows (rounded (rounds_to_all n c)) (rounds_to_all most c)
+pub to_all_front : (n most : ℕ) (c : Churning) → n < most → is_done (rounds_to_all n c) ≡ false
+    → Grows (rounded (rounds_to_all n c)) (rounds_to_all most c)
 to_all_front n most c inside other =
     let rest = most - (n + 1) in
-    subst (λ (d : Churning). Grows (rounded (rounds_to_all n c)) d) (sym (to_all_split (n + 1) rest most c (omega (arith, inside))))
-    (subst (λ (b : Churning). Grows b (rounds_to_all rest (rounds_to_all (n + 1) c))) (to_all_more n c other) (to_all_grows rest (rounds_to_all (n + 1) c)))
+    subst (λ (d : Churning). Grows (rounded (rounds_to_all n c)) d)
+    (sym (to_all_split (n + 1) rest most c (omega (arith, inside))))
+    (subst (λ (b : Churning). Grows b (rounds_to_all rest (rounds_to_all (n + 1) c))) (to_all_more n c other)
+    (to_all_grows rest (rounds_to_all (n + 1) c)))

@@ -13,6 +13,8 @@ pub few_more : {a : ℕ} {c : Counts} (b : ℕ) → a ≤ b → AreFew a c → A
 few_more b more h = record { all = omega arith; undone = omega arith }
 
 -- one reply more was counted
-pub counted_more : (first now next : Counts) (x : Reply) (f : Counts → Reply → Counts) (xs : List Reply) (k : ℕ) (d : Reply) → k < length xs → x ≡ get_or xs k d
+pub counted_more : (first now next : Counts) (x : Reply) (f : Counts → Reply → Counts) (xs : List Reply) (k : ℕ)
+    (d : Reply) → k < length xs → x ≡ get_or xs k d
     → now ≡ fold f first (take k xs) → next ≡ f now x → next ≡ fold f first (take (k + 1) xs)
-counted_more first now next x f xs k d inside is so_far more = more ∙ ap₂ f so_far is ∙ sym (fold_more f first xs k d inside)
+counted_more first now next x f xs k d inside is so_far more = more ∙ ap₂ f so_far is
+    ∙ sym (fold_more f first xs k d inside)

@@ -1,5 +1,6 @@
 -- A delivery in a world in memory: the receiver is a site of it, takes the mail, and refuses nothing.
-use Rattle.std.proofs.Common.{◌≡◌, ℕ, zero, suc, ◌+◌, ◌-◌, ◌≤◌, Bool, true, false, List, [], ◌∷◌, length, set, get_or, slice_get, refl, sym, ◌∙◌, ap, subst, arith}
+use Rattle.std.proofs.Common.{◌≡◌, ℕ, zero, suc, ◌+◌, ◌-◌, ◌≤◌, Bool, true, false, List, [], ◌∷◌, length, set, get_or}
+use Rattle.std.proofs.Common.{slice_get, refl, sym, ◌∙◌, ap, subst, arith}
 use Rattle.std.proofs.lemmas.Bool.{ne_eqb}
 use Rattle.std.specs.List.{AllByRecursion, filter}
 use Rattle.std.specs.Prelude.{Option, None, Some, Result, Ok, Err, IfOk, OnOk, nat_eq, if◌then◌else◌}
@@ -51,15 +52,18 @@ echo_offer held e Repeat h = tt
 echo_offer held e Gap h = tt
 echo_offer held e (Backdated clock sure) h = absurd h
 
-echo_events : (slow : SlowSite) (es : List Event) → AllByRecursion IsOnTime (offers slow es) → AllByRecursion IsEcho (events_replies slow es)
+echo_events : (slow : SlowSite) (es : List Event) → AllByRecursion IsOnTime (offers slow es)
+    → AllByRecursion IsEcho (events_replies slow es)
 unfolding offers events_replies
 echo_events slow [] h = tt
 echo_events slow (e ∷ es) h =
-    Every-append IsEcho (offer_replies slow.held e (offer slow e)) (events_replies (arrived slow e) es) (echo_offer slow.held e (offer slow e) h.0) (echo_events (arrived slow e) es h.1)
+    Every-append IsEcho (offer_replies slow.held e (offer slow e)) (events_replies (arrived slow e) es)
+    (echo_offer slow.held e (offer slow e) h.0) (echo_events (arrived slow e) es h.1)
 
 -- ---- a mail
 
-found : (w : World) (f : Frame) (number : ℕ) → mail_of w number ≡ Some f → (k : ℕ) × (number ≡ suc k) × (slice_get w.mail k ≡ Some f)
+found : (w : World) (f : Frame) (number : ℕ) → mail_of w number ≡ Some f
+    → (k : ℕ) × (number ≡ suc k) × (slice_get w.mail k ≡ Some f)
 found w f zero e = absurd cc
 found w f (suc k) e = (k, refl, e)
 
@@ -67,7 +71,8 @@ found w f (suc k) e = (k, refl, e)
 abbrev pub IsGot : List Frame → ℕ → Frame → Type 0
 IsGot mails number f = Some f ≡ (if nat_eq number 0 then None else slice_get mails (number - 1))
 
-pub is_got : (mails : List Frame) (number : ℕ) (f : Frame) (got : Option Frame) → got ≡ Some f → got ≡ (if nat_eq number 0 then None else slice_get mails (number - 1)) → IsGot mails number f
+pub is_got : (mails : List Frame) (number : ℕ) (f : Frame) (got : Option Frame) → got ≡ Some f
+    → got ≡ (if nat_eq number 0 then None else slice_get mails (number - 1)) → IsGot mails number f
 is_got mails number f got some is = sym some ∙ is
 
 module _ (w : World) (v : WorldValue) (st : StandsFor w v) (number : ℕ) (f : Frame) (got : IsGot v.mail number f) where
@@ -79,7 +84,8 @@ module _ (w : World) (v : WorldValue) (st : StandsFor w v) (number : ℕ) (f : F
       by (suc k) is =
           let test : nat_eq (suc k) 0 ≡ false = ne_eqb (suc k) 0 (λ e. omega (arith, e)) in
           let place : suc k - 1 ≡ k = omega arith in
-          sym (is ∙ ap (λ (zeroth : Bool). if zeroth then None else slice_get v.mail (suc k - 1)) test ∙ ap (slice_get v.mail) place ∙ ap (λ (l : List Frame). slice_get l k) st.mail)
+          sym (is ∙ ap (λ (zeroth : Bool). if zeroth then None else slice_get v.mail (suc k - 1)) test
+          ∙ ap (slice_get v.mail) place ∙ ap (λ (l : List Frame). slice_get l k) st.mail)
 
   mail : IsMail w f
   mail = let at = found w f number is_mail in Every-at (IsMail w) w.mail at.0 f (kept w v st).mails at.2
@@ -96,7 +102,8 @@ module _ (w : World) (v : WorldValue) (st : StandsFor w v) (number : ℕ) (f : F
   echoes rs said =
       let at = found w f number is_mail in
       let taken = ap (verdict_replies (w.at f.head.to) f) (all_taken w (kept w v st) at.0 f at.2) in
-      subst (AllByRecursion IsEcho) (sym (said ∙ taken)) (echo_events (w.at f.head.to) f.events (all_on_time w (kept w v st) at.0 f at.2))
+      subst (AllByRecursion IsEcho) (sym (said ∙ taken))
+      (echo_events (w.at f.head.to) f.events (all_on_time w (kept w v st) at.0 f at.2))
 
 -- a mail of that number, the place of its receiver, and the member there
 pub record IsHanded (v : WorldValue) (number : ℕ) (f : Frame) (place : ℕ) (member : Member) : Type 0 where
@@ -104,15 +111,18 @@ pub record IsHanded (v : WorldValue) (number : ℕ) (f : Frame) (place : ℕ) (m
   pub place_is : place ≡ f.head.to
   pub read : member ≡ get_or v.members (place - 1) member
 
-pub handed : (v : WorldValue) (number : ℕ) (f : Frame) (got : Option Frame) → got ≡ Some f → got ≡ (if nat_eq number 0 then None else slice_get v.mail (number - 1))
-    → (place : ℕ) (head : Head) → place ≡ head.to → head ≡ f.head → (member : Member) → member ≡ get_or v.members (place - 1) member → IsHanded v number f place member
+pub handed : (v : WorldValue) (number : ℕ) (f : Frame) (got : Option Frame) → got ≡ Some f
+    → got ≡ (if nat_eq number 0 then None else slice_get v.mail (number - 1))
+    → (place : ℕ) (head : Head) → place ≡ head.to → head ≡ f.head → (member : Member)
+    → member ≡ get_or v.members (place - 1) member → IsHanded v number f place member
 handed v number f got some is place head there same member read = record {
   got = is_got v.mail number f got some is;
   place_is = there ∙ ap (λ (h : Head). h.to) same;
   read = read;
 }
 
-module _ (w : World) (v : WorldValue) (st : StandsFor w v) (number : ℕ) (f : Frame) (place : ℕ) (member : Member) (h : IsHanded v number f place member) where
+module _ (w : World) (v : WorldValue) (st : StandsFor w v) (number : ℕ) (f : Frame) (place : ℕ) (member : Member)
+    (h : IsHanded v number f place member) where
   here : mail_of w number ≡ Some f
   here = is_mail w v st number f h.got
 
@@ -125,7 +135,8 @@ module _ (w : World) (v : WorldValue) (st : StandsFor w v) (number : ℕ) (f : F
   works : script_work w (Ok (script.Deliver number)) ≡ frame_works (w.at f.head.to) f
   works = ap (λ (o : Option Frame). filter is_work (of_delivery w o)) here ∙ works_of_frame (w.at f.head.to) f
 
-  happens_is : (k : ℕ) → slice_get w.mail k ≡ Some f → happens w (Deliver k) ≡ with_site w (place - 1 + 1) (take_frame (w.at f.head.to) f)
+  happens_is : (k : ℕ) → slice_get w.mail k ≡ Some f
+      → happens w (Deliver k) ≡ with_site w (place - 1 + 1) (take_frame (w.at f.head.to) f)
   unfolding happens
   happens_is k e =
       let there : f.head.to ≡ place - 1 + 1 = omega (arith, (within w v st number f h.got).0, h.place_is) in
@@ -136,7 +147,8 @@ module _ (w : World) (v : WorldValue) (st : StandsFor w v) (number : ℕ) (f : F
     left = record { members = set v.members (place - 1) new; mail = v.mail }
 
     -- the world once that one has taken it
-    taken_stands : StandsWith (take_frame (w.at f.head.to) f) new.site new.backs → StandsFor (after_script w (Ok (script.Deliver number))) left
+    taken_stands : StandsWith (take_frame (w.at f.head.to) f) new.site new.backs
+        → StandsFor (after_script w (Ok (script.Deliver number))) left
     taken_stands stands =
         let at = found w f number here in
         subst (λ (n : ℕ). StandsFor (after_script w (Ok (script.Deliver n))) left) (sym at.1)
@@ -145,25 +157,35 @@ module _ (w : World) (v : WorldValue) (st : StandsFor w v) (number : ℕ) (f : F
     abbrev DidHear : Result (List Reply) WorldFault → ℕ → ℕ → Type 0
     DidHear result before after = Hears (w.at f.head.to) f result before new after
 
-    pub delivery_is : (result : Result (List Reply) WorldFault) (before after : ℕ) → DidHear result before after → DeliverIs w number result
+    pub delivery_is : (result : Result (List Reply) WorldFault) (before after : ℕ) → DidHear result before after
+        → DeliverIs w number result
     delivery_is (Ok replies) before after heard = (f, here, heard.0)
     delivery_is (Err NoMemory) before after heard = rw here refl
     delivery_is (Err NoSite) before after heard = absurd heard
     delivery_is (Err NoMail) before after heard = absurd heard
 
-    pub delivery_comes : (result : Result (List Reply) WorldFault) (before after : ℕ) → DidHear result before after → (old value : WorldValue) → OnOk result (value ≡ left)
-        → Comes (after_script w (Ok (script.Deliver number))) (script_work w (Ok (script.Deliver number))) result old before value after
-    delivery_comes (Ok replies) before after heard old value is =
-        (subst (StandsFor (after_script w (Ok (script.Deliver number)))) (sym is) (taken_stands heard.1), heard.2 ∙ ap (λ (xs : List Effect). before + cost xs) (sym works))
-    delivery_comes (Err NoMemory) before after heard old value is = subst (λ (xs : List Effect). PaysFront before xs after) (sym works) heard
+    pub delivery_comes : (result : Result (List Reply) WorldFault) (before after : ℕ) → DidHear result before after
+        → (old value : WorldValue) → OnOk result (value ≡ left)
+        → Comes (after_script w (Ok (script.Deliver number))) (script_work w (Ok (script.Deliver number))) result old
+        before value after
+    delivery_comes (Ok replies) before after heard old value is = (
+      subst (StandsFor (after_script w (Ok (script.Deliver number)))) (sym is) (taken_stands heard.1),
+      heard.2
+          ∙ ap (λ (xs : List Effect). before + cost xs) (sym works),
+    )
+    delivery_comes (Err NoMemory) before after heard old value is
+        = subst (λ (xs : List Effect). PaysFront before xs after) (sym works) heard
     delivery_comes (Err NoSite) before after heard old value is = absurd heard
     delivery_comes (Err NoMail) before after heard old value is = absurd heard
 
-    pub delivery_echoes : (result : Result (List Reply) WorldFault) (before after : ℕ) → DidHear result before after → IfOk result (AllByRecursion IsEcho)
+    pub delivery_echoes : (result : Result (List Reply) WorldFault) (before after : ℕ) → DidHear result before after
+        → IfOk result (AllByRecursion IsEcho)
     delivery_echoes (Ok replies) before after heard = echoes w v st number f h.got replies heard.0
     delivery_echoes (Err fault) before after heard = tt
 
     -- a call that went through leaves a world that stands for one
-    pub delivery_kept : (result : Result (List Reply) WorldFault) (before after : ℕ) → DidHear result before after → is_err result ≡ false → HasWorld left
-    delivery_kept (Ok replies) before after heard e = record { world = after_script w (Ok (script.Deliver number)); stands = taken_stands heard.1 }
+    pub delivery_kept : (result : Result (List Reply) WorldFault) (before after : ℕ) → DidHear result before after
+        → is_err result ≡ false → HasWorld left
+    delivery_kept (Ok replies) before after heard e
+        = record { world = after_script w (Ok (script.Deliver number)); stands = taken_stands heard.1 }
     delivery_kept (Err fault) before after heard e = cc

@@ -24,5 +24,6 @@ is_drawn_label letter h =
     record {
       fits = omega arith;
       plain =
-          rw (is_utf8-from_IsUtf8 text (IsUtf8-from_ascii text ascii), chars-IsAscii text ascii, is_letter letter h) refl;
+          rw (is_utf8-from_IsUtf8 text (IsUtf8-from_ascii text ascii), chars-IsAscii text ascii, is_letter letter h)
+          refl;
     }

@@ -24,9 +24,11 @@ use Rattle.gd_world.specs.declared.fault.WorldFault.{WorldFault}
 use Rattle.gd_world.specs.declared.fault.WorldFault.TheVariants.{NoSite, NoMail, NoMemory}
 use Rattle.gd_world.specs.declared.member.Member.{Member}
 
-module _ (slow : SlowSite) (f : Frame) (new : Member) (same : new.backs ≡ slow.backs) (site : StandsFor (take_frame slow f) new.site) (before after : ℕ)
+module _ (slow : SlowSite) (f : Frame) (new : Member) (same : new.backs ≡ slow.backs)
+    (site : StandsFor (take_frame slow f) new.site) (before after : ℕ)
     (paid : after ≡ before + cost (frame_works slow f)) where
-  hears_said : (r : Result (List Reply) WorldFault) → IfOk r (λ rs. rs ≡ frame_replies slow f) → OnErr r (r ≡ Err NoMemory) → Hears slow f r before new after
+  hears_said : (r : Result (List Reply) WorldFault) → IfOk r (λ rs. rs ≡ frame_replies slow f)
+      → OnErr r (r ≡ Err NoMemory) → Hears slow f r before new after
   hears_said (Ok replies) is none = (is, record { site = site; backs_are = same ∙ sym (backs_take_frame slow f) }, paid)
   hears_said (Err NoMemory) is none = pays_all (frame_works slow f) paid
   hears_said (Err NoSite) is none = let e = none in cc

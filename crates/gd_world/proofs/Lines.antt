@@ -1,5 +1,6 @@
 -- What a line at a site answers, costs and leaves in a world that stands for one that steps lead to.
-use Rattle.std.proofs.Common.{◌≡◌, ℕ, ◌+◌, ◌-◌, true, false, cond, List, [], length, set, get_or, None, Some, sym, ap, ◌∙◌, subst, arith}
+use Rattle.std.proofs.Common.{◌≡◌, ℕ, ◌+◌, ◌-◌, true, false, cond, List, [], length, set, get_or, None, Some, sym, ap}
+use Rattle.std.proofs.Common.{◌∙◌, subst, arith}
 use Rattle.std.specs.List.{filter}
 use Rattle.std.specs.Prelude.{Result, Ok, Err, OnOk}
 use Rattle.std.specs.Result.{is_err}
@@ -40,7 +41,8 @@ line_ranged command.End h = tt
 line_ranged command.Poll h = tt
 line_ranged command.Quit h = tt
 
-module _ (w : World) (v now : WorldValue) (view : v ≡ now) (st : StandsFor w v) (site : ℕ) (inside : is_site (length now.members) site ≡ true) (asked : Command) (ranged : IsCommand asked) where
+module _ (w : World) (v now : WorldValue) (view : v ≡ now) (st : StandsFor w v) (site : ℕ)
+    (inside : is_site (length now.members) site ≡ true) (asked : Command) (ranged : IsCommand asked) where
   place_in : is_site (length v.members) site ≡ true
   place_in = subst (λ (x : WorldValue). is_site (length x.members) site ≡ true) (sym view) inside
 
@@ -54,35 +56,47 @@ module _ (w : World) (v now : WorldValue) (view : v ≡ now) (st : StandsFor w v
   works : script_work w (Ok (script.At site asked)) ≡ work_of (w.at site) asked
   works = λ i. filter is_work (cond (within i) (of_command (w.at site) [] (Ok asked)) [])
 
-  module _ (place : ℕ) (same : place ≡ site) (member : Member) (read : member ≡ get_or v.members (place - 1) member) where
-    pub asked_stands : StandsWith (w.at site) member.site member.backs
-    asked_stands = member_of w v st site member within (member_read v.members site place member place_in same read)
+  module _ (place : ℕ) (same : place ≡ site) (member : Member) (read : member ≡ get_or v.members (place - 1) member)
+    where
+      pub asked_stands : StandsWith (w.at site) member.site member.backs
+      asked_stands = member_of w v st site member within (member_read v.members site place member place_in same read)
 
-    module _ (new : Member) where
-      abbrev pub left : WorldValue
-      left = record { members = set v.members (place - 1) new; mail = v.mail }
+      module _ (new : Member) where
+        abbrev pub left : WorldValue
+        left = record { members = set v.members (place - 1) new; mail = v.mail }
 
-      told_stands : StandsWith (after_line (w.at site) (told_by asked)) new.site new.backs → StandsFor (happens w (At site (told_by asked))) left
-      told_stands stands =
-          let back : site ≡ place - 1 + 1 = omega (arith, same, is_site-bounds w.sites site within) in
-          changed w v st (At site (told_by asked)) (line_ranged asked ranged) (place - 1) (after_line (w.at site) (told_by asked)) new stands
-          (goes ∙ ap (λ (t : ℕ). with_site w t (after_line (w.at site) (told_by asked))) back)
+        told_stands : StandsWith (after_line (w.at site) (told_by asked)) new.site new.backs
+            → StandsFor (happens w (At site (told_by asked))) left
+        told_stands stands =
+            let back : site ≡ place - 1 + 1 = omega (arith, same, is_site-bounds w.sites site within) in
+            changed w v st (At site (told_by asked)) (line_ranged asked ranged) (place - 1)
+            (after_line (w.at site) (told_by asked)) new stands
+            (goes ∙ ap (λ (t : ℕ). with_site w t (after_line (w.at site) (told_by asked))) back)
 
-      pub line_comes : (result : Result (List Reply) WorldFault) (before after : ℕ) → Tells (w.at site) asked result before new after → (value : WorldValue) → OnOk result (value ≡ left)
-          → Comes (happens w (At site (told_by asked))) (script_work w (Ok (script.At site asked))) result now before value after
-      line_comes (Ok replies) before after told value is =
-          (subst (StandsFor (happens w (At site (told_by asked)))) (sym is) (told_stands told.1), told.2 ∙ ap (λ (xs : List Effect). before + cost xs) (sym works))
-      line_comes (Err NoMemory) before after told value is = subst (λ (xs : List Effect). PaysFront before xs after) (sym works) told
-      line_comes (Err NoSite) before after told value is = absurd told
-      line_comes (Err NoMail) before after told value is = absurd told
+        pub line_comes : (result : Result (List Reply) WorldFault) (before after : ℕ)
+            → Tells (w.at site) asked result before new after → (value : WorldValue) → OnOk result (value ≡ left)
+            → Comes (happens w (At site (told_by asked))) (script_work w (Ok (script.At site asked))) result now before
+            value after
+        line_comes (Ok replies) before after told value is = (
+          subst (StandsFor (happens w (At site (told_by asked)))) (sym is) (told_stands told.1),
+          told.2
+              ∙ ap (λ (xs : List Effect). before + cost xs) (sym works),
+        )
+        line_comes (Err NoMemory) before after told value is
+            = subst (λ (xs : List Effect). PaysFront before xs after) (sym works) told
+        line_comes (Err NoSite) before after told value is = absurd told
+        line_comes (Err NoMail) before after told value is = absurd told
 
-      pub line_is : (result : Result (List Reply) WorldFault) (before after : ℕ) → Tells (w.at site) asked result before new after → LineIs w site asked result
-      line_is (Ok replies) before after told = (within, told.0)
-      line_is (Err NoMemory) before after told = within
-      line_is (Err NoSite) before after told = absurd told
-      line_is (Err NoMail) before after told = absurd told
+        pub line_is : (result : Result (List Reply) WorldFault) (before after : ℕ)
+            → Tells (w.at site) asked result before new after → LineIs w site asked result
+        line_is (Ok replies) before after told = (within, told.0)
+        line_is (Err NoMemory) before after told = within
+        line_is (Err NoSite) before after told = absurd told
+        line_is (Err NoMail) before after told = absurd told
 
-      -- a call that went through leaves a world that stands for one
-      pub line_kept : (result : Result (List Reply) WorldFault) (before after : ℕ) → Tells (w.at site) asked result before new after → is_err result ≡ false → HasWorld left
-      line_kept (Ok replies) before after told e = record { world = happens w (At site (told_by asked)); stands = told_stands told.1 }
-      line_kept (Err fault) before after told e = cc
+        -- a call that went through leaves a world that stands for one
+        pub line_kept : (result : Result (List Reply) WorldFault) (before after : ℕ)
+            → Tells (w.at site) asked result before new after → is_err result ≡ false → HasWorld left
+        line_kept (Ok replies) before after told e
+            = record { world = happens w (At site (told_by asked)); stands = told_stands told.1 }
+        line_kept (Err fault) before after told e = cc

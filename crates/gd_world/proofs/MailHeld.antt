@@ -12,4 +12,5 @@ none_got false k f e = cc
 pub has_mail : (v : WorldValue) (number : ℕ) (f : Frame) → IsGot v.mail number f → IsKept v → HasWorld v
 has_mail v number f got (inl has) = has
 has_mail v number f got (inr spent) =
-    absurd (none_got (nat_eq number 0) (number - 1) f (got ∙ ap (λ (mails : List Frame). if nat_eq number 0 then None else slice_get mails (number - 1)) spent.mail))
+    absurd (none_got (nat_eq number 0) (number - 1) f
+    (got ∙ ap (λ (mails : List Frame). if nat_eq number 0 then None else slice_get mails (number - 1)) spent.mail))

@@ -1,4 +1,5 @@
--- Effects on the output alone and in steps: what was done beside a journal and a link that tell nothing was done beside any.
+-- Effects on the output alone and in steps: what was done beside a journal and a link that tell nothing was done beside
+-- any.
 use Rattle.std.proofs.Common.{◌≡◌, ℕ, List, [], ◌∷◌, ◌++◌, refl, sym, subst, arith}
 use Rattle.std.specs.List.{AllByRecursion}
 use Rattle.std.specs.Prelude.{IsSome}
@@ -13,7 +14,9 @@ use Rattle.gd_outside.proofs.ToldLemmas.{grows_nothing}
 use Rattle.gd_outside.specs.Seen.{SeenSource, SeenSink, SeenJournal, SeenLink, Tried}
 use Rattle.gd_outside.specs.Told.{told, Grows}
 use Rattle.gd_outside.specs.declared.status.Status.{Status}
-use Rattle.gd_outside.specs.declared.status.Status.TheVariants.{Done, Usage, BadLog, ReadFault, WriteFault, JournalFault, LinkFault, NoMemory, LineLimit, OtherJournal, BadView}
+use Rattle.gd_outside.specs.declared.status.Status.TheVariants.{Done, Usage, BadLog, ReadFault, WriteFault}
+use Rattle.gd_outside.specs.declared.status.Status.TheVariants.{JournalFault, LinkFault, NoMemory, LineLimit}
+use Rattle.gd_outside.specs.declared.status.Status.TheVariants.{OtherJournal, BadView}
 
 -- a line that is printed, or steps
 abbrev pub IsShown : Effect → Type 0
@@ -61,12 +64,15 @@ module _ (was_input input : SeenSource) (old new : SeenSink) (before after : ℕ
     did_beside : (xs : List Effect) → AreShown xs → Did idle_before xs idle_after → Did any_before xs any_after
     did_beside xs shown h = record {
       output = h.output;
-      journal = journals_stay journal xs (sym (shown-journal (told journal.contents) xs shown)) (sym (shown-gestures xs shown));
-      tried = subst (λ (frames : List Tried). Grows link.tried frames link.tried) (sym (shown-tried xs shown)) (grows_nothing link.tried);
+      journal = journals_stay journal xs (sym (shown-journal (told journal.contents) xs shown))
+          (sym (shown-gestures xs shown));
+      tried = subst (λ (frames : List Tried). Grows link.tried frames link.tried) (sym (shown-tried xs shown))
+          (grows_nothing link.tried);
       steps = h.steps;
     }
 
-    front_beside : (xs : List Effect) → AreShown xs → DidFront idle_before xs idle_after → DidFront any_before xs any_after
+    front_beside : (xs : List Effect) → AreShown xs → DidFront idle_before xs idle_after
+        → DidFront any_before xs any_after
     front_beside xs shown h = record {
       front = h.front;
       back = h.back;
@@ -74,7 +80,8 @@ module _ (was_input input : SeenSource) (old new : SeenSink) (before after : ℕ
       did = did_beside h.front (Every-prefix IsShown h.front h.back (subst AreShown h.split shown)) h.did;
     }
 
-    half_beside : (xs : List Effect) → AreShown xs → DidHalfPrint idle_before xs idle_after → DidHalfPrint any_before xs any_after
+    half_beside : (xs : List Effect) → AreShown xs → DidHalfPrint idle_before xs idle_after
+        → DidHalfPrint any_before xs any_after
     half_beside xs shown h =
         let front = Every-prefix IsShown h.front (Print (h.half ++ h.rest) ∷ h.back) (subst AreShown h.split shown) in
         record {
@@ -83,14 +90,18 @@ module _ (was_input input : SeenSource) (old new : SeenSink) (before after : ℕ
           rest = h.rest;
           back = h.back;
           split = h.split;
-          did = did_beside (h.front ++ Print h.half ∷ []) (Every-append IsShown h.front (Print h.half ∷ []) front (tt, tt)) h.did;
+          did = did_beside (h.front ++ Print h.half ∷ [])
+              (Every-append IsShown h.front (Print h.half ∷ []) front (tt, tt)) h.did;
         }
 
-    module _ (xs : List Effect) (cut : List ℕ → List Effect) (shown : AreShown xs) (shown_cut : (taken : List ℕ) → AreShown (cut taken)) (whole : Status) where
+    module _ (xs : List Effect) (cut : List ℕ → List Effect) (shown : AreShown xs)
+        (shown_cut : (taken : List ℕ) → AreShown (cut taken)) (whole : Status) where
       read_beside : DidRead idle_before cut idle_after → DidRead any_before cut any_after
-      read_beside h = record { taken = h.taken; handed = h.handed; did = did_beside (cut h.taken) (shown_cut h.taken) h.did }
+      read_beside h = record
+          { taken = h.taken; handed = h.handed; did = did_beside (cut h.taken) (shown_cut h.taken) h.did }
 
-      leaves_beside : (s : Status) → Causes s idle_before idle_after → Leaves xs cut whole s idle_before idle_after → Leaves xs cut whole s any_before any_after
+      leaves_beside : (s : Status) → Causes s idle_before idle_after → Leaves xs cut whole s idle_before idle_after
+          → Leaves xs cut whole s any_before any_after
       leaves_beside NoMemory c h = front_beside xs shown h
       leaves_beside ReadFault c h = (front_beside xs shown h.0, read_beside h.1)
       leaves_beside WriteFault c h = half_beside xs shown h
@@ -114,7 +125,8 @@ module _ (was_input input : SeenSource) (old new : SeenSink) (before after : ℕ
       opened_beside LinkFault c = absurd (omega (arith, c))
       opened_beside other c = tt
 
-      pub ends_beside : (s : Status) → EndsAs (IsTold idle_after) xs cut whole s idle_before idle_after → EndsAs (IsSome input.left) xs cut whole s any_before any_after
+      pub ends_beside : (s : Status) → EndsAs (IsTold idle_after) xs cut whole s idle_before idle_after
+          → EndsAs (IsSome input.left) xs cut whole s any_before any_after
       ends_beside s h = record {
         counts = record { input = h.counts.input; output = h.counts.output; journal = omega arith; link = omega arith };
         cause = causes_beside s h.cause;

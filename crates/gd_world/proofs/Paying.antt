@@ -1,5 +1,6 @@
 -- The steps that were taken where memory ran out.
-use Rattle.std.proofs.Common.{◌≡◌, ℕ, zero, suc, ◌+◌, ◌-◌, ◌≤◌, List, [], ◌∷◌, length, map, refl, sym, ap, ◌∙◌, append-nil, arith}
+use Rattle.std.proofs.Common.{◌≡◌, ℕ, zero, suc, ◌+◌, ◌-◌, ◌≤◌, List, [], ◌∷◌, length, map, refl, sym, ap, ◌∙◌}
+use Rattle.std.proofs.Common.{append-nil, arith}
 use Rattle.std.proofs.lemmas.List.Sums.{sum_by-cons}
 use Rattle.gd_answers.specs.Paying.{PaysFront}
 use Rattle.gd_effects.specs.Effects.{Effect, Work, cost, works}
@@ -35,8 +36,12 @@ some_ones before (suc k) (e ∷ es) few =
     }
 
 -- a part of them
-pub pays_ones : (before after : ℕ) (es : List Event) → before ≤ after → after ≤ before + length es → PaysFront before (map (λ e. Work 1) es) after
-pays_ones before after es later few = some_as (before + (after - before)) (omega (arith, later)) (some_ones before (after - before) es (omega (arith, later, few)))
+pub pays_ones : (before after : ℕ) (es : List Event) → before ≤ after → after ≤ before + length es
+    → PaysFront before (map (λ e. Work 1) es) after
+pays_ones before after es later few
+    = some_as (before + (after - before)) (omega (arith, later))
+    (some_ones before (after - before) es (omega (arith, later, few)))
   where
-    some_as : (steps : ℕ) → steps ≡ after → PaysFront before (map (λ e. Work 1) es) steps → PaysFront before (map (λ e. Work 1) es) after
+    some_as : (steps : ℕ) → steps ≡ after → PaysFront before (map (λ e. Work 1) es) steps
+        → PaysFront before (map (λ e. Work 1) es) after
     some_as steps same h = record { front = h.front; back = h.back; split = h.split; paid = sym same ∙ h.paid }

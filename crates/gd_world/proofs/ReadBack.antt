@@ -16,10 +16,12 @@ one_frame read f g e h = let same = sym e ∙ h in cc
 no_fault : (read : Result Frame Misread) (m : Misread) (g : Frame) → read ≡ Err m → read ≡ Ok g → ⊥
 no_fault read m g e h = let none = sym e ∙ h in cc
 
-module _ (slow : SlowSite) (site : SiteValue) (st : StandsFor slow site) (to : ℕ) (other : IsOther site.peers to) (bytes : List ℕ) (spelled : bytes ≡ frame_bytes (frame_for slow to)) where
+module _ (slow : SlowSite) (site : SiteValue) (st : StandsFor slow site) (to : ℕ) (other : IsOther site.peers to)
+    (bytes : List ℕ) (spelled : bytes ≡ frame_bytes (frame_for slow to)) where
   read_back : frame bytes ≡ Ok (frame_for slow to)
   read_back =
-      let inside : is_site slow.sites to ≡ true = is_site-within slow.sites to other.from (subst (λ (n : ℕ). to ≤ n) st.sites other.to) in
+      let inside : is_site slow.sites to
+      ≡ true = is_site-within slow.sites to other.from (subst (λ (n : ℕ). to ≤ n) st.sites other.to) in
       ap frame spelled ∙ frame-written (frame_for slow to) (well_frame slow to inside st.well)
 
   pub reads_it : (f : Frame) → frame bytes ≡ Ok f → f ≡ frame_for slow to

@@ -6,7 +6,8 @@ use Rattle.gd_base.proofs.SiteLemmas.{is_site-bounds}
 use Rattle.gd_base.specs.Sites.{is_site}
 use Rattle.gd_world.specs.Standing.{HasWorld, IsKept, WorldValue}
 
-pub has_site : (v now : WorldValue) → v ≡ now → (site : ℕ) → is_site (length now.members) site ≡ true → IsKept v → HasWorld v
+pub has_site : (v now : WorldValue) → v ≡ now → (site : ℕ) → is_site (length now.members) site ≡ true → IsKept v
+    → HasWorld v
 has_site v now view site inside (inl h) = h
 has_site v now view site inside (inr spent) =
     let bounds = is_site-bounds (length now.members) site inside in

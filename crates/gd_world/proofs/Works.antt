@@ -1,5 +1,6 @@
 -- The steps among effects: what is recorded, printed or tried takes none.
-use Rattle.std.proofs.Common.{◌≡◌, ℕ, zero, suc, ◌+◌, ◌==◌, nat_lt, Bool, true, false, cond, List, [], ◌∷◌, ◌++◌, length, map, refl, ◌∙◌, ap, append-nil}
+use Rattle.std.proofs.Common.{◌≡◌, ℕ, zero, suc, ◌+◌, ◌==◌, nat_lt, Bool, true, false, cond, List, [], ◌∷◌, ◌++◌}
+use Rattle.std.proofs.Common.{length, map, refl, ◌∙◌, ap, append-nil}
 use Rattle.std.proofs.lemmas.List.Elements.{filter-append}
 use Rattle.std.specs.List.{filter}
 use Rattle.gd_answers.specs.Paying.{frame_works, works_by}
@@ -14,7 +15,9 @@ use Rattle.gd_model.specs.Arrivals.{cost_of}
 use Rattle.gd_reference.specs.NodeRun.{of_received, received, senders}
 use Rattle.gd_reference.specs.Offers.{arrived, brought, frame_for, offer, verdict, window}
 use Rattle.gd_reference.specs.Said.{all_said}
-use Rattle.gd_reference.specs.SiteEffects.{events_replies, is_among, of_frame, of_own, of_verdict, recording, taken, taken_as, tries, tries_behind, tries_for, tries_of, tries_with, try_for, try_with, verdict_replies, works_of}
+use Rattle.gd_reference.specs.SiteEffects.{events_replies, is_among, of_frame, of_own, of_verdict, recording, taken}
+use Rattle.gd_reference.specs.SiteEffects.{taken_as, tries, tries_behind, tries_for, tries_of, tries_with, try_for}
+use Rattle.gd_reference.specs.SiteEffects.{try_with, verdict_replies, works_of}
 use Rattle.gd_reference.specs.SlowSite.{SlowSite, own}
 use Rattle.gd_reference.specs.TakeBack.{with_events}
 use Rattle.gd_world.specs.Telling.{work_of}
@@ -47,10 +50,12 @@ none_with slow new to = by (nat_lt (length (own slow)) (brought slow to + new))
     by true = none_for slow to
     by false = refl
 
-none_behind : (try : ℕ → List Effect) → ((to : ℕ) → filter is_work (try to) ≡ []) → (site k : ℕ) → filter is_work (tries_behind try site k) ≡ []
+none_behind : (try : ℕ → List Effect) → ((to : ℕ) → filter is_work (try to) ≡ []) → (site k : ℕ)
+    → filter is_work (tries_behind try site k) ≡ []
 unfolding tries_behind
 none_behind try none site zero = refl
-none_behind try none site (suc k) = none_both (try (site + 1)) (tries_behind try (site + 1) k) (none (site + 1)) (none_behind try none (site + 1) k)
+none_behind try none site (suc k)
+    = none_both (try (site + 1)) (tries_behind try (site + 1) k) (none (site + 1)) (none_behind try none (site + 1) k)
 
 none_of : (to : ℕ) (frames : List Frame) → filter is_work (tries_of to frames) ≡ []
 none_of to [] = refl
@@ -80,7 +85,8 @@ none_polled slow = none_both (tries slow []) _ (none_tried slow []) refl
 -- ---- what takes steps
 
 -- behind them what takes none
-works_then : (xs ys works : List Effect) → filter is_work xs ≡ works → filter is_work ys ≡ [] → filter is_work (xs ++ ys) ≡ works
+works_then : (xs ys works : List Effect) → filter is_work xs ≡ works → filter is_work ys ≡ []
+    → filter is_work (xs ++ ys) ≡ works
 works_then xs ys works all none = filter-append is_work xs ys ∙ (λ i. all i ++ none i) ∙ append-nil works
 
 all_works : (ns : Event → ℕ) (es : List Event) → filter is_work (map (λ e. Work (ns e)) es) ≡ map (λ e. Work (ns e)) es
@@ -88,7 +94,8 @@ all_works ns [] = refl
 all_works ns (e ∷ es) = ap (λ (xs : List Effect). Work (ns e) ∷ xs) (all_works ns es)
 
 -- own events take one step each
-pub own_works : (slow : SlowSite) (es : List Event) (replies : List Reply) → filter is_work (of_own slow es replies) ≡ map (λ e. Work 1) es
+pub own_works : (slow : SlowSite) (es : List Event) (replies : List Reply)
+    → filter is_work (of_own slow es replies) ≡ map (λ e. Work 1) es
 own_works slow es replies =
     let ones = map (λ e. Work 1) es in
     let records = recording slow es in
@@ -101,7 +108,8 @@ events_works : (slow : SlowSite) (es : List Event) → filter is_work (works_of 
 unfolding works_of
 events_works slow [] = refl
 events_works slow (e ∷ es) =
-    filter-append is_work (map (λ e. Work (cost_of slow.held e)) (taken_as (offer slow e) e)) (works_of (arrived slow e) es)
+    filter-append is_work (map (λ e. Work (cost_of slow.held e)) (taken_as (offer slow e) e))
+    (works_of (arrived slow e) es)
     ∙ (λ i. all_works (λ e. cost_of slow.held e) (taken_as (offer slow e) e) i ++ events_works (arrived slow e) es i)
 
 -- those of a frame

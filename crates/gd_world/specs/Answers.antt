@@ -28,7 +28,8 @@ SendIs w from to (Err NoMemory) = may_send w from to ≡ true
 
 -- a delivery: what the receiver says of the mail, where there is such a mail
 abbrev pub DeliverIs : World → ℕ → Result (List Reply) WorldFault → Type 0
-DeliverIs w number (Ok replies) = (f : Frame) × (mail_of w number ≡ Some f) × (replies ≡ frame_replies (w.at f.head.to) f)
+DeliverIs w number (Ok replies) = (f : Frame) × (mail_of w number ≡ Some f)
+    × (replies ≡ frame_replies (w.at f.head.to) f)
 DeliverIs w number (Err NoSite) = ⊥
 DeliverIs w number (Err NoMail) = mail_of w number ≡ None
 DeliverIs w number (Err NoMemory) = IsSome (mail_of w number)

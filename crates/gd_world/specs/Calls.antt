@@ -14,8 +14,8 @@ use Rattle.gd_world.specs.declared.fault.WorldFault.{WorldFault}
 use Rattle.gd_world.specs.declared.fault.WorldFault.TheVariants.{NoSite, NoMail, NoMemory}
 use Rattle.gd_worlds.specs.Rehearsal.{after_script, script_replies, script_work}
 
--- All of them where the call goes through; and then the world stands for `then`. A refusal changes nothing, and takes no
--- steps. Where memory ran out, a part of the steps were taken, and of the world no more is said.
+-- All of them where the call goes through; and then the world stands for `then`. A refusal changes nothing, and takes
+-- no steps. Where memory ran out, a part of the steps were taken, and of the world no more is said.
 abbrev pub Comes : {T : Type 0} → World → List Effect → Result T WorldFault → WorldValue → ℕ → WorldValue → ℕ → Type 0
 Comes then xs (Ok value) old before new after = StandsFor then new × (after ≡ before + cost xs)
 Comes then xs (Err NoMemory) old before new after = PaysFront before xs after
@@ -28,7 +28,8 @@ abbrev pub IsScript : ScriptLine → Type 0
 IsScript (script.At site asked) = IsCommand asked
 IsScript other = Unit {0}
 
--- A line is answered with what is said of it. Where memory ran out, a part of the steps were taken; there is no other fault.
+-- A line is answered with what is said of it. Where memory ran out, a part of the steps were taken; there is no other
+-- fault.
 abbrev pub Answers : World → ScriptLine → Result (List Reply) WorldFault → ℕ → WorldValue → ℕ → Type 0
 Answers w line (Ok replies) before new after =
     (replies ≡ script_replies w (Ok line))

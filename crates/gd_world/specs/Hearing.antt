@@ -12,8 +12,8 @@ use Rattle.gd_world.specs.declared.fault.WorldFault.{WorldFault}
 use Rattle.gd_world.specs.declared.fault.WorldFault.TheVariants.{NoMemory}
 use Rattle.gd_world.specs.declared.member.Member.{Member}
 
--- The member says what the reference site says, and stands for the one that it leads to. Where memory ran out a part of the
--- steps were taken; there is no other fault.
+-- The member says what the reference site says, and stands for the one that it leads to. Where memory ran out a part of
+-- the steps were taken; there is no other fault.
 abbrev pub Hears : SlowSite → Frame → Result (List Reply) WorldFault → ℕ → Member → ℕ → Type 0
 Hears slow f (Ok replies) before new after =
     (replies ≡ frame_replies slow f)

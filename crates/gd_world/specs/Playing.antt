@@ -9,8 +9,8 @@ use Rattle.gd_world.specs.Counted.{AreFew}
 use Rattle.gd_world.specs.Standing.{StandsFor}
 use Rattle.gd_world.specs.declared.churning.playing.Churning.{Churning as Played}
 
--- It stands for a churn in which no more than so many lines were played, and idle steps made, and whose work was paid in
--- steps. A line says at most 68 things, of 67 events and of the mail that brings them, and sends at most one mail.
+-- It stands for a churn in which no more than so many lines were played, and idle steps made, and whose work was paid
+-- in steps. A line says at most 68 things, of 67 events and of the mail that brings them, and sends at most one mail.
 pub record Follows (lines : ℕ) (c : Churning) (before : ℕ) (v : Played) (steps : ℕ) : Type 0 where
   pub world : StandsFor c.world v.world
   pub sites : c.world.sites ≡ 4
@@ -24,7 +24,8 @@ pub record Follows (lines : ℕ) (c : Churning) (before : ℕ) (v : Played) (ste
 
 -- it has come so far that so many lines more can be played
 abbrev pub IsReady : ℕ → Played → ℕ → Type 0
-IsReady more v steps = (lines : ℕ) × (c : Churning) × (before : ℕ) × Follows lines c before v steps × (lines + more ≤ 300000)
+IsReady more v steps = (lines : ℕ) × (c : Churning) × (before : ℕ) × Follows lines c before v steps
+    × (lines + more ≤ 300000)
 
 -- a call brought it there; or memory ran out, and of all the work a part was paid
 abbrev pub Gets : {T : Type 0} → ℕ → Churning → ℕ → Result T AllocError → Played → ℕ → Type 0

@@ -12,15 +12,16 @@ pub record WorldValue : Type 0 where
   pub members : List Member
   pub mail : List Frame
 
--- It stands for a world that some steps lead to, all of them in their ranges: each site for that world's, and the mail is the
--- same.
+-- It stands for a world that some steps lead to, all of them in their ranges: each site for that world's, and the mail
+-- is the same.
 pub record StandsFor (w : World) (v : WorldValue) : Type 0 where
   pub session : IsSession w.sites w.session
   pub steps : List Step
   pub ranged : AllByRecursion IsStep steps
   pub reached : w ≡ after w.sites w.session steps
   pub members : length v.members ≡ w.sites
-  pub each : (k : ℕ) (member : Member) → slice_get v.members k ≡ Some member → StandsWith (w.at (k + 1)) member.site member.backs
+  pub each : (k : ℕ) (member : Member) → slice_get v.members k ≡ Some member
+      → StandsWith (w.at (k + 1)) member.site member.backs
   pub mail : v.mail ≡ w.mail
 
 -- there is a world that it stands for
@@ -40,4 +41,5 @@ IsKept v = HasWorld v ⊎ IsSpent v
 -- the sites of a new world
 pub record AreNew (n session : ℕ) (members : List Member) : Type 0 where
   pub count : length members ≡ n
-  pub each : (k : ℕ) (member : Member) → slice_get members k ≡ Some member → StandsWith (new_site (k + 1) n session) member.site member.backs
+  pub each : (k : ℕ) (member : Member) → slice_get members k ≡ Some member
+      → StandsWith (new_site (k + 1) n session) member.site member.backs

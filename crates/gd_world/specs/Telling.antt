@@ -18,8 +18,8 @@ use Rattle.gd_worlds.specs.Rehearsal.{is_work, told_by}
 abbrev pub work_of : SlowSite → Command → List Effect
 work_of slow asked = filter is_work (of_command slow [] (Ok asked))
 
--- The member says what the reference site says, and stands for the one that it leads to. Where memory ran out a part of the
--- steps were taken; there is no other fault.
+-- The member says what the reference site says, and stands for the one that it leads to. Where memory ran out a part of
+-- the steps were taken; there is no other fault.
 abbrev pub Tells : SlowSite → Command → Result (List Reply) WorldFault → ℕ → Member → ℕ → Type 0
 Tells slow asked (Ok replies) before new after =
     (replies ≡ command_replies slow asked)

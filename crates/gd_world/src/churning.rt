@@ -30,8 +30,8 @@ use std::alloc::{AllocError, Global};
 use std::sync::ledger::Ledger;
 
 /// Plays a session of four sites by so many steps, at most `CHURN_STEPS`, which are drawn from the seed, then by rounds
-/// in which each site sends to each other one, until every site holds every event, and by one more round; and prints how that
-/// went. No input is read.
+/// in which each site sends to each other one, until every site holds every event, and by one more round; and prints
+/// how that went. No input is read.
 ///
 /// `NoMemory` where memory ran out, and then nothing was printed; `WriteFault` where a write failed.
 pub fn churn<K: Sink, L: Ledger>(

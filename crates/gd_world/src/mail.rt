@@ -1,6 +1,7 @@
 //! All frames that were ever sent.
 
-ghost use Rattle.std.specs.Prelude.{◌≡◌, ◌++◌, ◌∷◌, [], ◌-◌, None, OnErr, OnOk, length, option_copied, slice_get, nat_eq, if◌then◌else◌};
+ghost use Rattle.std.specs.Prelude.{◌≡◌, ◌++◌, ◌∷◌, [], ◌-◌, None, OnErr, OnOk, length, option_copied, slice_get};
+ghost use Rattle.std.specs.Prelude.{nat_eq, if◌then◌else◌};
 
 use gd_wire::Frame;
 use std::alloc::{AllocError, Global};

@@ -39,7 +39,8 @@ impl Journal for Nowhere {
 
 /// It has no entries.
 impl Link for Nowhere {
-    ghost seen = { λ n. record { entries = Some []; tried = None; addresses = None; me = None; faults = 0 } };
+    ghost seen = { λ n. record
+        { entries = Some []; tried = None; addresses = None; me = None; faults = 0 } };
 
     fn open(&mut self, _addresses: &WordList, _me: u8) -> Result<(), Failed> {
         Ok(())

@@ -33,11 +33,11 @@ const SESSION: u32 = 1;
 /// The most lines of an input.
 const LINES: u32 = 100_000;
 
-/// Plays a session of so many new sites, 1 to 16, as the lines of the input say, up to `quit` or the end, or to a line that
-/// is too long or one too many.
+/// Plays a session of so many new sites, 1 to 16, as the lines of the input say, up to `quit` or the end, or to a line
+/// that is too long or one too many.
 ///
-/// `NoMemory` where memory ran out, `ReadFault` and `WriteFault` where a call on that object failed; then what was done before
-/// stays.
+/// `NoMemory` where memory ran out, `ReadFault` and `WriteFault` where a call on that object failed; then what was done
+/// before stays.
 pub fn rehearse<S: Source, K: Sink, L: Ledger>(
     alloc: Global,
     sites: u8,

@@ -15,7 +15,8 @@ use std::sync::ledger::Ledger;
 impl World {
     ghost use Rattle.gd_world.specs.Standing.{StandsFor};
 
-    /// Answers a line: with what is said of it, a refusal too. `NoMemory` where memory ran out; there is no other fault.
+    /// Answers a line: with what is said of it, a refusal too. `NoMemory` where memory ran out; there is no other
+    /// fault.
     pub(crate) fn answer_line<L: Ledger>(
         &mut self,
         line: &ScriptLine,

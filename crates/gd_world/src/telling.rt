@@ -113,8 +113,8 @@ fn show(alloc: Global, site: &Site) -> Result<Replies, WorldFault>
     Ok(replies)
 }
 
-/// Of each site its note, where it has made one, and at which count this one has parted from it, if it has; and how many
-/// replies these are.
+/// Of each site its note, where it has made one, and at which count this one has parted from it, if it has; and how
+/// many replies these are.
 fn who(alloc: Global, site: &Site) -> Result<Replies, WorldFault>
     ensures ok { (slow : SlowSite) → StandsFor slow site.now
         → IfOk result (λ replies. replies ≡ command_replies slow command.Who) }

@@ -31,9 +31,9 @@ use std::alloc::{AllocError, Global};
 use std::marker::Model;
 use std::sync::ledger::Ledger;
 
-/// The sites of a session, and all mail that was ever sent between them: no mail is taken away, so it comes late, twice, or
-/// never. There is a world of reference sites for which it stands, and to which some steps lead; once memory ran out in a call
-/// it has neither sites nor mail.
+/// The sites of a session, and all mail that was ever sent between them: no mail is taken away, so it comes late,
+/// twice, or never. There is a world of reference sites for which it stands, and to which some steps lead; once memory
+/// ran out in a call it has neither sites nor mail.
 #[derive(Drop)]
 pub struct World {
     pub(crate) members: Vec<Member>,
@@ -66,8 +66,8 @@ impl World {
         })
     }
 
-    /// Asks a site for what a line says, and returns what the site says. A poll says nothing here, and takes nothing: a world
-    /// has mail, and no link.
+    /// Asks a site for what a line says, and returns what the site says. A poll says nothing here, and takes nothing: a
+    /// world has mail, and no link.
     ///
     /// `NoSite` where there is no such site; then nothing has changed. `NoMemory` where memory ran out.
     pub fn line<L: Ledger>(
@@ -98,7 +98,8 @@ impl World {
 
     /// Makes the frame of a site for another one the next mail, and returns its number, from 1.
     ///
-    /// `NoSite` where there is no such site, or both are one; then nothing has changed. `NoMemory` where memory ran out.
+    /// `NoSite` where there is no such site, or both are one; then nothing has changed. `NoMemory` where memory ran
+    /// out.
     pub fn send(&mut self, from: u8, to: u8) -> Result<u32, WorldFault>
         ensures answer { (w : SlowWorld) → StandsFor w self.old → SendIs w from to result }
         ensures comes { (w : SlowWorld) → StandsFor w self.old → (steps : ℕ) →
@@ -118,7 +119,8 @@ impl World {
         Ok(number)
     }
 
-    /// Hands the mail of that number to its receiver, and returns what that one says. Any mail can come any number of times.
+    /// Hands the mail of that number to its receiver, and returns what that one says. Any mail can come any number of
+    /// times.
     ///
     /// `NoMail` where there is no such mail; then nothing has changed. `NoMemory` where memory ran out.
     pub fn deliver<L: Ledger>(

@@ -1,17 +1,19 @@
 -- The reference run of churn: a long session of four sites, played from a number.
 --
--- Churn is a rehearsal whose lines are drawn, and of which only numbers are printed, at its end. Each draw is the next word of
--- 32 bits that the generator PCG32 (XSH RR) gives from the seed, modulo how many values there are. A step draws a site, and
--- then a number below 22 that says what is done: the site makes an object or changes one, it takes an edit back or does one
--- again, it sends a frame, or some mail is delivered (`line_for`). What is changed is one of the objects that were made in the
--- session so far, shown or not, in the order in which they were made. Where none was made yet the step is idle, and draws no
--- more; so it is where there is no mail to deliver.
+-- Churn is a rehearsal whose lines are drawn, and of which only numbers are printed, at its end. Each draw is the next
+-- word of 32 bits that the generator PCG32 (XSH RR) gives from the seed, modulo how many values there are. A step draws
+-- a site, and then a number below 22 that says what is done: the site makes an object or changes one, it takes an edit
+-- back or does one again, it sends a frame, or some mail is delivered (`line_for`). What is changed is one of the
+-- objects that were made in the session so far, shown or not, in the order in which they were made. Where none was made
+-- yet the step is idle, and draws no more; so it is where there is no mail to deliver.
 --
--- Behind the steps come rounds until every site holds every event, at most four and one more for each step, and then one more
--- round. In a round each site sends a frame to each other one, and that mail is delivered at once. Then seven lines say where each site stands, how often an edit, an undo or a
--- redo was accepted or refused, a mail sent or delivered, and a step idle, how the events went that were delivered, and whether
--- all sites show the same.
-use Rattle.std.specs.Prelude.{ℕ, zero, suc, pos, ◌+◌, ◌%◌, Bool, true, false, List, [], ◌∷◌, ◌++◌, length, map, fold, flat_map, Option, Some, None, Ok, slice_index_or, codes, ◌==◌, nat_lt, bytes_eq, if◌then◌else◌}
+-- Behind the steps come rounds until every site holds every event, at most four and one more for each step, and then
+-- one more round. In a round each site sends a frame to each other one, and that mail is delivered at once. Then seven
+-- lines say where each site stands, how often an edit, an undo or a redo was accepted or refused, a mail sent or
+-- delivered, and a step idle, how the events went that were delivered, and whether all sites show the same.
+use Rattle.std.specs.Prelude.{ℕ, zero, suc, pos, ◌+◌, ◌%◌, Bool, true, false, List, [], ◌∷◌, ◌++◌, length, map, fold}
+use Rattle.std.specs.Prelude.{flat_map, Option, Some, None, Ok, slice_index_or, codes, ◌==◌, nat_lt, bytes_eq}
+use Rattle.std.specs.Prelude.{if◌then◌else◌}
 use Rattle.std.specs.List.{concat, list_all}
 use Rattle.rand_core.specs.Pcg32Seed.{pcg32_seed}
 use Rattle.rand_pcg.specs.Lcg.{Lcg}
@@ -128,7 +130,8 @@ style picked = do
   colour ← below 16777216
   dash ← below 3
   opacity ← below 100
-  known (Set id (ToLooks (record no_looks { stroke = Some colour; dash = Some (dash_of dash); opacity = Some (1 + opacity) })))
+  known (Set id (ToLooks
+      (record no_looks { stroke = Some colour; dash = Some (dash_of dash); opacity = Some (1 + opacity) })))
 
 -- a label of two lines, the second one of a letter
 abbrev pub write : Draws Stamp → Draws Edit
@@ -165,7 +168,8 @@ deliver (suc mails) = do
   k ← below (suc mails)
   known (Some (script.Deliver (1 + k)))
 
--- the line of a site by a number below 22, where these ids were made and so many mails sent; none where the step is idle
+-- the line of a site by a number below 22, where these ids were made and so many mails sent; none where the step is
+-- idle
 unfoldable pub line_for : List Stamp → ℕ → ℕ → ℕ → Draws (Option ScriptLine)
 line_for made mails site number =
     if nat_lt number 4 then asks site create
@@ -278,7 +282,8 @@ stepped c =
 
 -- a send whose mail, the last one, is delivered at once
 abbrev pub passed : Churning → ℕ × ℕ → Churning
-passed c (from, to) = let sent = with_line c (script.Send from to) in with_line sent (script.Deliver (length sent.world.mail))
+passed c (from, to) = let sent = with_line c (script.Send from to)
+    in with_line sent (script.Deliver (length sent.world.mail))
 
 abbrev pub passages : List (ℕ × ℕ)
 passages =

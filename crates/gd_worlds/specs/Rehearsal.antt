@@ -1,15 +1,18 @@
--- The reference run of a rehearsal: one person plays all sites of a session, and the network between them, line by line.
+-- The reference run of a rehearsal: one person plays all sites of a session, and the network between them, line by
+-- line.
 --
--- What a site is asked for (`at S COMMAND`) it answers as any site does. But a world has neither journals nor a link: nothing
--- is recorded, and no frame is tried. Two lines are the network. `send S T` makes the frame of site S for site T the next
--- mail, and prints its number. `deliver N` hands mail N to the site that it is for, and prints what that site says of it, and
--- then the number. No mail is ever taken away, so it comes late, twice, or never, as the lines say. Lines number mail from 1.
+-- What a site is asked for (`at S COMMAND`) it answers as any site does. But a world has neither journals nor a link:
+-- nothing is recorded, and no frame is tried. Two lines are the network. `send S T` makes the frame of site S for site
+-- T the next mail, and prints its number. `deliver N` hands mail N to the site that it is for, and prints what that
+-- site says of it, and then the number. No mail is ever taken away, so it comes late, twice, or never, as the lines
+-- say. Lines number mail from 1.
 --
--- A site that isn't of the session is refused, and so is a send from a site to itself, both as NoSite; a number of no mail is
--- refused as NoMail. What is refused changes nothing. A blank line does nothing, a faulty line is printed as refused, and
--- `quit` ends the run. So does a line that is too long or one too many, which is said. What a line costs in steps is taken
--- before anything is printed of it.
-use Rattle.std.specs.Prelude.{ℕ, zero, suc, ◌+◌, Bool, true, false, not, ◌&&◌, List, [], ◌∷◌, ◌++◌, length, Option, Some, None, Result, Ok, Err, slice_get, ◌==◌, if◌then◌else◌}
+-- A site that isn't of the session is refused, and so is a send from a site to itself, both as NoSite; a number of no
+-- mail is refused as NoMail. What is refused changes nothing. A blank line does nothing, a faulty line is printed as
+-- refused, and `quit` ends the run. So does a line that is too long or one too many, which is said. What a line costs
+-- in steps is taken before anything is printed of it.
+use Rattle.std.specs.Prelude.{ℕ, zero, suc, ◌+◌, Bool, true, false, not, ◌&&◌, List, [], ◌∷◌, ◌++◌, length, Option}
+use Rattle.std.specs.Prelude.{Some, None, Result, Ok, Err, slice_get, ◌==◌, if◌then◌else◌}
 use Rattle.std.specs.List.{filter}
 use Rattle.gd_base.specs.Sites.{is_site}
 use Rattle.gd_base.specs.declared.refusal.LineFault.{LineFault}
@@ -30,7 +33,8 @@ use Rattle.gd_reference.specs.InputLines.{Heard, heard, lines_of}
 use Rattle.gd_reference.specs.NodeRun.{command_replies, of_command}
 use Rattle.gd_reference.specs.Said.{all_said}
 use Rattle.gd_reference.specs.SiteEffects.{frame_replies, of_frame}
-use Rattle.gd_reference.specs.World.{World, Line, Edits, Turns, Names, Focuses, Prints, At, Send, Deliver, happens, start}
+use Rattle.gd_reference.specs.World.{World, Line, Edits, Turns, Names, Focuses, Prints, At, Send, Deliver, happens}
+use Rattle.gd_reference.specs.World.{start}
 
 -- a line as it was read: what it asks for, or why it is no line
 abbrev pub ReadScript : Type 0

@@ -43,8 +43,8 @@ pub const COMMANDS: [(&str, Topic); 8] = [
     ("board", Topic::Board),
 ];
 
-/// What the words ask for, if it is no run: `--help`, `-h` or `help`, alone or in front of a command; `--help` or `-h` among the
-/// options of a command, and so in front of a `--`; `--version` or `-V`; and nothing else.
+/// What the words ask for, if it is no run: `--help`, `-h` or `help`, alone or in front of a command; `--help` or `-h`
+/// among the options of a command, and so in front of a `--`; `--version` or `-V`; and nothing else.
 pub fn question_of(alloc: Global, words: &WordList) -> Option<Question>
     // Words that ask for a command are no question.
     ensures { IsSome (command_of words.now) → result ≡ None }

@@ -21,7 +21,8 @@ impl Model for Frames {
 
     ghost Value = { KeptFrames };
 
-    ghost view = { λ f. record { tried = tried_for f.sites.items f.texts.texts; room = f.texts.room } };
+    ghost view = { λ f. record
+        { tried = tried_for f.sites.items f.texts.texts; room = f.texts.room } };
 
     ghost invariant = { λ f. (length f.sites.items ≡ length f.texts.texts)
         × (f.texts.room ≤ vec_capacity f.sites) };

@@ -13,8 +13,8 @@ use std::alloc::{AllocError, Global};
 use std::collections::VecDeque;
 use std::marker::Model;
 
-/// The entries of a link still to come, and, in memory that was taken at once, the addresses that it was opened with and
-/// the frames tried. Past its room it keeps no more addresses and frames.
+/// The entries of a link still to come, and, in memory that was taken at once, the addresses that it was opened with
+/// and the frames tried. Past its room it keeps no more addresses and frames.
 #[derive(Drop)]
 pub(crate) struct LinkMemory {
     entries: VecDeque<KeptEntry>,

@@ -4,7 +4,8 @@ ghost use Rattle.gd_outside.specs.declared.fail.Call.TheVariants.{Open, Send};
 ghost use Rattle.gd_outside.specs.Causes.{counted};
 ghost use Rattle.gd_outside.specs.Fails.{is_listed};
 ghost use Rattle.gd_outside.specs.Links.{FitsBuffer, IsOpen, LinkCalled, StaysOpen, Takes, Took, one_try};
-ghost use Rattle.gd_outside.specs.MemoryLinks.{faults_after, new_link, seen_link, with_addresses, with_entry, with_frame, without_entry};
+ghost use Rattle.gd_outside.specs.MemoryLinks.{faults_after, new_link, seen_link, with_addresses, with_entry};
+ghost use Rattle.gd_outside.specs.MemoryLinks.{with_frame, without_entry};
 ghost use Rattle.gd_outside.specs.Seen.{Packet, Pause, Failure};
 ghost use Rattle.gd_outside.specs.Told.{Grows, Stays};
 
@@ -16,8 +17,8 @@ use crate::words::WordList;
 use std::alloc::{AllocError, Global};
 use std::marker::Model;
 
-/// Entries in memory, memory for a number of bytes, its room, of which each address and each frame tried takes its length
-/// and one more, and the list of the opens and sends that fail. A receive fails where its entry is a failure.
+/// Entries in memory, memory for a number of bytes, its room, of which each address and each frame tried takes its
+/// length and one more, and the list of the opens and sends that fail. A receive fails where its entry is a failure.
 /// Past its room it keeps no more, and tells nothing.
 #[derive(Drop)]
 pub struct MemoryLink {

@@ -3,8 +3,8 @@ ghost use Rattle.gd_outside.specs.Journals.{put_at};
 
 use std::alloc::AllocError;
 
-/// Puts the piece at that place, over what is there, and past the end where it is longer; at the end, where the place is
-/// behind that.
+/// Puts the piece at that place, over what is there, and past the end where it is longer; at the end, where the place
+/// is behind that.
 pub(crate) fn put_over(bytes: &mut Vec<u8>, pos: u64, piece: &[u8]) -> Result<(), AllocError>
     ensures items { OnOk result (bytes.new.items ≡ put_at bytes.old.items pos piece.now) }
     ensures capacity { vec_capacity bytes.old ≤ vec_capacity bytes.new }

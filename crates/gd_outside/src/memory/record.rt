@@ -62,8 +62,8 @@ impl CallRecord {
     }
 
     /// The image of a crash after these calls in which the first k writes since the last sync that succeeded stand as
-    /// written, and the range of each later one holds the byte `fill` alone; but a byte that goes alone over another one isn't
-    /// there.
+    /// written, and the range of each later one holds the byte `fill` alone; but a byte that goes alone over another
+    /// one isn't there.
     pub(crate) fn image(&self, alloc: Global, k: u32, fill: u8) -> Result<Vec<u8>, AllocError>
         ensures image { IfOk result (λ image. image.items ≡ image_of k fill self.now.calls) }
         ensures short { length (image_of k fill self.now.calls) ≤ self.now.room }

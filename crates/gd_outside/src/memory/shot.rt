@@ -7,7 +7,8 @@ use std::alloc::{AllocError, Global};
 use std::marker::Model;
 
 /// The contents after some calls, and one image of a crash then: the first writes since the last sync that succeeded
-/// stand as written, and the ranges of the others hold one byte, but for a byte that goes alone over another one, which stays.
+/// stand as written, and the ranges of the others hold one byte, but for a byte that goes alone over another one, which
+/// stays.
 #[derive(Drop)]
 pub(crate) struct Shot {
     whole: u32,

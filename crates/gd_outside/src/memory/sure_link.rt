@@ -1,7 +1,8 @@
 ghost use Rattle.std.specs.Prelude.{◌≡◌, ◌≤◌, length, None, Some, IsErr, IsOk, IfOk, IfSome, OnOk, OnErr};
 ghost use Rattle.std.specs.List.{slice_get};
 ghost use Rattle.gd_outside.specs.Links.{FitsBuffer, IsOpen, LinkCalled, StaysOpen, Takes, Took, one_try};
-ghost use Rattle.gd_outside.specs.MemoryLinks.{new_link, seen_sure_link, with_addresses, with_entry, with_frame, without_entry};
+ghost use Rattle.gd_outside.specs.MemoryLinks.{new_link, seen_sure_link, with_addresses, with_entry, with_frame};
+ghost use Rattle.gd_outside.specs.MemoryLinks.{without_entry};
 ghost use Rattle.gd_outside.specs.Seen.{Packet, Pause};
 ghost use Rattle.gd_outside.specs.Told.{Grows, Stays};
 
@@ -13,8 +14,8 @@ use crate::words::WordList;
 use std::alloc::{AllocError, Global};
 use std::marker::Model;
 
-/// Datagrams and pauses in memory, and memory for a number of bytes, its room, of which each address and each frame tried
-/// takes its length and one more. No call on it fails. Past its room it keeps no more, and tells nothing.
+/// Datagrams and pauses in memory, and memory for a number of bytes, its room, of which each address and each frame
+/// tried takes its length and one more. No call on it fails. Past its room it keeps no more, and tells nothing.
 #[derive(Drop)]
 pub struct SureLink {
     link: LinkMemory,

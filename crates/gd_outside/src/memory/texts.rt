@@ -27,7 +27,8 @@ impl Model for Texts {
 
     ghost Value = { KeptTexts };
 
-    ghost view = { λ t. record { texts = map (text_at t.bytes.items) t.spans.items; room = t.room } };
+    ghost view = { λ t. record
+        { texts = map (text_at t.bytes.items) t.spans.items; room = t.room } };
 
     ghost invariant = { λ t. (t.room ≤ vec_capacity t.bytes) × (t.room ≤ vec_capacity t.spans)
         × Stand t.bytes.items t.spans.items t.room };

@@ -8,8 +8,8 @@ ghost use Rattle.gd_worlds.specs.Churn.{no_counts, with_idle, with_reply};
 use gd_lines::Reply;
 use std::marker::Model;
 
-/// How many edits, undos and redos were accepted and refused, mails sent and delivered, and steps idle; and how the events went
-/// that were delivered.
+/// How many edits, undos and redos were accepted and refused, mails sent and delivered, and steps idle; and how the
+/// events went that were delivered.
 #[derive(Drop)]
 pub(crate) struct Counts {
     edits: u32,

@@ -6,7 +6,8 @@ ghost use Rattle.gd_base.specs.Stamps.{IsStamp};
 ghost use Rattle.gd_base.specs.Typed.{AreEnds};
 ghost use Rattle.gd_lines.specs.InRange.{IsEdit};
 ghost use Rattle.gd_world.specs.Drawn.{IsOfOne, IsPlayed, edit_at, turn_at};
-ghost use Rattle.gd_worlds.specs.Churn.{below, connect, create, dash_of, deliver, ends, group, line_for, move, reconnect, send, step, stroke, style, write};
+ghost use Rattle.gd_worlds.specs.Churn.{below, connect, create, dash_of, deliver, ends, group, line_for, move};
+ghost use Rattle.gd_worlds.specs.Churn.{reconnect, send, step, stroke, style, write};
 
 use gd_base::{COLOUR_LIMIT, Content, Dash, Edit, Ends, Ids, Label, Looks, Shape, Side, Stamp};
 use gd_lines::{Command, ScriptLine, Turn};
@@ -31,8 +32,8 @@ pub(crate) fn step(generator: &mut Pcg32, made: &[Stamp], mails: u32) -> Option<
     line_for(generator, made, mails, site, number)
 }
 
-/// The line of a site by a number: 0 to 3 make an object, 4 to 11 change one that was made, 12 and 13 send, 14 and 15 deliver, 16
-/// takes an edit back, 17 does one again, 18 connects two, and all above change one that was made.
+/// The line of a site by a number: 0 to 3 make an object, 4 to 11 change one that was made, 12 and 13 send, 14 and 15
+/// deliver, 16 takes an edit back, 17 does one again, 18 connects two, and all above change one that was made.
 fn line_for(
     generator: &mut Pcg32,
     made: &[Stamp],

@@ -63,7 +63,8 @@ impl Churning {
         })
     }
 
-    /// So many steps, then rounds until every site holds every event, and one more round. `AllocError` where memory ran out.
+    /// So many steps, then rounds until every site holds every event, and one more round. `AllocError` where memory ran
+    /// out.
     pub(crate) fn run<L: Ledger>(
         &mut self,
         count: u32,

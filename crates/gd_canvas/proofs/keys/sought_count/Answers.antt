@@ -6,5 +6,6 @@ use Rattle.gd_canvas.proofs.keys.sought_count.Goals as goal
 
 pub returns : goal.returns
 returns c =
-    let first = c.meeting_count-first.ensures.count ∙ ap (λ p. length (parts_meeting p)) (c.first_part.ensures c.args.stamp) in
+    let first = c.meeting_count-first.ensures.count
+    ∙ ap (λ p. length (parts_meeting p)) (c.first_part.ensures c.args.stamp) in
     omega (arith, sought_count c.args.stamp (op_of c.args.kept.now), first, c.touch_count-touches.ensures.count)

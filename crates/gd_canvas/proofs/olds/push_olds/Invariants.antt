@@ -7,6 +7,7 @@ use Rattle.gd_canvas.proofs.olds.push_olds.Given as goal
 
 abbrev pub invariant-loop-tie : goal.invariant-loop-tie
 invariant-loop-tie l =
-    (l.olds.items ++ old_ties (drop l.tie-index l.ties) (map_of.get (board_of l.canvas)) ≡ old_ties l.ties (map_of.get (board_of l.canvas)))
+    (l.olds.items ++ old_ties (drop l.tie-index l.ties) (map_of.get (board_of l.canvas))
+    ≡ old_ties l.ties (map_of.get (board_of l.canvas)))
     × (length l.olds.items ≤ l.tie-index)
     × (vec_capacity l.olds ≡ vec_capacity l.initial.olds)

@@ -29,21 +29,28 @@ returns-in-Set-clause-before c =
 pub returns-in-Delete-clause-before : goal.returns-in-Delete-clause-before
 returns-in-Delete-clause-before c =
     let f = c.in-Delete in
-    c.splice_deleted.ensures.before f.id (form_covers c.args.s c.args.t (op_of c.args.e.now) (op_of c.args.f.now) (Takes f.id []) (ap (λ k. form c.args.t (op_of k)) f.is) ∙ c.requires.covers)
+    c.splice_deleted.ensures.before f.id
+    (form_covers c.args.s c.args.t (op_of c.args.e.now) (op_of c.args.f.now) (Takes f.id [])
+    (ap (λ k. form c.args.t (op_of k)) f.is) ∙ c.requires.covers)
     ∙ spliced c.args.s c.args.t c.args.e.now c.args.f.now (Delete f.id f.before) f.is
 
 pub returns-in-Disband-clause-before : goal.returns-in-Disband-clause-before
 returns-in-Disband-clause-before c =
     let f = c.in-Disband in
     let g = form c.args.s (op_of c.args.e.now) in
-    let covers = form_covers c.args.s c.args.t (op_of c.args.e.now) (op_of c.args.f.now) (Takes f.id f.tied.value.ties) (ap (λ k. form c.args.t (op_of k)) f.is) ∙ c.requires.covers in
+    let covers = form_covers c.args.s c.args.t (op_of c.args.e.now) (op_of c.args.f.now) (Takes f.id f.tied.value.ties)
+    (ap (λ k. form c.args.t (op_of k)) f.is) ∙ c.requires.covers in
     let ties = no_ties f.id f.tied.value.ties g covers in
     let few = subst (λ (v : TiedValue). length v.olds ≤ length v.ties) c.deref_mut.ensures.value c.clear.ensures.few in
     let olds = no_olds f.tied.value.ties f.tied.value.olds few ties in
     let plain = subst (λ (ts : List Tie). covers_by (Takes f.id ts) g ≡ true) ties covers in
     let before = sym ties in
     let links = sym olds in
-    (λ i. (before_of c.splice_deleted-in-Disband.new.e, of_taken f.id (c.clear.ensures.olds i) c.splice_deleted-in-Disband.new.later))
+    (λ i. (
+      before_of c.splice_deleted-in-Disband.new.e,
+      of_taken f.id (c.clear.ensures.olds i)
+          c.splice_deleted-in-Disband.new.later,
+    ))
     ∙ c.splice_deleted-in-Disband.ensures.before f.id plain
     ∙ (λ i. splice_by g (Takes f.id (before i)) (of_taken f.id (links i) f.before))
     ∙ spliced c.args.s c.args.t c.args.e.now c.args.f.now (Disband f.id f.before f.tied) f.is

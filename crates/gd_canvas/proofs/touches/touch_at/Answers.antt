@@ -16,15 +16,18 @@ pub returns-then-place-count : goal.returns-then-place-count
 returns-then-place-count c =
     let op = op_of c.args.kept.now in
     let parts = c.as_slice-parts.result.now in
-    let are : parts ≡ own_parts (form c.args.stamp op) = c.as_slice-parts.ensures.value ∙ c.own_parts-own.ensures.parts c.args.stamp in
+    let are : parts ≡ own_parts (form c.args.stamp op) = c.as_slice-parts.ensures.value
+    ∙ c.own_parts-own.ensures.parts c.args.stamp in
     let inside : c.args.place < length parts = omega arith in
-    ap (λ (i : Stamp). Some (i, get_or parts c.args.place 0)) c.object_of.ensures ∙ first_at c.args.stamp op parts c.args.place are inside
+    ap (λ (i : Stamp). Some (i, get_or parts c.args.place 0)) c.object_of.ensures
+    ∙ first_at c.args.stamp op parts c.args.place are inside
 
 pub returns-in-Some : goal.returns-in-Some
 returns-in-Some c =
     let op = op_of c.args.kept.now in
     let parts = c.as_slice-parts.result.now in
-    let are : parts ≡ own_parts (form c.args.stamp op) = c.as_slice-parts.ensures.value ∙ c.own_parts-own.ensures.parts c.args.stamp in
+    let are : parts ≡ own_parts (form c.args.stamp op) = c.as_slice-parts.ensures.value
+    ∙ c.own_parts-own.ensures.parts c.args.stamp in
     let past : length parts ≤ c.args.place = omega arith in
     ap (option_map link) c.in-Some.ensures ∙ sym (later_at c.args.stamp op parts c.args.place are past)
 
@@ -32,6 +35,7 @@ pub returns-in-None : goal.returns-in-None
 returns-in-None c =
     let op = op_of c.args.kept.now in
     let parts = c.as_slice-parts.result.now in
-    let are : parts ≡ own_parts (form c.args.stamp op) = c.as_slice-parts.ensures.value ∙ c.own_parts-own.ensures.parts c.args.stamp in
+    let are : parts ≡ own_parts (form c.args.stamp op) = c.as_slice-parts.ensures.value
+    ∙ c.own_parts-own.ensures.parts c.args.stamp in
     let past : length parts ≤ c.args.place = omega arith in
     ap (option_map link) c.in-None.ensures ∙ sym (later_at c.args.stamp op parts c.args.place are past)

@@ -5,4 +5,11 @@ use Rattle.gd_canvas.proofs.touches.touch_count.Goals as goal
 
 pub returns-clause-count : goal.returns-clause-count
 returns-clause-count c =
-    omega (arith, touch_count c.args.stamp (op_of c.args.kept.now), ap length (c.own_parts-own.ensures.parts c.args.stamp), c.len.ensures.value, c.tied_count-tied.ensures.count)
+    omega (
+      arith,
+      touch_count c.args.stamp (op_of c.args.kept.now),
+      ap length
+          (c.own_parts-own.ensures.parts c.args.stamp),
+      c.len.ensures.value,
+      c.tied_count-tied.ensures.count,
+    )

@@ -13,7 +13,9 @@ use Rattle.gd_capture.proofs.base.undo_all.Goals as goal
 pub undo-requires : goal.undo-requires
 undo-requires g c =
     let was = c.undoing.invariant in
-    admitted_here (λ (e : Stamped Op). IsTrue (is_admitted e.stamp e.op c.undoing.canvas)) c.args.entries.now (c.undoing.left - 1) c.get.result.now was.admitted (omega (arith, was.within, c.undoing-test.true)) c.get.ensures
+    admitted_here (λ (e : Stamped Op). IsTrue (is_admitted e.stamp e.op c.undoing.canvas)) c.args.entries.now
+    (c.undoing.left - 1) c.get.result.now was.admitted (omega (arith, was.within, c.undoing-test.true))
+    c.get.ensures
 
 pub undoing-preserved : goal.undoing-preserved
 undoing-preserved g c =
@@ -25,8 +27,10 @@ undoing-preserved g c =
     record {
       within = omega (arith, was.within);
       board =
-          undone_more xs (c.undoing.left - 1) c.get.result.now start (board_of c.undoing.canvas) (board_of c.undo.new.canvas) (omega (arith, was.within, c.undoing-test.true)) c.get.ensures
+          undone_more xs (c.undoing.left - 1) c.get.result.now start (board_of c.undoing.canvas)
+          (board_of c.undo.new.canvas) (omega (arith, was.within, c.undoing-test.true)) c.get.ensures
           (was.board ∙ ap (λ n. undone_to xs n start) left) done.board;
-      admitted = Every-weaker _ (λ (e : Stamped Op). IsTrue (is_admitted e.stamp e.op c.undo.new.canvas)) c.undo.ensures.kept (events_of xs) was.admitted;
+      admitted = Every-weaker _ (λ (e : Stamped Op). IsTrue (is_admitted e.stamp e.op c.undo.new.canvas))
+          c.undo.ensures.kept (events_of xs) was.admitted;
       spent = omega (arith, was.spent, done.step, left);
     }

@@ -30,7 +30,8 @@ number_all-requires-clause-sound c =
     let slow = c.stands.ensures.slow in
     let stands = c.stands.ensures.stands in
     let entries = c.entries-entries.ensures.entries ∙ ap (λ (h : History). h.entries) c.history.ensures.history in
-    subst (λ (xs : Entries). AllOf (λ (e : Stamped Op). IsOp e.stamp e.op) (events_of xs)) (sym entries) (entries_ops slow c.args.site.now stands)
+    subst (λ (xs : Entries). AllOf (λ (e : Stamped Op). IsOp e.stamp e.op) (events_of xs)) (sym entries)
+    (entries_ops slow c.args.site.now stands)
 
 pub returns : goal.returns
 returns c slow stands =
@@ -39,6 +40,9 @@ returns c slow stands =
     let entries = c.entries-entries.ensures.entries ∙ ap (λ (h : History). h.entries) c.history.ensures.history in
     let events = ap (λ (xs : Entries). events_of xs) entries ∙ entries_kept slow c.args.site.now stands in
     let takes : (t : ℕ) → IsSite t → of_site left t + tally t (all_drawn (kept slow)) ≡ of_site numbers t
-    = λ t is. ap (λ (es : List (Stamped Op)). of_site left t + tally t es) (sym events) ∙ c.take_off.ensures.left t is in
-    let all = kept_numbered slow stands.well numbers left (c.counts_of-numbers.ensures slow stands) c.take_off.ensures.sized takes in
-    subst (λ (l : List Event). IfOk c.number_all.result (λ es. es ≡ l)) (ap (numbered left) events ∙ all) c.number_all.ensures
+    = λ t is. ap (λ (es : List (Stamped Op)). of_site left t + tally t es) (sym events)
+    ∙ c.take_off.ensures.left t is in
+    let all = kept_numbered slow stands.well numbers left (c.counts_of-numbers.ensures slow stands)
+    c.take_off.ensures.sized takes in
+    subst (λ (l : List Event). IfOk c.number_all.result (λ es. es ≡ l)) (ap (numbered left) events ∙ all)
+    c.number_all.ensures

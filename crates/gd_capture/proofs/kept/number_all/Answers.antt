@@ -17,7 +17,8 @@ overflow_add-number c =
     let site = c.site-site.ensures.value ∙ ap (λ (s : Stamp). s.site) c.stamp-stamp.ensures in
     let range = c.site-site.ensures.range in
     let is = subst (λ (s : Stamp). IsSite s.site) c.stamp-stamp.ensures (range.site_above, range.site_below) in
-    let room = counting_room c.args.entries.now c.args.numbers numbers c.loop-place.place c.loop-place.events c.loop-place.invariant x (omega arith) c.get-entry.ensures is in
+    let room = counting_room c.args.entries.now c.args.numbers numbers c.loop-place.place c.loop-place.events
+    c.loop-place.invariant x (omega arith) c.get-entry.ensures is in
     omega (arith, room, c.of-number.ensures.number ∙ ap (of_site numbers) site)
 
 pub sound-requires-clause-op : goal.sound-requires-clause-op
@@ -37,9 +38,14 @@ loop-place-preserved c =
     let is = subst (λ (s : Stamp). IsSite s.site) stamp (range.site_above, range.site_below) in
     let number = c.of-number.ensures.number ∙ ap (of_site numbers) site in
     let op = c.op.ensures in
-    let event : c.sound.result ≡ record { stamp = x.stamp; number = of_site numbers x.stamp.site + 1; op = x.op } = c.sound.ensures ∙ (λ i. record { stamp = stamp i; number = number i + 1; op = op i }) in
-    counting_more c.args.entries.now c.args.numbers numbers c.loop-place.place c.loop-place.events c.loop-place.invariant x (omega arith) c.get-entry.ensures is c.of-number.ensures.sized
-    c.put.new.self (c.put.ensures ∙ (λ i. put_at numbers (site i) (number i + 1))) c.push.new.self (c.in_ok-push.ensures.ok ∙ ap (λ (e : Event). c.loop-place.events ++ e ∷ []) event)
+    let event : c.sound.result
+    ≡ record { stamp = x.stamp; number = of_site numbers x.stamp.site + 1; op = x.op } = c.sound.ensures
+    ∙ (λ i. record { stamp = stamp i; number = number i + 1; op = op i }) in
+    counting_more c.args.entries.now c.args.numbers numbers c.loop-place.place c.loop-place.events
+    c.loop-place.invariant x (omega arith) c.get-entry.ensures is c.of-number.ensures.sized
+    c.put.new.self (c.put.ensures ∙ (λ i. put_at numbers (site i) (number i + 1))) c.push.new.self
+    (c.in_ok-push.ensures.ok ∙ ap (λ (e : Event). c.loop-place.events ++ e ∷ []) event)
 
 pub returns : goal.returns
-returns c = counting_end c.args.entries.now c.args.numbers c.loop-place.numbers c.loop-place.place c.loop-place.events c.loop-place.invariant (omega arith)
+returns c = counting_end c.args.entries.now c.args.numbers c.loop-place.numbers c.loop-place.place c.loop-place.events
+    c.loop-place.invariant (omega arith)

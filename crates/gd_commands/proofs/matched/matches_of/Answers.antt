@@ -18,5 +18,6 @@ returns g c =
     record {
       taken = tt;
       refused = λ _ form is. asked_where_refused form a words is
-          (has_fault (fault_of a words) c.in-Err.error (c.in-Err.ensures.kinds c.requires) (λ e. other (c.kind.ensures ∙ e)));
+          (has_fault (fault_of a words) c.in-Err.error (c.in-Err.ensures.kinds c.requires)
+          (λ e. other (c.kind.ensures ∙ e)));
     }

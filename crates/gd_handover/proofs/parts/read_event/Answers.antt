@@ -9,7 +9,10 @@ returns-in_err-event-clause-part g c =
     rw (p.1, p.2) (kept-stops c.args.known.now c.args.last _ c.in_err-event.ensures.part)
 
 pub returns-in-Some-clause-part : goal.returns-in-Some-clause-part
-returns-in-Some-clause-part g c = kept-refused c.args.known.now c.args.last c.in_ok-event.event c.in-Some.why (sym c.in-Some.ensures) c.in_ok-event.ensures.part
+returns-in-Some-clause-part g c
+    = kept-refused c.args.known.now c.args.last c.in_ok-event.event c.in-Some.why (sym c.in-Some.ensures)
+    c.in_ok-event.ensures.part
 
 pub returns-in-None-clause-part : goal.returns-in-None-clause-part
-returns-in-None-clause-part g c = kept-read c.args.known.now c.args.last c.in_ok-event.event (sym c.in-None.ensures) c.in_ok-event.ensures.part
+returns-in-None-clause-part g c
+    = kept-read c.args.known.now c.args.last c.in_ok-event.event (sym c.in-None.ensures) c.in_ok-event.ensures.part

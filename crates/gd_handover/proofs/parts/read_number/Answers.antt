@@ -9,7 +9,9 @@ returns-in_err-number-clause-part g c =
     rw (p.1, p.2) (number-stops c.args.most c.args.before _ c.in_err-number.ensures.part)
 
 pub returns-then-number-most-clause-part : goal.returns-then-number-most-clause-part
-returns-then-number-most-clause-part g c = number-high c.args.most c.args.before c.in_ok-number.number (omega arith) c.in_ok-number.ensures.part
+returns-then-number-most-clause-part g c
+    = number-high c.args.most c.args.before c.in_ok-number.number (omega arith) c.in_ok-number.ensures.part
 
 pub returns-clause-part : goal.returns-clause-part
-returns-clause-part g c = number-read c.args.most c.args.before c.in_ok-number.number (omega arith) c.in_ok-number.ensures.part
+returns-clause-part g c
+    = number-read c.args.most c.args.before c.in_ok-number.number (omega arith) c.in_ok-number.ensures.part

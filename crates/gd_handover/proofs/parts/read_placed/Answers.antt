@@ -9,12 +9,14 @@ returns-in_err-id-clause-part g c =
     rw (p.1, p.2) (placed-stops c.args.last _ c.in_err-id.ensures.part)
 
 pub returns-then-not-is_above-clause-part : goal.returns-then-not-is_above-clause-part
-returns-then-not-is_above-clause-part g c = placed-low c.args.last c.in_ok-id.id (sym c.if-not-is_above.ensures) c.in_ok-id.ensures.part
+returns-then-not-is_above-clause-part g c
+    = placed-low c.args.last c.in_ok-id.id (sym c.if-not-is_above.ensures) c.in_ok-id.ensures.part
 
 pub returns-in_err-object-clause-part : goal.returns-in_err-object-clause-part
 returns-in_err-object-clause-part g c =
     let p = err_from_is_err_and c.from_residual-in_err-object.result c.from_residual-in_err-object.ensures.1 in
-    rw (p.1, p.2) (placed-faulty c.args.last c.in_ok-id.id _ (sym c.if-not-is_above.ensures) c.in_ok-id.ensures.part c.in_err-object.ensures.part)
+    rw (p.1, p.2) (placed-faulty c.args.last c.in_ok-id.id _ (sym c.if-not-is_above.ensures) c.in_ok-id.ensures.part
+    c.in_err-object.ensures.part)
 
 pub returns-in_err-kept-clause-part : goal.returns-in_err-kept-clause-part
 returns-in_err-kept-clause-part g c =

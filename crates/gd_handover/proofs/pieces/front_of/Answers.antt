@@ -3,7 +3,11 @@ use Rattle.gd_handover.proofs.PieceLemmas.{objects_few}
 use Rattle.gd_handover.proofs.pieces.front_of.Goals as goal
 
 pub overflow_cast-objects : goal.overflow_cast-objects
-overflow_cast-objects c = record { fits = rw c.objects-objects.ensures.objects (objects_few c.args.snapshot.now c.objects-objects.ensures.good) }
+overflow_cast-objects c
+    = record {
+      fits = rw c.objects-objects.ensures.objects
+          (objects_few c.args.snapshot.now c.objects-objects.ensures.good);
+    }
 
 pub returns : goal.returns
 returns c =

@@ -6,10 +6,15 @@ sites-init c = known_start c.args.all.now c.args.out.now c.requires.known
 
 pub sites-preserved : goal.sites-preserved
 sites-preserved c =
-    known_more c.args.all.now c.sites.left.now c.in-Some.rest.now c.args.out.now c.sites.out c.put_number.new.self c.put_clock.new.self c.in-Some.known.now c.in-Some.ensures.cases.0 c.put_number.ensures.bytes c.put_clock.ensures.bytes c.sites.invariant
+    known_more c.args.all.now c.sites.left.now c.in-Some.rest.now c.args.out.now c.sites.out c.put_number.new.self
+    c.put_clock.new.self c.in-Some.known.now c.in-Some.ensures.cases.0 c.put_number.ensures.bytes
+    c.put_clock.ensures.bytes c.sites.invariant
 
 pub returns-clause-bytes : goal.returns-clause-bytes
-returns-clause-bytes c = known_end c.args.all.now c.sites.left.now c.args.out.now c.sites.out c.in_default.ensures.cases c.sites.invariant
+returns-clause-bytes c
+    = known_end c.args.all.now c.sites.left.now c.args.out.now c.sites.out c.in_default.ensures.cases c.sites.invariant
 
 pub put_clock-requires-clause-fits : goal.put_clock-requires-clause-fits
-put_clock-requires-clause-fits c = (known_first c.args.all.now c.sites.left.now c.in-Some.rest.now c.args.out.now c.sites.out c.in-Some.known.now c.in-Some.ensures.cases.0 c.sites.invariant).sure
+put_clock-requires-clause-fits c
+    = (known_first c.args.all.now c.sites.left.now c.in-Some.rest.now c.args.out.now c.sites.out c.in-Some.known.now
+    c.in-Some.ensures.cases.0 c.sites.invariant).sure

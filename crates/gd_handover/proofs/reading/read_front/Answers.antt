@@ -15,4 +15,6 @@ returns-in_err-snapshot-clause-called g c =
     rw (p.1, p.2) (called-as (λ h. same-fault _ Read h) c.in_err-snapshot.ensures.part.called)
 
 pub returns-clause-front : goal.returns-clause-front
-returns-clause-front g c = front-read c.in_ok-snapshot.snapshot (rw c.new-reader.ensures at c.in_ok-snapshot.ensures.part) c.in_ok-snapshot.ensures.few
+returns-clause-front g c
+    = front-read c.in_ok-snapshot.snapshot (rw c.new-reader.ensures at c.in_ok-snapshot.ensures.part)
+    c.in_ok-snapshot.ensures.few

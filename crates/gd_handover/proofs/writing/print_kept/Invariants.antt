@@ -10,7 +10,8 @@ use Rattle.gd_handover.proofs.writing.print_kept.Given as goal
 abbrev pub invariant-events : goal.invariant-events
 invariant-events g l =
     (input : SeenSource) (journal : SeenJournal) (link : SeenLink) (steps : ℕ)
-    → Along (outside input (g.K.Sink.seen l.fn.output) journal link steps) (map Print (word_bytes (length l.fn.kept) ∷ map spelling l.fn.kept))
+    → Along (outside input (g.K.Sink.seen l.fn.output) journal link steps)
+    (map Print (word_bytes (length l.fn.kept) ∷ map spelling l.fn.kept))
     (outside input (g.K.Sink.seen l.output) journal link steps) (map Print (map spelling l.left))
 
 abbrev pub decreases-events : goal.decreases-events

@@ -20,7 +20,8 @@ returns-in_err-print_objects-clause-does g c input journal link steps =
     (c.in_err-print_objects.ensures.does input journal link steps)
 
 pub print_kept-requires : goal.print_kept-requires
-print_kept-requires g c = rw (c.as_slice-2.ensures, c.kept.ensures.kept) (kept_few c.args.snapshot.now c.kept.ensures.good)
+print_kept-requires g c
+    = rw (c.as_slice-2.ensures, c.kept.ensures.kept) (kept_few c.args.snapshot.now c.kept.ensures.good)
 
 pub returns-clause-does : goal.returns-clause-does
 returns-clause-does g c input journal link steps =

@@ -13,7 +13,8 @@ pub returns-in_err-shown : goal.returns-in_err-shown
 returns-in_err-shown c =
     let look : Stamp → Option Target = target (listed (board_of c.args.canvas.now)) in
     ap (option_map (λ l. l.items)) c.from_residual.ensures
-    ∙ sym (found_none look c.loop-id.all.items c.args.ids.now c.loop-id.id-index c.id-item.result c.loop-id-test.true c.id-item.is (sym c.in_err-shown.ensures))
+    ∙ sym (found_none look c.loop-id.all.items c.args.ids.now c.loop-id.id-index c.id-item.result c.loop-id-test.true
+    c.id-item.is (sym c.in_err-shown.ensures))
     ∙ c.loop-id.invariant.found
 
 pub loop-id-preserved : goal.loop-id-preserved
@@ -22,12 +23,14 @@ loop-id-preserved c =
     record {
       found = ap (λ (l : List Named). behind l (targets look (drop (c.loop-id.id-index + 1) c.args.ids.now)))
           (c.push.ensures.items ∙ ap (λ (n : Named). c.loop-id.all.items ++ n ∷ []) c.new.ensures)
-          ∙ sym (found_next look c.loop-id.all.items c.args.ids.now c.loop-id.id-index c.id-item.result c.loop-id-test.true c.id-item.is (told c.in_ok-shown.shown) (sym c.in_ok-shown.ensures))
+          ∙ sym (found_next look c.loop-id.all.items c.args.ids.now c.loop-id.id-index c.id-item.result
+          c.loop-id-test.true c.id-item.is (told c.in_ok-shown.shown) (sym c.in_ok-shown.ensures))
           ∙ c.loop-id.invariant.found;
       taken = omega (arith, c.push.ensures.len, c.loop-id.invariant.taken);
     }
 
 pub returns : goal.returns
 returns c =
-    sym (found_all (target (listed (board_of c.args.canvas.now))) c.loop-id.all.items c.args.ids.now c.loop-id.id-index c.loop-id-test.false)
+    sym (found_all (target (listed (board_of c.args.canvas.now))) c.loop-id.all.items c.args.ids.now c.loop-id.id-index
+    c.loop-id-test.false)
     ∙ c.loop-id.invariant.found

@@ -15,5 +15,8 @@ returns c =
     let dy : FitsSigned w32 c.in_ok-dx.dy = search rules in
     let from_x : c.from.result ≡ c.args.named.now.dx = simp to_z-of_z at c.from.ensures in
     let from_y : c.from-2.result ≡ c.args.named.now.dy = simp to_z-of_z at c.from-2.ensures in
-    let kept : in_range c.args.named.now.dx c.args.named.now.dy ≡ Some (c.in_ok-dx.dx, c.in_ok-dx.dy) = ap₂ in_range (sym from_x) (sym from_y) ∙ sym (simp to_z-of_z at c.in_range.ensures) ∙ c.in_ok-dx.was in
-    simp to_z-of_z (shifted_some c.args.named.now.id c.args.named.now.dx c.args.named.now.dy c.in_ok-dx.dx c.in_ok-dx.dy kept)
+    let kept : in_range c.args.named.now.dx c.args.named.now.dy
+    ≡ Some (c.in_ok-dx.dx, c.in_ok-dx.dy) = ap₂ in_range (sym from_x) (sym from_y)
+    ∙ sym (simp to_z-of_z at c.in_range.ensures) ∙ c.in_ok-dx.was in
+    simp to_z-of_z (shifted_some c.args.named.now.id c.args.named.now.dx c.args.named.now.dy c.in_ok-dx.dx c.in_ok-dx.dy
+    kept)

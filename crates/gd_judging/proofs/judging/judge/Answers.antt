@@ -9,7 +9,9 @@ use Rattle.gd_judging.proofs.judging.judge.Goals as goal
 pub returns-in-Group : goal.returns-in-Group
 returns-in-Group c =
     rw c.in-Group.is
-    (c.group.ensures ∙ ap (λ (ids : List Stamp). with_targets (targets (target (listed (board_of c.args.canvas.now))) ids)) c.as_slice.ensures.items)
+    (c.group.ensures ∙ ap
+    (λ (ids : List Stamp). with_targets (targets (target (listed (board_of c.args.canvas.now))) ids))
+    c.as_slice.ensures.items)
 
 pub returns-in-Connect : goal.returns-in-Connect
 returns-in-Connect c =

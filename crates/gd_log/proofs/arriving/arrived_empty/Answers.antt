@@ -11,7 +11,8 @@ use Rattle.gd_log.proofs.arriving.arrived_empty.Goals as goal
 
 pub returns-clause-history : goal.returns-clause-history
 returns-clause-history g c =
-    subst (λ (start : Board). IfOk c.arrived.result (λ x. Holds drawing_rules board_of start (all_drawn (ordered c.args.events)) 0 x.0))
+    subst (λ (start : Board). IfOk c.arrived.result
+    (λ x. Holds drawing_rules board_of start (all_drawn (ordered c.args.events)) 0 x.0))
     c.in_ok-empty.ensures.board c.arrived.ensures.history
 
 pub returns-in_err-empty-clause-err : goal.returns-in_err-empty-clause-err

@@ -9,9 +9,13 @@ use Rattle.gd_log.proofs.lines.drawn.Goals as goal
 
 pub of-requires : goal.of-requires
 of-requires g c =
-    let same : board_of c.document.result.now ≡ board c.args.events = ap board_of c.document.ensures ∙ drawing_of c.args.events _ c.in_ok-history.ensures.history in
+    let same : board_of c.document.result.now ≡ board c.args.events = ap board_of c.document.ensures
+    ∙ drawing_of c.args.events _ c.in_ok-history.ensures.history in
     omega (arith, ap (λ (b : Board). map_of.len b) same, board-len c.args.events)
 
 pub returns-clause-picture : goal.returns-clause-picture
 returns-clause-picture g c =
-    c.in_ok-picture.ensures ∙ ap (λ (b : Board). items (listed b)) (ap board_of c.document.ensures ∙ drawing_of c.args.events _ c.in_ok-history.ensures.history) ∙ shown-items c.args.events
+    c.in_ok-picture.ensures
+    ∙ ap (λ (b : Board). items (listed b))
+    (ap board_of c.document.ensures ∙ drawing_of c.args.events _ c.in_ok-history.ensures.history)
+    ∙ shown-items c.args.events

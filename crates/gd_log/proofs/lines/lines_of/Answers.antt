@@ -9,4 +9,5 @@ use Rattle.gd_log.proofs.lines.lines_of.Goals as goal
 
 pub returns-in_ok-picture-in-Text-clause-lines : goal.returns-in_ok-picture-in-Text-clause-lines
 returns-in_ok-picture-in-Text-clause-lines g c =
-    ap lines c.in_ok-picture-in-Text.ensures.picture ∙ sym (lines_of_replies (items (picture c.args.events))) ∙ ap (λ (f : Format). lines_as f c.args.events) (sym c.in-Text.is)
+    ap lines c.in_ok-picture-in-Text.ensures.picture ∙ sym (lines_of_replies (items (picture c.args.events)))
+    ∙ ap (λ (f : Format). lines_as f c.args.events) (sym c.in-Text.is)

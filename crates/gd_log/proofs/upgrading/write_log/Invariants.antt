@@ -14,7 +14,8 @@ abbrev pub invariant-records : goal.invariant-records
 invariant-records g l =
     (seen : List Event) × AreChains drawings l.chains seen
     × ((input : SeenSource) (journal : SeenJournal) (link : SeenLink) (steps : ℕ)
-    → Along (outside input (g.K.Sink.seen l.fn.output) journal link steps) (map Print (log_pieces drawings l.fn.header l.fn.events))
+    → Along (outside input (g.K.Sink.seen l.fn.output) journal link steps)
+    (map Print (log_pieces drawings l.fn.header l.fn.events))
     (outside input (g.K.Sink.seen l.output) journal link steps) (pieces seen l.left))
 
 abbrev pub decreases-records : goal.decreases-records

@@ -42,7 +42,8 @@ records-preserved g c =
       called = source_called_as (λ failed. absurd failed) (source_called_then c.records.invariant.called taken.called);
       follows = took.follows;
       chained = taken.next.chained c.records.events c.records.invariant.chained;
-      reached = reached-push c.records.events c.records.events c.in-Ok-Some.event took.above c.records.invariant.reached;
+      reached = reached-push c.records.events c.records.events c.in-Ok-Some.event took.above
+          c.records.invariant.reached;
       apart =
           distinct-push c.records.events c.records.events c.in-Ok-Some.event took.above c.records.invariant.reached
           c.records.invariant.apart;

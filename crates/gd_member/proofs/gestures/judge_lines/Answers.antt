@@ -1,6 +1,7 @@
 use Rattle.std.proofs.Common.{ℕ, ◌+◌, ap, arith}
 use Rattle.std.proofs.lemmas.List.{drop_all}
-use Rattle.gd_member.proofs.Judgings.{end_within, judged_none, judged_short, so_far_all, so_far_cut, so_far_more, so_far_none, some_left}
+use Rattle.gd_member.proofs.Judgings.{end_within, judged_none, judged_short, so_far_all, so_far_cut, so_far_more}
+use Rattle.gd_member.proofs.Judgings.{so_far_none, some_left}
 use Rattle.gd_member.specs.Gestures.{asked_in}
 use Rattle.gd_takeback.specs.Making.{making}
 use Rattle.gd_member.proofs.gestures.judge_lines.Goals as goal

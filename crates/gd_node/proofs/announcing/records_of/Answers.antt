@@ -9,7 +9,8 @@ loop-listed-init c = c.new-records.ensures.none
 
 pub loop-listed-preserved : goal.loop-listed-preserved
 loop-listed-preserved c seen chained =
-    records_more c.args.events.now c.loop-listed.listed-index c.event.result _ seen c.loop-listed.records _ (omega arith)
+    records_more c.args.events.now c.loop-listed.listed-index c.event.result _ seen c.loop-listed.records _
+    (omega arith)
     (c.event.ensures ∙ c.listed-item.is) (c.loop-listed.invariant seen chained) (c.in_ok-add.ensures seen _)
 
 pub returns : goal.returns

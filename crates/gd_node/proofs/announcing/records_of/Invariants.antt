@@ -7,4 +7,5 @@ use Rattle.gd_node.proofs.announcing.records_of.Given as goal
 
 abbrev pub invariant-loop-listed : goal.invariant-loop-listed
 invariant-loop-listed l =
-    (seen : List Event) → AreChains drawings l.log.chains seen → AreRecords drawings seen (take l.listed-index l.events) l.records
+    (seen : List Event) → AreChains drawings l.log.chains seen
+    → AreRecords drawings seen (take l.listed-index l.events) l.records

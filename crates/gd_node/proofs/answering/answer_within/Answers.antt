@@ -11,11 +11,13 @@ returns-in_err-carry_out-clause-carries g c =
 
 pub returns-then-ends_gesture-clause-carries : goal.returns-then-ends_gesture-clause-carries
 returns-then-ends_gesture-clause-carries g c =
-    carries_end c.args.waiting c.args.line (sym c.ends_gesture.ensures ∙ c.if-ends_gesture.true) _ (carries_ok _ c.in_ok-carry_out.ensures)
+    carries_end c.args.waiting c.args.line (sym c.ends_gesture.ensures ∙ c.if-ends_gesture.true) _
+    (carries_ok _ c.in_ok-carry_out.ensures)
 
 pub returns-in_err-wait-clause-carries : goal.returns-in_err-wait-clause-carries
 returns-in_err-wait-clause-carries g c =
-    carries_exit _ c.from_residual-in_err-wait.ensures.1 (carries_none {T = Unit {0}} (for_within c.args.waiting c.args.line) _ _ _ refl)
+    carries_exit _ c.from_residual-in_err-wait.ensures.1
+    (carries_none {T = Unit {0}} (for_within c.args.waiting c.args.line) _ _ _ refl)
 
 pub returns-clause-carries : goal.returns-clause-carries
 returns-clause-carries g c =

@@ -9,8 +9,10 @@ loop-listed-init c = c.new-said.ensures
 
 pub loop-listed-preserved : goal.loop-listed-preserved
 loop-listed-preserved c =
-    done_more c.args.events.now c.loop-listed.listed-index _ _ c.loop-listed.said _ (omega arith) c.listed-item.is c.loop-listed.invariant
+    done_more c.args.events.now c.loop-listed.listed-index _ _ c.loop-listed.said _ (omega arith) c.listed-item.is
+    c.loop-listed.invariant
     (c.in_ok-add.ensures ∙ ap (λ id. c.loop-listed.said ++ reply_text (reply.Done id)) c.stamp.ensures)
 
 pub returns : goal.returns
-returns c = done_all c.args.events.now c.loop-listed.listed-index c.loop-listed.said _ (omega arith) c.loop-listed.invariant c.in_ok-add-2.ensures
+returns c = done_all c.args.events.now c.loop-listed.listed-index c.loop-listed.said _ (omega arith)
+    c.loop-listed.invariant c.in_ok-add-2.ensures

@@ -16,8 +16,10 @@ returns-in-Err g c =
     let which = c.args.which in
     let why = c.in-Err.fault in
     let fell = c.in-Err.ensures in
-    carries_refused (option_map back_refusal (refused_turn why)) _ (λ slow. of_turn slow which) (λ slow. after_turn slow which) _ _
-    (λ slow m. turn_leaves slow _ _ _ which why (fell.answer slow m.stands) (fell.keeps slow m.stands) (fell.steps slow m.stands)) refl (rw c.back_refusal.ensures at c.refuse.ensures)
+    carries_refused (option_map back_refusal (refused_turn why)) _ (λ slow. of_turn slow which)
+    (λ slow. after_turn slow which) _ _
+    (λ slow m. turn_leaves slow _ _ _ which why (fell.answer slow m.stands) (fell.keeps slow m.stands)
+    (fell.steps slow m.stands)) refl (rw c.back_refusal.ensures at c.refuse.ensures)
 
 pub returns-in_err-said : goal.returns-in_err-said
 unfolding after_line
@@ -32,8 +34,11 @@ returns-in_err-said g c =
 pub announce_all-requires : goal.announce_all-requires
 announce_all-requires g c =
     let m = c.requires in
-    let made = c.in-Ok.ensures in
-    (m.0, ahead (turn_makes m.0 c.args.which c.in-Ok.events c.as_slice-2.result.now c.as_slice-2.ensures (made.answer m.0 m.1.stands)) m.1 (made.stands m.0 m.1.stands).site refl)
+    let made = c.in-Ok.ensures in (
+      m.0,
+      ahead (turn_makes m.0 c.args.which c.in-Ok.events c.as_slice-2.result.now c.as_slice-2.ensures
+          (made.answer m.0 m.1.stands)) m.1 (made.stands m.0 m.1.stands).site refl,
+    )
 
 pub returns : goal.returns
 unfolding after_line
@@ -43,6 +48,12 @@ returns g c =
     let es = c.as_slice-2.result.now in
     let made = c.in-Ok.ensures in
     carries_made es (λ slow. done_replies es) _ (λ slow. of_turn slow which) (λ slow. after_turn slow which) m
-    (λ slow m. (turn_makes slow which c.in-Ok.events es c.as_slice-2.ensures (made.answer slow m.stands), made.stands slow m.stands)) refl
+    (λ slow m. (
+      turn_makes slow which c.in-Ok.events es c.as_slice-2.ensures (made.answer slow m.stands),
+      made.stands
+          slow m.stands,
+    )) refl
     (made.steps m.0 m.1.stands ∙ ap (λ l. c.args.steps.now + length l) (sym c.as_slice-2.ensures))
-    (λ slow m. c.announce_all.ensures (done_replies es) (c.in_ok-said.ensures ∙ ap (λ l. flat_map reply_text (done_replies l)) (c.as_slice.ensures ∙ sym c.as_slice-2.ensures)) _)
+    (λ slow m. c.announce_all.ensures (done_replies es)
+    (c.in_ok-said.ensures
+    ∙ ap (λ l. flat_map reply_text (done_replies l)) (c.as_slice.ensures ∙ sym c.as_slice-2.ensures)) _)

@@ -26,14 +26,16 @@ pub returns-clause-judged : goal.returns-clause-judged
 returns-clause-judged g c slow stands =
     let over = replicate c.over-over.result (Err GestureFull) in
     let is = c.over-over.ensures ∙ ap (λ (l : List Asked). l ++ over) (sym c.first.ensures) in
-    all_judged slow c.first.result.now c.over-over.result is c.count-count.result (c.in_ok-gesture.ensures.judged slow stands)
+    all_judged slow c.first.result.now c.over-over.result is c.count-count.result
+    (c.in_ok-gesture.ensures.judged slow stands)
     c.in_ok-refuse_others.ensures c.count-count.ensures c.in_ok-add.ensures
 
 pub returns-in_err-refuse_others-clause-judged : goal.returns-in_err-refuse_others-clause-judged
 returns-in_err-refuse_others-clause-judged g c slow stands =
     let over = replicate c.over-over.result (Err GestureFull) in
     let is = c.over-over.ensures ∙ ap (λ (l : List Asked). l ++ over) (sym c.first.ensures) in
-    judged_cut slow _ _ _ c.from_residual-in_err-refuse_others.result c.from_residual-in_err-refuse_others.ensures.1 _ _ _
+    judged_cut slow _ _ _ c.from_residual-in_err-refuse_others.result c.from_residual-in_err-refuse_others.ensures.1 _ _
+    _
     (front_of_made slow c.first.result.now c.over-over.result is (c.in_ok-gesture.ensures.judged slow stands))
 
 pub returns-in_err-add-clause-judged : goal.returns-in_err-add-clause-judged

@@ -10,7 +10,8 @@ pub loop-each-init : goal.loop-each-init
 loop-each-init g c = record {
   ranged = c.requires;
   judged = λ slow stands.
-      judged_none slow c.args.asked.now (making c.args.site.now c.new-gesture.result) stands c.new-gesture.ensures.events c.new-gesture.ensures.back c.args.said.now c.args.steps.now;
+      judged_none slow c.args.asked.now (making c.args.site.now c.new-gesture.result) stands
+      c.new-gesture.ensures.events c.new-gesture.ensures.back c.args.said.now c.args.steps.now;
 }
 
 pub loop-each-preserved : goal.loop-each-preserved
@@ -29,7 +30,8 @@ loop-each-preserved g c =
 
 pub returns-clause-judged : goal.returns-clause-judged
 returns-clause-judged g c slow stands =
-    judged_all slow c.args.asked.now c.args.said.now c.args.steps.now (drop_all c.loop-each.each-index c.args.asked.now c.loop-each-test.false)
+    judged_all slow c.args.asked.now c.args.said.now c.args.steps.now
+    (drop_all c.loop-each.each-index c.args.asked.now c.loop-each-test.false)
     (c.loop-each.invariant.judged slow stands)
 
 pub returns-in_err-add-clause-judged : goal.returns-in_err-add-clause-judged

@@ -10,5 +10,6 @@ abbrev pub invariant-loop-each : goal.invariant-loop-each
 invariant-loop-each g l = record {
   ranged : AreAsked (drop l.each-index l.fn.asked);
   judged : (slow : SlowSite) → StandsFor slow l.fn.site
-      → SoFar slow l.fn.asked (drop l.each-index l.fn.asked) (making l.site l.gesture) l.fn.said l.said l.fn.steps l.steps;
+      → SoFar slow l.fn.asked (drop l.each-index l.fn.asked) (making l.site l.gesture) l.fn.said l.said l.fn.steps
+      l.steps;
 }

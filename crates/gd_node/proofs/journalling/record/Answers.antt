@@ -10,14 +10,16 @@ append-requires-clause-log g c t = let r = c.requires in standing (journal_heade
 pub returns-in-Ok-clause-does : goal.returns-in-Ok-clause-does
 returns-in-Ok-clause-does g c slow ruled has input output link steps =
     let append = c.in-Ok.ensures in
-    does_record slow (c.args.event.now ∷ []) _ _ _ has ruled append.called.was (λ t. append.adds t slow.held has.chained)
+    does_record slow (c.args.event.now ∷ []) _ _ _ has ruled append.called.was
+    (λ t. append.adds t slow.held has.chained)
     append.called (λ t. append.added t slow.held has.chained) input output link steps
 
 pub returns-in-Ok-clause-log : goal.returns-in-Ok-clause-log
 returns-in-Ok-clause-log g c slow ruled has =
     let append = c.in-Ok.ensures in
     has_more slow (c.args.event.now ∷ []) _ _ _ has ruled append.called.was (λ t. append.adds t slow.held has.chained) _
-    (one_place slow.held c.args.event.now _ _ (append.place slow.held has.chained)) (append.chained slow.held has.chained)
+    (one_place slow.held c.args.event.now _ _ (append.place slow.held has.chained))
+    (append.chained slow.held has.chained)
 
 pub returns-in-Err-clause-does : goal.returns-in-Err-clause-does
 returns-in-Err-clause-does g c slow ruled has input output link steps =

@@ -7,7 +7,8 @@ use Rattle.gd_effects.specs.Outside.{outside}
 use Rattle.gd_grammar.specs.Chains.{AreChains}
 use Rattle.gd_grammar.specs.Drawings.{drawings}
 use Rattle.gd_logs.specs.declared.writer.AppendFault.{AppendFault}
-use Rattle.gd_node.proofs.Logs.{all_place, crash_torn, does_record, has_more, left_torn, none_more, none_recorded, some_recorded, standing}
+use Rattle.gd_node.proofs.Logs.{all_place, crash_torn, does_record, has_more, left_torn, none_more, none_recorded}
+use Rattle.gd_node.proofs.Logs.{some_recorded, standing}
 use Rattle.gd_outside.specs.Seen.{SeenJournal}
 use Rattle.gd_outside.specs.declared.end.End.TheVariants.{NoMemory}
 use Rattle.gd_reference.specs.SiteEffects.{recording}
@@ -22,7 +23,8 @@ returns-then-is_empty-clause-does g c slow es are ruled has input output link st
     does_as (none_recorded slow es c.args.records are (sym c.if-is_empty.ensures)) (does_nothing _)
 
 pub returns-then-is_empty-clause-log : goal.returns-then-is_empty-clause-log
-returns-then-is_empty-clause-log g c slow es are ruled has = none_more slow es c.args.records are (sym c.if-is_empty.ensures) has
+returns-then-is_empty-clause-log g c slow es are ruled has
+    = none_more slow es c.args.records are (sym c.if-is_empty.ensures) has
 
 pub append_all-requires-clause-log : goal.append_all-requires-clause-log
 append_all-requires-clause-log g c t = let r = c.requires in standing (journal_header r.0) r.0.held _ _ r.2 t
@@ -45,7 +47,8 @@ pub returns-in-Err-Memory-clause-does : goal.returns-in-Err-Memory-clause-does
 returns-in-Err-Memory-clause-does g c slow es are ruled has input output link steps =
     let same = c.in-Err-Memory.ensures.memory (ap failed_as c.in-Err-Memory.field-0-is) in
     let old = g.J.Journal.seen c.args.journal.now in
-    subst (λ (new : SeenJournal). Does {T = Unit {0}} (Err NoMemory) (outside input output old link steps) (recording slow es)
+    subst (λ (new : SeenJournal). Does {T = Unit {0}} (Err NoMemory) (outside input output old link steps)
+    (recording slow es)
     (outside input output new link steps)) (sym same) (none_done input output old link (recording slow es) refl)
 
 pub returns-in-Err-Journal-clause-does : goal.returns-in-Err-Journal-clause-does

@@ -6,7 +6,8 @@ use Rattle.gd_reference.specs.TakeBack.{with_events}
 use Rattle.gd_node.proofs.sending.send_frames_with.Goals as goal
 
 pub returns-then-is_empty-clause-sends : goal.returns-then-is_empty-clause-sends
-returns-then-is_empty-clause-sends g c slow stands input output journal steps = does_as (tries_none slow c.args.events.now (sym c.if-is_empty.ensures)) (does_nothing _)
+returns-then-is_empty-clause-sends g c slow stands input output journal steps
+    = does_as (tries_none slow c.args.events.now (sym c.if-is_empty.ensures)) (does_nothing _)
 
 pub returns-then-is_empty-clause-takes : goal.returns-then-is_empty-clause-takes
 returns-then-is_empty-clause-takes g c = takes_none _
@@ -14,4 +15,5 @@ returns-then-is_empty-clause-takes g c = takes_none _
 pub returns-clause-sends : goal.returns-clause-sends
 returns-clause-sends g c slow stands input output journal steps =
     let es = c.args.events.now in
-    does_as (tries_some slow es (sym c.if-is_empty.ensures)) (c.send_newest.ensures.sends (with_events slow es) stands input output journal steps)
+    does_as (tries_some slow es (sym c.if-is_empty.ensures))
+    (c.send_newest.ensures.sends (with_events slow es) stands input output journal steps)

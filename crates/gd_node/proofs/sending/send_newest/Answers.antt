@@ -7,7 +7,8 @@ use Rattle.gd_node.proofs.sending.send_newest.Goals as goal
 
 pub loop-before-init : goal.loop-before-init
 loop-before-init g c = record {
-  sends = λ slow stands input output journal steps. along_from _ _ (ap (tries_behind (try_with slow c.args.count) 0) (omega arith));
+  sends = λ slow stands input output journal steps. along_from _ _
+      (ap (tries_behind (try_with slow c.args.count) 0) (omega arith));
   takes = takes_none _;
 }
 
@@ -15,7 +16,8 @@ pub loop-before-preserved : goal.loop-before-preserved
 loop-before-preserved g c = record {
   sends = λ slow stands input output journal steps.
       along_then _ (c.loop-before.invariant.sends slow stands input output journal steps)
-      (λ t. tries_turn (try_with slow c.args.count) c.loop-before.before _ _ (omega (arith, c.sites-before-end.ensures.slow slow stands, c.loop-before-test.true)))
+      (λ t. tries_turn (try_with slow c.args.count) c.loop-before.before _ _
+      (omega (arith, c.sites-before-end.ensures.slow slow stands, c.loop-before-test.true)))
       (c.send_newest_to.ensures.sends slow stands input output journal steps);
   takes = takes_none_then c.loop-before.invariant.takes c.send_newest_to.ensures.takes;
 }
@@ -23,4 +25,5 @@ loop-before-preserved g c = record {
 pub returns-clause-sends : goal.returns-clause-sends
 returns-clause-sends g c slow stands input output journal steps =
     along_done _ (c.loop-before.invariant.sends slow stands input output journal steps)
-    (λ t. tries_end (try_with slow c.args.count) _ _ (omega (arith, c.sites-before-end.ensures.slow slow stands, c.loop-before-test.false)))
+    (λ t. tries_end (try_with slow c.args.count) _ _
+    (omega (arith, c.sites-before-end.ensures.slow slow stands, c.loop-before-test.false)))

@@ -10,8 +10,11 @@ use Rattle.gd_node.proofs.sending.send_newest.Given as goal
 
 abbrev pub invariant-loop-before : goal.invariant-loop-before
 invariant-loop-before g l = record {
-  sends : (slow : SlowSite) → StandsFor slow l.fn.site → (input : SeenSource) (output : SeenSink) (journal : SeenJournal) (steps : ℕ)
-      → Along (outside input output journal (g.N.Link.seen l.fn.link) steps) (tries_behind (try_with slow l.fn.count) 0 slow.sites) (outside input output journal (g.N.Link.seen l.link) steps)
+  sends : (slow : SlowSite) → StandsFor slow l.fn.site
+      → (input : SeenSource) (output : SeenSink) (journal : SeenJournal) (steps : ℕ)
+      → Along (outside input output journal (g.N.Link.seen l.fn.link) steps)
+      (tries_behind (try_with slow l.fn.count) 0 slow.sites)
+      (outside input output journal (g.N.Link.seen l.link) steps)
       (tries_behind (try_with slow l.fn.count) l.before (slow.sites - l.before));
   takes : TakesNone (g.N.Link.seen l.fn.link) (g.N.Link.seen l.link);
 }

@@ -14,13 +14,15 @@ returns-in_default-clause-lines g c slow stands =
 pub returns-in_err-say-clause-prints : goal.returns-in_err-say-clause-prints
 returns-in_err-say-clause-prints g c slow stands input journal link steps =
     does_exit _ c.from_residual.ensures.1
-    (parting_told slow c.args.number c.in-Some.count (sym c.in-Some.is ∙ c.parted.ensures slow stands) c.in_err-say.ensures
+    (parting_told slow c.args.number c.in-Some.count (sym c.in-Some.is ∙ c.parted.ensures slow stands)
+    c.in_err-say.ensures
     input journal link steps)
 
 pub returns-clause-prints : goal.returns-clause-prints
 returns-clause-prints g c slow stands input journal link steps =
     does_ok _
-    (parting_told slow c.args.number c.in-Some.count (sym c.in-Some.is ∙ c.parted.ensures slow stands) c.in_ok-say.ensures
+    (parting_told slow c.args.number c.in-Some.count (sym c.in-Some.is ∙ c.parted.ensures slow stands)
+    c.in_ok-say.ensures
     input journal link steps)
 
 pub returns-clause-lines : goal.returns-clause-lines

@@ -10,7 +10,8 @@ returns-in_err-noted-clause-prints g c slow stands input journal link steps =
 pub returns-in_err-parted-clause-prints : goal.returns-in_err-parted-clause-prints
 returns-in_err-parted-clause-prints g c slow stands input journal link steps =
     does_exit _ c.from_residual-in_err-parted.ensures.1
-    (both_told slow c.args.number (c.in_ok-noted.ensures.prints slow stands) (c.in_err-parted.ensures.prints slow stands)
+    (both_told slow c.args.number (c.in_ok-noted.ensures.prints slow stands)
+    (c.in_err-parted.ensures.prints slow stands)
     input journal link steps)
 
 pub returns-clause-prints : goal.returns-clause-prints
@@ -21,4 +22,5 @@ returns-clause-prints g c slow stands input journal link steps =
 
 pub returns-clause-lines : goal.returns-clause-lines
 returns-clause-lines g c slow stands =
-    both_lines slow c.args.number _ _ (c.in_ok-noted.ensures.lines slow stands) (c.in_ok-parted.ensures.lines slow stands)
+    both_lines slow c.args.number _ _ (c.in_ok-noted.ensures.lines slow stands)
+    (c.in_ok-parted.ensures.lines slow stands)

@@ -12,8 +12,10 @@ reads-preserved g c =
     record {
       whole = read.buffer ∙ before.whole;
       bytes = λ is_told.
-          read-more c.reads.front.items c.extend_from_slice.new.self.items c.read_at.new.buf _ c.in_ok-count.count _ (search rules)
-          (before.bytes (read.stay.contents.was is_told) ∙ ap (λ l. take (length c.reads.front.items) l) (sym (read.stay.contents.now is_told ∙ append-nil _)))
+          read-more c.reads.front.items c.extend_from_slice.new.self.items c.read_at.new.buf _ c.in_ok-count.count _
+          (search rules)
+          (before.bytes (read.stay.contents.was is_told)
+          ∙ ap (λ l. take (length c.reads.front.items) l) (sym (read.stay.contents.now is_told ∙ append-nil _)))
           (c.in_ok-count.ensures.bytes is_told) (search rules) c.in_ok-count.ensures.size;
       stay = stay_then before.stay read.stay;
       name = grows_then before.name read.name;

@@ -12,4 +12,5 @@ returns-clause-log g c =
 -- what is found in bytes in memory is no failed call
 pub returns-clause-called : goal.returns-clause-called
 returns-clause-called g c =
-    called_as (λ failed. absurd ((rw failed at c.log_for.ensures.fault) [] (λ short. absurd cc))) (called_then c.fronts.invariant.called c.in_ok-whole.ensures.called)
+    called_as (λ failed. absurd ((rw failed at c.log_for.ensures.fault) [] (λ short. absurd cc)))
+    (called_then c.fronts.invariant.called c.in_ok-whole.ensures.called)

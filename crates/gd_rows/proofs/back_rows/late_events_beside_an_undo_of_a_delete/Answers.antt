@@ -6,7 +6,8 @@ use Rattle.gd_reference.specs.SlowSite.{SlowSite}
 use Rattle.gd_rows.proofs.ByDrawing.{drawn_compute}
 use Rattle.gd_rows.proofs.Computing.{computing}
 use Rattle.gd_rows.proofs.Turned.{each_site, kept_of, shown_of, site-in, site_in, turn-at, turned-at, turned_drawn}
-use Rattle.gd_rows.specs.WorkedBacks.{late_fill, late_move, late_stroke, lost_backs, restored, restored_text, restoring, site_behind}
+use Rattle.gd_rows.specs.WorkedBacks.{late_fill, late_move, late_stroke, lost_backs, restored, restored_text, restoring}
+use Rattle.gd_rows.specs.WorkedBacks.{site_behind}
 use Rattle.gd_rows.proofs.back_rows.late_events_beside_an_undo_of_a_delete.Goals as goal
 
 pub returns-clause-put_back : goal.returns-clause-put_back

@@ -3,7 +3,8 @@ use Rattle.std.specs.Prelude.{[], ◌∷◌}
 use Rattle.gd_lines.specs.declared.command.Turn.TheVariants.{Undo, Redo}
 use Rattle.gd_rows.proofs.ByDrawing.{drawn_compute}
 use Rattle.gd_rows.proofs.Computing.{computing}
-use Rattle.gd_rows.proofs.Turned.{behind-drawn, dressed-drawn, each_site, kept_of, shown_of, turn-at, turned-at, turned_drawn}
+use Rattle.gd_rows.proofs.Turned.{behind-drawn, dressed-drawn, each_site, kept_of, shown_of, turn-at, turned-at}
+use Rattle.gd_rows.proofs.Turned.{turned_drawn}
 use Rattle.gd_rows.specs.WorkedBacks.{backs_of, dressed_backs, dressed_text, dressing, made_and_taken}
 use Rattle.gd_rows.proofs.back_rows.what_makes_and_takes_objects_is_taken_back.Goals as goal
 

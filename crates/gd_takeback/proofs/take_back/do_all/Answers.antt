@@ -16,14 +16,16 @@ left-init g c =
 pub left-preserved : goal.left-preserved
 left-preserved g c =
     let popped : newest_first c.left.left ≡ unpacked c.in-Some.op ∷ newest_first c.pop.new.self =
-    ap (seen unpacked) (rw c.in-Some.is at c.pop.ensures.items) ∙ seen-more unpacked c.pop.new.self.items c.in-Some.op in
+    ap (seen unpacked) (rw c.in-Some.is at c.pop.ensures.items)
+    ∙ seen-more unpacked c.pop.new.self.items c.in-Some.op in
     let makes = rw c.unpacked.ensures at c.in_ok-turn.ensures.makes in
     let pays = rw c.unpacked.ensures at c.in_ok-turn.ensures.steps in
     λ slow stands may.
     doing-more slow (newest_first c.args.back) c.args.steps.now c.left.steps (making c.left.site c.left.gesture)
     (unpacked c.in-Some.op) (newest_first c.pop.new.self)
     (subst
-    (λ (ops : List Op). Doing slow (newest_first c.args.back) ops c.args.steps.now c.left.steps (making c.left.site c.left.gesture))
+    (λ (ops : List Op). Doing slow (newest_first c.args.back) ops c.args.steps.now c.left.steps
+    (making c.left.site c.left.gesture))
     popped (c.left.invariant slow stands may)) (making c.turn.new.site c.turn.new.self) c.turn.new.steps makes pays
 
 pub returns : goal.returns
@@ -33,5 +35,6 @@ returns g c =
     λ slow stands may.
     doing-end slow (newest_first c.args.back) c.args.steps.now c.left.steps (making c.left.site c.left.gesture)
     (subst
-    (λ (ops : List Op). Doing slow (newest_first c.args.back) ops c.args.steps.now c.left.steps (making c.left.site c.left.gesture))
+    (λ (ops : List Op). Doing slow (newest_first c.args.back) ops c.args.steps.now c.left.steps
+    (making c.left.site c.left.gesture))
     empty (c.left.invariant slow stands may))

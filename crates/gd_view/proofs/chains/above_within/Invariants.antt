@@ -7,4 +7,5 @@ use Rattle.gd_view.proofs.chains.above_within.Given as goal
 
 abbrev pub invariant-loop-turn : goal.invariant-loop-turn
 invariant-loop-turn l =
-    Followed l.most (listed (board_of l.canvas)) l.fn.id l.fn.link (l.most - l.turn) l.sum l.below l.next × Within l.turn l.sum
+    Followed l.most (listed (board_of l.canvas)) l.fn.id l.fn.link (l.most - l.turn) l.sum l.below l.next
+    × Within l.turn l.sum

@@ -8,7 +8,8 @@ use Rattle.gd_view.proofs.listing.shown_items.Given as goal
 
 abbrev pub invariant-loop-level : goal.invariant-loop-level
 invariant-loop-level l =
-    l.items.items ++ filter_map (item_at_level (board_of l.canvas)) l.levels.keys ≡ shown_items (listed (board_of l.canvas))
+    l.items.items ++ filter_map (item_at_level (board_of l.canvas)) l.levels.keys
+    ≡ shown_items (listed (board_of l.canvas))
 
 abbrev pub decreases-loop-level : goal.decreases-loop-level
 decreases-loop-level l = length l.levels.keys

@@ -13,7 +13,8 @@ returns-in_err-sum-clause-above c =
     let g = c.in_ok-group.group.now in
     c.from_residual-in_err-sum.ensures
     ∙ ap (option_map (above_by l g)) (sym c.in_err-sum.was ∙ c.get.ensures)
-    ∙ sum_some (listed (board_of c.args.canvas.now)) c.args.id l g (known c.args.table.now l.parent) (ap option_copied (sym c.in_ok-group.was) ∙ c.group_at.ensures) c.requires.greater
+    ∙ sum_some (listed (board_of c.args.canvas.now)) c.args.id l g (known c.args.table.now l.parent)
+    (ap option_copied (sym c.in_ok-group.was) ∙ c.group_at.ensures) c.requires.greater
 
 pub returns-clause-above : goal.returns-clause-above
 returns-clause-above c =
@@ -21,4 +22,5 @@ returns-clause-above c =
     let g = c.in_ok-group.group.now in
     ap Some c.through.ensures.sum
     ∙ ap (option_map (above_by l g)) (sym c.in_ok-sum.was ∙ c.get.ensures)
-    ∙ sum_some (listed (board_of c.args.canvas.now)) c.args.id l g (known c.args.table.now l.parent) (ap option_copied (sym c.in_ok-group.was) ∙ c.group_at.ensures) c.requires.greater
+    ∙ sum_some (listed (board_of c.args.canvas.now)) c.args.id l g (known c.args.table.now l.parent)
+    (ap option_copied (sym c.in_ok-group.was) ∙ c.group_at.ensures) c.requires.greater

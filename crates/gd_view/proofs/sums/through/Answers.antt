@@ -7,5 +7,6 @@ pub returns-clause-sum : goal.returns-clause-sum
 returns-clause-sum c =
     let g = c.args.group.now in
     c.with_link.ensures.sum
-    ∙ ap (λ p. with_link c.args.sum.now p c.args.link.now g) (c.first_parent-parent.ensures ∙ ap (λ q. first_parent q c.args.sum.now.parent) c.parent_by.ensures)
+    ∙ ap (λ p. with_link c.args.sum.now p c.args.link.now g)
+    (c.first_parent-parent.ensures ∙ ap (λ q. first_parent q c.args.sum.now.parent) c.parent_by.ensures)
     ∙ in_front c.args.link.now g c.args.sum.now

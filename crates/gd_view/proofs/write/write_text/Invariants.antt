@@ -10,4 +10,5 @@ use Rattle.gd_view.proofs.write.write_text.Given as goal
 abbrev pub invariant-loop-item : goal.invariant-loop-item
 invariant-loop-item g l =
     (input : SeenSource) (journal : SeenJournal) (link : SeenLink) (steps : ℕ)
-    → Along (outside input (g.K.Sink.seen l.initial.output) journal link steps) (map Print (lines l.fn.picture)) (outside input (g.K.Sink.seen l.output) journal link steps) (lines_from l.item-index l.fn.picture)
+    → Along (outside input (g.K.Sink.seen l.initial.output) journal link steps) (map Print (lines l.fn.picture))
+    (outside input (g.K.Sink.seen l.output) journal link steps) (lines_from l.item-index l.fn.picture)

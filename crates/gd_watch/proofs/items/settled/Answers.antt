@@ -4,7 +4,9 @@ use Rattle.gd_watch.proofs.ItemLemmas.{no_bytes, nothing_ahead}
 use Rattle.gd_watch.proofs.items.settled.Goals as goal
 
 pub returns-then-is_empty : goal.returns-then-is_empty
-returns-then-is_empty c = nothing_ahead c.args.left c.args.bytes.now (no_bytes c.args.bytes.now (eqb-true (length c.args.bytes.now) 0 (sym c.if-is_empty.ensures)))
+returns-then-is_empty c
+    = nothing_ahead c.args.left c.args.bytes.now
+    (no_bytes c.args.bytes.now (eqb-true (length c.args.bytes.now) 0 (sym c.if-is_empty.ensures)))
 
 pub returns : goal.returns
 returns c =

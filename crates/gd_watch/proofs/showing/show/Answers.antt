@@ -10,14 +10,18 @@ use Rattle.gd_viewing.specs.SlowViewer.{viewed}
 use Rattle.gd_watch.proofs.showing.show.Goals as goal
 
 pub returns-in_err-picture-clause-does : goal.returns-in_err-picture-clause-does
-returns-in_err-picture-clause-does g c slow stands input journal link steps = does_exit {U = Unit {0}} _ c.from_residual.ensures.1 (none_done input _ journal link _ refl)
+returns-in_err-picture-clause-does g c slow stands input journal link steps
+    = does_exit {U = Unit {0}} _ c.from_residual.ensures.1 (none_done input _ journal link _ refl)
 
 pub returns-in_err-write_text-clause-does : goal.returns-in_err-write_text-clause-does
 returns-in_err-write_text-clause-does g c slow stands input journal link steps =
-    does_as (ap (map Print) (lines_of_replies (items (viewed slow)) ∙ ap lines (sym (c.in_ok-picture.ensures slow stands))))
-    (does_exit {U = Unit {0}} _ c.from_residual-in_err-write_text.ensures.1 (c.in_err-write_text.ensures.does input journal link steps))
+    does_as (ap (map Print)
+    (lines_of_replies (items (viewed slow)) ∙ ap lines (sym (c.in_ok-picture.ensures slow stands))))
+    (does_exit {U = Unit {0}} _ c.from_residual-in_err-write_text.ensures.1
+    (c.in_err-write_text.ensures.does input journal link steps))
 
 pub returns-clause-does : goal.returns-clause-does
 returns-clause-does g c slow stands input journal link steps =
-    does_as (ap (map Print) (lines_of_replies (items (viewed slow)) ∙ ap lines (sym (c.in_ok-picture.ensures slow stands))))
+    does_as (ap (map Print)
+    (lines_of_replies (items (viewed slow)) ∙ ap lines (sym (c.in_ok-picture.ensures slow stands))))
     (does_ok Done (c.in_ok-write_text.ensures.does input journal link steps))

@@ -12,7 +12,8 @@ abbrev pub invariant-items : goal.invariant-items
 invariant-items g l = record {
   met : (slow : SlowViewer) × StandsFor slow l.viewer;
   near : l.place + (FRAME_BYTES + 2) * l.left ≤ 2 ^ 40 + (FRAME_BYTES + 2) * most_items;
-  so_far : (slow : SlowViewer) → StandsFor slow l.fn.viewer → (front : List ℕ) → length front ≡ l.fn.place → (journal : SeenJournal) (link : SeenLink)
+  so_far : (slow : SlowViewer) → StandsFor slow l.fn.viewer → (front : List ℕ) → length front ≡ l.fn.place
+      → (journal : SeenJournal) (link : SeenLink)
       → SoFar front slow (outside (g.S.Source.seen l.fn.input) (g.K.Sink.seen l.fn.output) journal link l.fn.steps)
       l.left l.place l.ahead l.viewer (outside (g.S.Source.seen l.input) (g.K.Sink.seen l.output) journal link l.steps);
 }

@@ -3,7 +3,9 @@ use Rattle.gd_watch.proofs.SnapshotLemmas.{ruled-newest, ok_all, err_arrivals, e
 use Rattle.gd_watch.proofs.snapshotting.capture.Goals as goal
 
 pub from_log-requires-clause-rules : goal.from_log-requires-clause-rules
-from_log-requires-clause-rules g c = rw (c.site.ensures.value, c.n.ensures.value, c.session.ensures) (ruled-newest c.args.header.now c.args.events.now c.requires.ruled)
+from_log-requires-clause-rules g c
+    = rw (c.site.ensures.value, c.n.ensures.value, c.session.ensures)
+    (ruled-newest c.args.header.now c.args.events.now c.requires.ruled)
 
 pub returns-in_err-site-clause-err_steps : goal.returns-in_err-site-clause-err_steps
 returns-in_err-site-clause-err_steps g c =
@@ -14,9 +16,12 @@ returns-in_err-site-clause-err_steps g c =
 pub returns-clause-steps : goal.returns-clause-steps
 returns-clause-steps g c =
     let stands = rw (c.site.ensures.value, c.n.ensures.value, c.session.ensures) at c.in_ok-site.ensures.stands in
-    ok_all c.args.header.now c.args.events.now c.args.steps.now c.from_log.new.steps c.snapshot_of.new.steps c.snapshot_of.result c.in_ok-site.ensures.steps (c.snapshot_of.ensures.steps _ stands)
+    ok_all c.args.header.now c.args.events.now c.args.steps.now c.from_log.new.steps c.snapshot_of.new.steps
+    c.snapshot_of.result c.in_ok-site.ensures.steps (c.snapshot_of.ensures.steps _ stands)
 
 pub returns-clause-err_steps : goal.returns-clause-err_steps
 returns-clause-err_steps g c =
     let stands = rw (c.site.ensures.value, c.n.ensures.value, c.session.ensures) at c.in_ok-site.ensures.stands in
-    err_undone c.args.header.now c.args.events.now c.args.steps.now c.from_log.new.steps c.snapshot_of.new.steps c.snapshot_of.result c.in_ok-site.ensures.steps c.snapshot_of.ensures.err_rose (c.snapshot_of.ensures.err_steps _ stands)
+    err_undone c.args.header.now c.args.events.now c.args.steps.now c.from_log.new.steps c.snapshot_of.new.steps
+    c.snapshot_of.result c.in_ok-site.ensures.steps c.snapshot_of.ensures.err_rose
+    (c.snapshot_of.ensures.err_steps _ stands)

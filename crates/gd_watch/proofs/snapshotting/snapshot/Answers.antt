@@ -3,7 +3,8 @@ use Rattle.std.specs.Prelude.{Err}
 use Rattle.gd_outside.specs.Told.{told}
 use Rattle.gd_outside.specs.declared.status.Status.TheVariants.{Done, BadLog}
 use Rattle.gd_effects.specs.Endings.{no_effects}
-use Rattle.gd_effects.proofs.RunEnds.{ends_printed, ends_when, ends_by_read, ends_by_memory, ends_steps, ends_most, status_unread, idle_journal, idle_link}
+use Rattle.gd_effects.proofs.RunEnds.{ends_printed, ends_when, ends_by_read, ends_by_memory, ends_steps, ends_most}
+use Rattle.gd_effects.proofs.RunEnds.{status_unread, idle_journal, idle_link}
 use Rattle.gd_grammar.specs.Drawings.{drawings}
 use Rattle.gd_logs.specs.Logs.{LogIs}
 use Rattle.gd_logs.specs.declared.log.ReadError.TheVariants.{Log}
@@ -15,7 +16,8 @@ use Rattle.gd_watch.proofs.snapshotting.snapshot.Goals as goal
 pub returns-in-Ok-clause-ends : goal.returns-in-Ok-clause-ends
 returns-in-Ok-clause-ends g c = λ journal link.
     rw c.status_of.ensures (ends_when (λ t. tt) (λ t. owes-snapshot _ _ _ (c.in-Ok.ensures.exact t).0)
-    (ends_printed no_effects c.in-Ok.ensures.called.count c.in-Ok.ensures.called.handed.was c.hand_on-done.result Done tt c.hand_on-done.ensures.does))
+    (ends_printed no_effects c.in-Ok.ensures.called.count c.in-Ok.ensures.called.handed.was c.hand_on-done.result Done
+    tt c.hand_on-done.ensures.does))
 
 pub returns-in-Err-Memory-clause-ends : goal.returns-in-Err-Memory-clause-ends
 returns-in-Err-Memory-clause-ends g c = λ journal link.
@@ -28,12 +30,17 @@ returns-in-Err-Log-Read-clause-ends g c = λ journal link.
 
 pub returns-in-Err-Log-Bad-clause-ends : goal.returns-in-Err-Log-Bad-clause-ends
 returns-in-Err-Log-Bad-clause-ends g c = λ journal link.
-    let bad : c.in-Err-Log-Bad.field-0 ≡ Log (Bad c.in-Err-Log-Bad.at c.in-Err-Log-Bad.why) = c.in-Err-Log-Bad.field-0-is ∙ ap Log (rw c.in-Err-Log-Bad.field-0-is at c.in-Err-Log-Bad.field-0-0-is) in
+    let bad : c.in-Err-Log-Bad.field-0
+    ≡ Log (Bad c.in-Err-Log-Bad.at c.in-Err-Log-Bad.why) = c.in-Err-Log-Bad.field-0-is
+    ∙ ap Log (rw c.in-Err-Log-Bad.field-0-is at c.in-Err-Log-Bad.field-0-0-is) in
     rw c.status_of-in-Err-Log-Bad.ensures (ends_when (λ t. tt) (λ t.
-    let h = subst (λ e. LogIs drawings (Err e) (told (g.S.Source.seen c.args.source.now).left)) bad (c.in-Err-Log-Bad.ensures.fault t) in
+    let h = subst (λ e. LogIs drawings (Err e) (told (g.S.Source.seen c.args.source.now).left)) bad
+    (c.in-Err-Log-Bad.ensures.fault t) in
     owes-refusal (told (g.S.Source.seen c.args.source.now).left) c.in-Err-Log-Bad.at c.in-Err-Log-Bad.why h)
-    (ends_printed no_effects c.in-Err-Log-Bad.ensures.called.count c.in-Err-Log-Bad.ensures.called.handed.was c.refuse.result BadLog tt
-    (λ input journal link. rw (c.in-Err-Log-Bad.at-is, c.in-Err-Log-Bad.why-is) at (c.refuse.ensures.does input journal link c.args.steps.now))))
+    (ends_printed no_effects c.in-Err-Log-Bad.ensures.called.count c.in-Err-Log-Bad.ensures.called.handed.was
+    c.refuse.result BadLog tt
+    (λ input journal link. rw (c.in-Err-Log-Bad.at-is, c.in-Err-Log-Bad.why-is) at
+    (c.refuse.ensures.does input journal link c.args.steps.now))))
 
 pub returns-in-Ok-clause-steps : goal.returns-in-Ok-clause-steps
 returns-in-Ok-clause-steps g c = λ is_told uncut.
@@ -44,19 +51,27 @@ returns-in-Ok-clause-most_steps g c = λ is_told.
     ends_most c.status_of.result _ (returns-in-Ok-clause-ends g c idle_journal idle_link) is_told
 
 pub returns-in-Ok-clause-kinds : goal.returns-in-Ok-clause-kinds
-returns-in-Ok-clause-kinds g c = rw c.status_of.ensures (printed_end c.hand_on-done.result Done tt c.hand_on-done.ensures.does)
+returns-in-Ok-clause-kinds g c
+    = rw c.status_of.ensures (printed_end c.hand_on-done.result Done tt c.hand_on-done.ensures.does)
 
 pub returns-in-Ok-clause-silent : goal.returns-in-Ok-clause-silent
-returns-in-Ok-clause-silent g c = silent_by _ c.hand_on-done.result Done c.status_of.ensures tt c.hand_on-done.ensures.does c.hand_on-done.ensures.silent
+returns-in-Ok-clause-silent g c
+    = silent_by _ c.hand_on-done.result Done c.status_of.ensures tt c.hand_on-done.ensures.does
+    c.hand_on-done.ensures.silent
 
 pub returns-in-Ok-clause-unread : goal.returns-in-Ok-clause-unread
-returns-in-Ok-clause-unread g c = λ e. absurd (status_unread c.hand_on-done.result Done tt c.hand_on-done.ensures.does (sym c.status_of.ensures ∙ e))
+returns-in-Ok-clause-unread g c
+    = λ e. absurd (status_unread c.hand_on-done.result Done tt c.hand_on-done.ensures.does
+    (sym c.status_of.ensures ∙ e))
 
 pub returns-in-Err-Log-Bad-clause-kinds : goal.returns-in-Err-Log-Bad-clause-kinds
 returns-in-Err-Log-Bad-clause-kinds g c =
-    rw c.status_of-in-Err-Log-Bad.ensures (printed_end c.refuse.result BadLog tt (λ input journal link. c.refuse.ensures.does input journal link c.args.steps.now))
+    rw c.status_of-in-Err-Log-Bad.ensures
+    (printed_end c.refuse.result BadLog tt
+    (λ input journal link. c.refuse.ensures.does input journal link c.args.steps.now))
 
 pub returns-in-Err-Log-Bad-clause-silent : goal.returns-in-Err-Log-Bad-clause-silent
 returns-in-Err-Log-Bad-clause-silent g c =
-    silent_by _ c.refuse.result BadLog c.status_of-in-Err-Log-Bad.ensures tt (λ input journal link. c.refuse.ensures.does input journal link c.args.steps.now)
+    silent_by _ c.refuse.result BadLog c.status_of-in-Err-Log-Bad.ensures tt
+    (λ input journal link. c.refuse.ensures.does input journal link c.args.steps.now)
     (λ e. absurd (let k = c.refuse.ensures.end _ e in cc))

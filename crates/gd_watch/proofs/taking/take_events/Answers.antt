@@ -19,14 +19,16 @@ take_event-requires-clause-met g c =
 pub take_event-requires-clause-inside : goal.take_event-requires-clause-inside
 take_event-requires-clause-inside g c =
     let is = at_item c.args.events.now c.loop-event.event-index c.event-item.result (omega arith) c.event-item.is in
-    let left : AreInside c.loop-event.viewer.heard.sites (c.event-item.result ∷ drop (c.loop-event.event-index + 1) c.args.events.now) =
+    let left : AreInside c.loop-event.viewer.heard.sites
+    (c.event-item.result ∷ drop (c.loop-event.event-index + 1) c.args.events.now) =
     subst (AreInside c.loop-event.viewer.heard.sites) is c.loop-event.invariant.inside in
     left.0
 
 pub returns-in_err-take_event-clause-does : goal.returns-in_err-take_event-clause-does
 returns-in_err-take_event-clause-does g c slow stands =
     let is = at_item c.args.events.now c.loop-event.event-index c.event-item.result (omega arith) c.event-item.is in
-    onward_exit slow _ (c.loop-event.invariant.onward slow stands) c.event-item.result _ is _ c.from_residual.ensures.1 c.in_err-take_event.ensures.does
+    onward_exit slow _ (c.loop-event.invariant.onward slow stands) c.event-item.result _ is _ c.from_residual.ensures.1
+    c.in_err-take_event.ensures.does
 
 pub loop-event-preserved : goal.loop-event-preserved
 loop-event-preserved g c =
@@ -36,15 +38,19 @@ loop-event-preserved g c =
     let left : AreInside c.loop-event.viewer.heard.sites (e ∷ drop (c.loop-event.event-index + 1) c.args.events.now) =
     subst (AreInside c.loop-event.viewer.heard.sites) is c.loop-event.invariant.inside in
     record {
-      onward = λ slow stands. onward_more slow _ (c.loop-event.invariant.onward slow stands) e _ is taken.does taken.stands;
-      inside = subst (λ (n : ℕ). AreInside n (drop (c.loop-event.event-index + 1) c.args.events.now)) (sym taken.sites) left.1;
+      onward = λ slow stands. onward_more slow _ (c.loop-event.invariant.onward slow stands) e _ is taken.does
+          taken.stands;
+      inside = subst (λ (n : ℕ). AreInside n (drop (c.loop-event.event-index + 1) c.args.events.now)) (sym taken.sites)
+          left.1;
       sites = taken.sites ∙ c.loop-event.invariant.sites;
     }
 
 pub returns-clause-does : goal.returns-clause-does
 returns-clause-does g c slow stands =
-    onward_done slow _ (c.loop-event.invariant.onward slow stands) (drop_of_length-le c.args.events.now (omega (arith, c.loop-event-test.false)))
+    onward_done slow _ (c.loop-event.invariant.onward slow stands)
+    (drop_of_length-le c.args.events.now (omega (arith, c.loop-event-test.false)))
 
 pub returns-clause-stands : goal.returns-clause-stands
 returns-clause-stands g c slow stands =
-    onward_stands slow _ (c.loop-event.invariant.onward slow stands) (drop_of_length-le c.args.events.now (omega (arith, c.loop-event-test.false)))
+    onward_stands slow _ (c.loop-event.invariant.onward slow stands)
+    (drop_of_length-le c.args.events.now (omega (arith, c.loop-event-test.false)))

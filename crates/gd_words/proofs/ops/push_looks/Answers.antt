@@ -7,4 +7,5 @@ returns-then-count-eq1-clause-value c =
 
 pub returns-clause-value : goal.returns-clause-value
 returns-clause-value c =
-    others_line _ _ _ _ _ _ c.count_of-count.ensures c.if-count-eq1.false c.push_command.ensures.value c.push_pairs-2.ensures.value
+    others_line _ _ _ _ _ _ c.count_of-count.ensures c.if-count-eq1.false c.push_command.ensures.value
+    c.push_pairs-2.ensures.value

@@ -13,5 +13,6 @@ returns-in-Create-clause-value c =
     let h : FitsSigned w32 c.in-Create.h = search rules in
     let boxed = simp to_z-of_z at c.push_box.ensures.value in
     rw (c.in-Create.is, c.push_behind.ensures.value, boxed, c.push_shape.ensures.value, c.word.ensures.value)
-    (five_more c.args.text.now (codes "create") (spaced (shape_word c.in-Create.kind)) (two_text c.in-Create.x c.in-Create.y)
+    (five_more c.args.text.now (codes "create") (spaced (shape_word c.in-Create.kind))
+    (two_text c.in-Create.x c.in-Create.y)
     (two_text c.in-Create.w c.in-Create.h) (behind_text c.in-Create.label))

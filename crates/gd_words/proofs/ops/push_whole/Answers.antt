@@ -12,5 +12,11 @@ returns-clause-value c =
     let w : FitsSigned w32 c.args.object.now.w = search rules in
     let h : FitsSigned w32 c.args.object.now.h = search rules in
     let boxed = simp to_z-of_z at c.push_box.ensures.value in
-    rw (c.push_marks.ensures.value, c.push_look.ensures.value, boxed, c.push_ends.ensures.value, c.push_kind.ensures.value)
+    rw (
+      c.push_marks.ensures.value,
+      c.push_look.ensures.value,
+      boxed,
+      c.push_ends.ensures.value,
+      c.push_kind.ensures.value,
+    )
     (eight_more c.args.text.now _ _ _ _ _ _ _ _)

@@ -7,4 +7,5 @@ pub returns-in_err-bytes : goal.returns-in_err-bytes
 returns-in_err-bytes c = rw c.from_residual.ensures (sym (no_label c.args.text.now c.in_err-bytes.ensures.none))
 
 pub returns : goal.returns
-returns c = c.label_of.ensures ∙ ap label_of c.as_slice.ensures.value ∙ sym (the_label c.args.text.now _ c.in_ok-bytes.ensures.fits)
+returns c = c.label_of.ensures ∙ ap label_of c.as_slice.ensures.value
+    ∙ sym (the_label c.args.text.now _ c.in_ok-bytes.ensures.fits)

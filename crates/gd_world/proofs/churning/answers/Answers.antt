@@ -15,7 +15,8 @@ run-requires-clause-ready g c =
 pub returns-in_err-run : goal.returns-in_err-run
 returns-in_err-run g c =
     let steps = c.args.steps.now in
-    plays_exit (churned c.args.seed c.args.count) steps c.run.new.steps _ c.from_residual-in_err-run.result c.from_residual-in_err-run.ensures.1
+    plays_exit (churned c.args.seed c.args.count) steps c.run.new.steps _ c.from_residual-in_err-run.result
+    c.from_residual-in_err-run.ensures.1
     (subst (λ (d : Churning). PaysFront steps d.work c.run.new.steps) (churned_is c.args.seed c.args.count)
     (c.in_err-run.ensures 0 (new_churning c.args.seed) steps (c.in_ok-churning.ensures steps)))
 

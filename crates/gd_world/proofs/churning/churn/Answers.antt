@@ -13,8 +13,10 @@ pub returns-clause-ends : goal.returns-clause-ends
 returns-clause-ends g c input journal link =
     let a = outside input (g.K.Sink.seen c.args.output.now) journal link c.args.steps.now in
     let b = outside input (g.K.Sink.seen c.play-run.new.output) journal link c.play-run.new.steps in
-    subst (λ (s : Status). EndsAs (Unit {0}) (churn_effects c.args.seed c.args.count) no_effects Done s a b) (sym c.status_of.ensures)
+    subst (λ (s : Status). EndsAs (Unit {0}) (churn_effects c.args.seed c.args.count) no_effects Done s a b)
+    (sym c.status_of.ensures)
     (ends_printed no_effects (omega arith) (λ t. t) c.play-run.result Done tt c.play-run.ensures.does)
 
 pub returns-clause-kinds : goal.returns-clause-kinds
-returns-clause-kinds g c = subst IsChurnEnd (sym c.status_of.ensures) (churn_end c.play-run.result c.play-run.ensures.does)
+returns-clause-kinds g c
+    = subst IsChurnEnd (sym c.status_of.ensures) (churn_end c.play-run.result c.play-run.ensures.does)

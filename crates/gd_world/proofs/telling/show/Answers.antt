@@ -9,9 +9,11 @@ loop-item-init c = c.new-replies.ensures
 
 pub loop-item-preserved : goal.loop-item-preserved
 loop-item-preserved c =
-    items_next reply.Item c.as_slice-items.result.now c.loop-item.item-index c.loop-item.replies c.loop-item.invariant _ c.item-item.result _ (ap reply.Item c.in_ok-shared.ensures) c.item-item.is (omega arith) c.in_ok-push.ensures
+    items_next reply.Item c.as_slice-items.result.now c.loop-item.item-index c.loop-item.replies c.loop-item.invariant _
+    c.item-item.result _ (ap reply.Item c.in_ok-shared.ensures) c.item-item.is (omega arith) c.in_ok-push.ensures
 
 pub returns-clause-ok : goal.returns-clause-ok
 returns-clause-ok c slow stands =
-    items_all reply.Item c.as_slice-items.result.now c.loop-item.item-index c.loop-item.replies c.loop-item.invariant _ (omega arith) c.in_ok-push-2.ensures
+    items_all reply.Item c.as_slice-items.result.now c.loop-item.item-index c.loop-item.replies c.loop-item.invariant _
+    (omega arith) c.in_ok-push-2.ensures
     ∙ ap item_replies (c.as_slice-items.ensures ∙ c.in_ok-picture.ensures slow stands)

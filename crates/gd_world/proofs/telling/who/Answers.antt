@@ -13,4 +13,6 @@ loop-before-preserved c slow stands =
 
 pub returns-clause-ok : goal.returns-clause-ok
 returns-clause-ok c slow stands =
-    up_to_all slow c.loop-before.before c.loop-before.replies (c.loop-before.invariant slow stands) _ _ (omega (arith, c.sites-before-end.ensures.slow slow stands, c.loop-before-test.false)) (ap length c.as_slice.ensures) c.in_ok-push.ensures
+    up_to_all slow c.loop-before.before c.loop-before.replies (c.loop-before.invariant slow stands) _ _
+    (omega (arith, c.sites-before-end.ensures.slow slow stands, c.loop-before-test.false))
+    (ap length c.as_slice.ensures) c.in_ok-push.ensures

@@ -19,7 +19,8 @@ returns-in-Create-clause-board c =
     let found = Create k.is_made k.id k.new k.label in
     let label = brought c.args.spare c.args.kept.now found k.is c.requires.spare in
     c.create.ensures.board
-    ∙ ap (λ o. board_with (Puts s o []) b) (c.shape.ensures ∙ ap (λ (l : List ℕ). new_shape s k.new.kind k.new.x k.new.y k.new.w k.new.h l) label)
+    ∙ ap (λ o. board_with (Puts s o []) b)
+    (c.shape.ensures ∙ ap (λ (l : List ℕ). new_shape s k.new.kind k.new.x k.new.y k.new.w k.new.h l) label)
     ∙ applied_kept s c.args.kept.now found b k.is
 
 pub returns-in-Connect-clause-board : goal.returns-in-Connect-clause-board

@@ -10,10 +10,12 @@ use Rattle.gd_canvas.proofs.canvas.Canvas.disband.Goals as goal
 pub returns-clause-board : goal.returns-clause-board
 returns-clause-board c =
     c.takes.ensures.board
-    ∙ ap (λ ts. board_with (Takes c.args.id ts) (board_of c.args.self.now)) (c.ties.ensures.ties ∙ c.fill_taken.ensures.ties)
+    ∙ ap (λ ts. board_with (Takes c.args.id ts) (board_of c.args.self.now))
+    (c.ties.ensures.ties ∙ c.fill_taken.ensures.ties)
 
 pub returns-clause-before : goal.returns-clause-before
 returns-clause-before c =
     let b = board_of c.args.self.now in
     ap (of_taken c.args.id c.fill_taken.new.tied.olds) c.takes.ensures.object
-    ∙ taken_before c.args.id (map_of.get b c.args.id) c.args.tied.now.ties c.fill_taken.new.tied.olds (map_of.get b) c.fill_taken.ensures.olds
+    ∙ taken_before c.args.id (map_of.get b c.args.id) c.args.tied.now.ties c.fill_taken.new.tied.olds (map_of.get b)
+    c.fill_taken.ensures.olds

@@ -19,4 +19,5 @@ pub returns-clause-before : goal.returns-clause-before
 returns-clause-before c =
     let b = board_of c.args.self.now in
     ap (of_made c.puts.result c.args.id) c.fill_of.ensures.olds
-    ∙ made_before c.args.id (map_of.get b c.args.id) (old_ties (own_ties c.args.object.kind c.args.tied.now.ties) (map_of.get b)) c.puts.result c.puts.ensures.made
+    ∙ made_before c.args.id (map_of.get b c.args.id)
+    (old_ties (own_ties c.args.object.kind c.args.tied.now.ties) (map_of.get b)) c.puts.result c.puts.ensures.made

@@ -1,6 +1,7 @@
 use Rattle.std.proofs.Common.{◌∷◌, [], ◌++◌, codes}
 use Rattle.std.specs.Prelude.{decimal}
-use Rattle.gd_json.specs.Parts.{align_field, colour_json, colour_or_null, dash_field, heads_field, letters_field, opacity_field}
+use Rattle.gd_json.specs.Parts.{align_field, colour_json, colour_or_null, dash_field, heads_field, letters_field}
+use Rattle.gd_json.specs.Parts.{opacity_field}
 use Rattle.gd_json.specs.Parts.{round_field}
 use Rattle.gd_json.specs.Values.{Field}
 use Rattle.gd_export.proofs.Puts.{put_then}

@@ -6,10 +6,14 @@ pub piece-init : goal.piece-init
 piece-init g c = waiting-start g.P.Piece.read c.args.least c.args.self.now _ c.requires.few
 
 pub returns-in-Ok-clause-part : goal.returns-in-Ok-clause-part
-returns-in-Ok-clause-part g c = waiting-taken c.args.least g.P.Piece.least c.in-Ok.piece c.piece.invariant c.in-Ok.ensures.are c.in-Ok.ensures.stands c.in-Ok.ensures.moved
+returns-in-Ok-clause-part g c
+    = waiting-taken c.args.least g.P.Piece.least c.in-Ok.piece c.piece.invariant c.in-Ok.ensures.are
+    c.in-Ok.ensures.stands c.in-Ok.ensures.moved
 
 pub returns-in-Ok-clause-few : goal.returns-in-Ok-clause-few
-returns-in-Ok-clause-few g c = waiting-few c.args.least g.P.Piece.least c.in-Ok.piece c.take.new.self.ahead c.piece.invariant c.in-Ok.ensures.stands
+returns-in-Ok-clause-few g c
+    = waiting-few c.args.least g.P.Piece.least c.in-Ok.piece c.take.new.self.ahead c.piece.invariant
+    c.in-Ok.ensures.stands
 
 pub piece-preserved : goal.piece-preserved
 piece-preserved g c =
@@ -20,4 +24,5 @@ pub returns-in_err-read_on-in-Err-clause-part : goal.returns-in_err-read_on-in-E
 returns-in_err-read_on-in-Err-clause-part g c =
     let p = err_from_is_err_and c.from_residual.result c.from_residual.ensures.1 in
     let on = rw c.in-Err.ensures.stays at c.in_err-read_on-in-Err.ensures in
-    rw (p.1, p.2) (waiting-stops c.args.least g.P.Piece.least c.in-Err.fault _ g.met.P.Piece.laws c.in-Err.ensures.fault c.piece.invariant on)
+    rw (p.1, p.2) (waiting-stops c.args.least g.P.Piece.least c.in-Err.fault _ g.met.P.Piece.laws c.in-Err.ensures.fault
+    c.piece.invariant on)

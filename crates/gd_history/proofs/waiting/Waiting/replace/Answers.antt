@@ -1,5 +1,6 @@
 use Rattle.std.proofs.Common.{◌+◌, ◌∙◌, ap}
-use Rattle.gd_history.proofs.Waited.{in_front, taken-others, taken-fewer, same-awaited, same-reached, put-awaited, kept-awaited, put-reached, waits-from}
+use Rattle.gd_history.proofs.Waited.{in_front, taken-others, taken-fewer, same-awaited, same-reached, put-awaited}
+use Rattle.gd_history.proofs.Waited.{kept-awaited, put-reached, waits-from}
 use Rattle.gd_history.proofs.waiting.Waiting.replace.Goals as goal
 
 pub returns-in-Some-clause-sought : goal.returns-in-Some-clause-sought

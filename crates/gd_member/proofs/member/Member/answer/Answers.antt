@@ -1,7 +1,8 @@
 use Rattle.std.proofs.Common.{refl, subst, ◌∙◌, ap}
 use Rattle.std.specs.Prelude.{Ok, Err}
 use Rattle.gd_lines.specs.declared.command.Command.{Command}
-use Rattle.gd_member.proofs.Typed.{answers_command, answers_other, answers_read, answers_refused, fault_refuses, polls_nothing}
+use Rattle.gd_member.proofs.Typed.{answers_command, answers_other, answers_read, answers_refused, fault_refuses}
+use Rattle.gd_member.proofs.Typed.{polls_nothing}
 use Rattle.gd_reference.specs.NodeRun.{IsRead}
 use Rattle.gd_member.proofs.member.Member.answer.Goals as goal
 

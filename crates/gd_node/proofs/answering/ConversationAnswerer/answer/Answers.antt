@@ -20,11 +20,13 @@ returns-in_err-self g c =
     let read = c.requires.read in
     let ranged = read_ranged read.bytes (c.what_is_read_is_in_range.ensures.line read.bytes) c.args.line read.is in
     carries_exit _ c.from_residual.ensures.1
-    (carries_state (Err c.in_err-self.field-0.0) c.args.line ranged _ _ c.take-waiting.result c.take-waiting.ensures.value c.in_err-self.ensures.carries tt)
+    (carries_state (Err c.in_err-self.field-0.0) c.args.line ranged _ _ c.take-waiting.result
+    c.take-waiting.ensures.value c.in_err-self.ensures.carries tt)
 
 pub returns : goal.returns
 returns g c =
     let read = c.requires.read in
     let ranged = read_ranged read.bytes (c.what_is_read_is_in_range.ensures.line read.bytes) c.args.line read.is in
     carries_ok tt
-    (carries_state (Ok c.in_ok-self.field-0) c.args.line ranged _ _ c.take-waiting.result c.take-waiting.ensures.value c.in_ok-self.ensures.carries c.in_ok-self.ensures.waits)
+    (carries_state (Ok c.in_ok-self.field-0) c.args.line ranged _ _ c.take-waiting.result c.take-waiting.ensures.value
+    c.in_ok-self.ensures.carries c.in_ok-self.ensures.waits)

@@ -9,4 +9,5 @@ pub returns : goal.returns
 returns c =
     let inside = c.self.invariant in
     rw (← c.self.view_is)
-    (ap (λ (l : List Asked). l ++ replicate c.self.inside.over (Err GestureFull)) (sym (first_waiting c.self.inside.asked.items c.self.inside.over inside.0 inside.1)))
+    (ap (λ (l : List Asked). l ++ replicate c.self.inside.over (Err GestureFull))
+    (sym (first_waiting c.self.inside.asked.items c.self.inside.over inside.0 inside.1)))

@@ -8,11 +8,13 @@ judge_accepted-requires c = checked_none _ c.in_default.field-0 (sym c.in_defaul
 
 pub returns-clause-stored : goal.returns-clause-stored
 returns-clause-stored c =
-    stored_accepted c.args.self.now c.args.frame.now c.in_default.field-0 c.in_default.ensures.checked _ c.judge_accepted.ensures
+    stored_accepted c.args.self.now c.args.frame.now c.in_default.field-0 c.in_default.ensures.checked _
+    c.judge_accepted.ensures
 
 pub returns-clause-slow : goal.returns-clause-slow
 returns-clause-slow c = λ slow stands.
-    stored_accepted c.args.self.now c.args.frame.now c.in_default.field-0 c.in_default.ensures.checked _ c.judge_accepted.ensures
+    stored_accepted c.args.self.now c.args.frame.now c.in_default.field-0 c.in_default.ensures.checked _
+    c.judge_accepted.ensures
     ∙ verdict_is slow c.args.self.now stands c.args.frame.now c.in_default.ensures.frame
 
 pub returns-in-Err-clause-stored : goal.returns-in-Err-clause-stored

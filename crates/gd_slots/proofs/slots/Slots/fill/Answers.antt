@@ -10,7 +10,8 @@ returns-clause-board g c =
     elim c.match-get_mut.branch [
       | in-Some w ↦
           ap (λ i. board_of i.entries.entries) w.self-inside-is
-          ∙ slot_written _ _ _ c.args.id _ _ (λ x. Some (unwrap_or x c.args.new)) c.self.view_is w.in-Some.ensures.value (c.get_mut.follows.holds w.fill_slot.new.slot).0 w.fill_slot.ensures.value
+          ∙ slot_written _ _ _ c.args.id _ _ (λ x. Some (unwrap_or x c.args.new)) c.self.view_is w.in-Some.ensures.value
+          (c.get_mut.follows.holds w.fill_slot.new.slot).0 w.fill_slot.ensures.value
           ∙ filled (board_of c.args.self.now) c.args.id c.args.new
       | in-None w ↦ absurd (no_slot _ _ c.args.id c.self.view_is w.in-None.ensures.value c.requires)
     ]
@@ -18,6 +19,7 @@ returns-clause-board g c =
 pub returns-clause-filled : goal.returns-clause-filled
 returns-clause-filled g c =
     elim c.match-get_mut.branch [
-      | in-Some w ↦ w.result-is ∙ w.fill_slot.ensures.filled ∙ ap (λ x. not (is_some x)) (slot_holds _ _ c.args.id _ c.self.view_is w.in-Some.ensures.value)
+      | in-Some w ↦ w.result-is ∙ w.fill_slot.ensures.filled
+          ∙ ap (λ x. not (is_some x)) (slot_holds _ _ c.args.id _ c.self.view_is w.in-Some.ensures.value)
       | in-None w ↦ absurd (no_slot _ _ c.args.id c.self.view_is w.in-None.ensures.value c.requires)
     ]

@@ -9,7 +9,8 @@ use Rattle.gd_takeback.proofs.back_list.BackList.keep.Goals.{then-len-eq-MOST_BA
 pub returns : goal.returns
 returns c =
     let items = c.self.inside.gestures.items in
-    let room : seen newest_first c.if-len-eq-MOST_BACKS.self-inside.gestures.items ≡ take 1023 (seen newest_first items) =
+    let room : seen newest_first c.if-len-eq-MOST_BACKS.self-inside.gestures.items
+    ≡ take 1023 (seen newest_first items) =
     elim c.if-len-eq-MOST_BACKS.branch [
       | then-len-eq-MOST_BACKS w ↦
           rw (w.self-inside-is, w.drop_oldest.ensures.items) (seen-full newest_first 1023 items (omega arith))

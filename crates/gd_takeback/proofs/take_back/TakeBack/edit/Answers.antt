@@ -8,7 +8,8 @@ use Rattle.gd_takeback.proofs.take_back.TakeBack.edit.Goals as goal
 
 pub accept-requires : goal.accept-requires
 accept-requires g c =
-    decided_is_own c.args.site.now c.args.edit.now c.in_ok-event.event (sym c.decide.ensures.decided ∙ c.in_ok-event.was)
+    decided_is_own c.args.site.now c.args.edit.now c.in_ok-event.event
+    (sym c.decide.ensures.decided ∙ c.in_ok-event.was)
 
 pub returns-clause-stands : goal.returns-clause-stands
 returns-clause-stands g c slow stands =

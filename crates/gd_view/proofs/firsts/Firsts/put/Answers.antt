@@ -13,4 +13,6 @@ returns-in_ok-insert-in-Some-clause-old c =
     ∙ ap (first_in c.args.self.now) (sym c.in-Some.is)
 
 pub returns-in_ok-insert-in-Some-clause-new : goal.returns-in_ok-insert-in-Some-clause-new
-returns-in_ok-insert-in-Some-clause-new c = put_in_group c.args.self.now (record { top = c.args.self.now.top; groups = c.insert.new.self }) c.in-Some.parent c.args.place c.args.parent refl c.in-Some.is c.in_ok-insert-in-Some.ensures.updates.0
+returns-in_ok-insert-in-Some-clause-new c
+    = put_in_group c.args.self.now (record { top = c.args.self.now.top; groups = c.insert.new.self }) c.in-Some.parent
+    c.args.place c.args.parent refl c.in-Some.is c.in_ok-insert-in-Some.ensures.updates.0

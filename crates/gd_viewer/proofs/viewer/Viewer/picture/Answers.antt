@@ -14,4 +14,5 @@ of-requires c = rw c.document.ensures (drawing_few c.self.invariant.slow _ c.sel
 pub returns : goal.returns
 returns c =
     rw (← c.self.view_is) (λ slow stands.
-    subst (λ (d : Drawing). IfOk c.of.result (λ p. p ≡ items d)) (ap (λ (x : Slots). listed (board_of x)) c.document.ensures ∙ drawing_is slow _ stands) c.of.ensures)
+    subst (λ (d : Drawing). IfOk c.of.result (λ p. p ≡ items d))
+    (ap (λ (x : Slots). listed (board_of x)) c.document.ensures ∙ drawing_is slow _ stands) c.of.ensures)

@@ -4,7 +4,8 @@ use Rattle.gd_history.specs.Histories.{arrival_of}
 use Rattle.gd_repair.specs.Repair.{cost}
 use Rattle.gd_stable.specs.Heard.{with_taken}
 use Rattle.gd_viewer.proofs.Standing.{outcome_is, viewer_same}
-use Rattle.gd_viewer.proofs.Taking.{above_line, is_fresh, is_later, has_room, some_taken, taken_above, taken_is_viewer, taken_line, taken_stands}
+use Rattle.gd_viewer.proofs.Taking.{above_line, is_fresh, is_later, has_room, some_taken, taken_above, taken_is_viewer}
+use Rattle.gd_viewer.proofs.Taking.{taken_line, taken_stands}
 use Rattle.gd_viewer.proofs.viewer.Viewer.take.Goals as goal
 
 pub arrive-requires-clause-above : goal.arrive-requires-clause-above
@@ -24,7 +25,8 @@ arrive-requires-clause-fresh g c =
 pub invariant_of-self : goal.invariant_of-self
 invariant_of-self g c =
     let e = c.in_err-arrival.ensures in
-    viewer_same _ c.self.invariant c.arrive.new.self (record { entries = e.err_entries; document = e.err_document; line = e.line })
+    viewer_same _ c.self.invariant c.arrive.new.self
+    (record { entries = e.err_entries; document = e.err_document; line = e.line })
 
 pub took-requires-clause-site : goal.took-requires-clause-site
 took-requires-clause-site g c =
@@ -109,11 +111,17 @@ returns-clause-answer g c =
     let inside = rw (← c.self.view_is) at c.requires.inside in
     let next = rw (← c.self.view_is) at c.requires.next in
     let e = rw (c.stamp-stamp.ensures, c.in_ok-kept.ensures, c.op.ensures.op) at c.in_ok-arrival.ensures in
-    rw (← c.self.view_is) (λ slow stands. e.outcome ∙ ap arrival_of (outcome_is slow _ stands c.args.event (taken_above _ c.args.event c.op.ensures.sound inside next slow stands)))
+    rw (← c.self.view_is)
+    (λ slow stands. e.outcome
+    ∙ ap arrival_of (outcome_is slow _ stands c.args.event
+    (taken_above _ c.args.event c.op.ensures.sound inside next slow stands)))
 
 pub returns-clause-steps : goal.returns-clause-steps
 returns-clause-steps g c =
     let inside = rw (← c.self.view_is) at c.requires.inside in
     let next = rw (← c.self.view_is) at c.requires.next in
     let e = rw (c.stamp-stamp.ensures, c.in_ok-kept.ensures, c.op.ensures.op) at c.in_ok-arrival.ensures in
-    rw (← c.self.view_is) (λ slow stands. e.steps ∙ ap (λ o. c.args.steps.now + cost o) (outcome_is slow _ stands c.args.event (taken_above _ c.args.event c.op.ensures.sound inside next slow stands)))
+    rw (← c.self.view_is)
+    (λ slow stands. e.steps
+    ∙ ap (λ o. c.args.steps.now + cost o)
+    (outcome_is slow _ stands c.args.event (taken_above _ c.args.event c.op.ensures.sound inside next slow stands)))

@@ -8,4 +8,10 @@ returns-clause-bytes c =
     let fy : FitsSigned w32 c.args.object.now.y = search rules in
     let fw : FitsSigned w32 c.args.object.now.w = search rules in
     let fh : FitsSigned w32 c.args.object.now.h = search rules in
-    rw (c.put_signed-4.ensures.bytes, c.put_signed-3.ensures.bytes, c.put_signed-2.ensures.bytes, c.put_signed.ensures.bytes, c.put_kind.ensures.bytes) (simp (to_z-of_z, append_assoc))
+    rw (
+      c.put_signed-4.ensures.bytes,
+      c.put_signed-3.ensures.bytes,
+      c.put_signed-2.ensures.bytes,
+      c.put_signed.ensures.bytes,
+      c.put_kind.ensures.bytes,
+    ) (simp (to_z-of_z, append_assoc))

@@ -24,4 +24,5 @@ returns-clause-bytes c =
 
 pub returns-clause-grown : goal.returns-clause-grown
 returns-clause-grown c =
-    rw (returns-clause-bytes c) (omega (arith, look-length c.args.look.now, length-append c.args.self.now (look_bytes c.args.look.now)))
+    rw (returns-clause-bytes c)
+    (omega (arith, look-length c.args.look.now, length-append c.args.self.now (look_bytes c.args.look.now)))

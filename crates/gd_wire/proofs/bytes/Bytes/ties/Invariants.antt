@@ -5,6 +5,7 @@ use Rattle.gd_wire.proofs.bytes.Bytes.ties.Given as goal
 
 abbrev pub invariant-each : goal.invariant-each
 invariant-each l = record {
-  reading : Reading (tie_at l.stamp) (λ t. Some t.id) (ties_at l.count l.stamp None l.fn.self) (l.count - l.counter) l.last l.ties l.self;
+  reading : Reading (tie_at l.stamp) (λ t. Some t.id) (ties_at l.count l.stamp None l.fn.self) (l.count - l.counter)
+      l.last l.ties l.self;
   so_many : length l.ties ≡ l.counter;
 }

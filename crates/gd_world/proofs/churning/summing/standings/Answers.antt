@@ -10,7 +10,8 @@ pub loop-before-preserved : goal.loop-before-preserved
 loop-before-preserved c w stands =
     let site = c.loop-before.before + 1 in
     c.in_ok-push.ensures
-    ∙ ap₂ (λ (rs : List Reply) (status : SiteStatus). rs ++ reply.SiteLine site status ∷ []) (c.loop-before.invariant w stands) (c.status-status.ensures (w.at site) (c.site.ensures.stands w stands))
+    ∙ ap₂ (λ (rs : List Reply) (status : SiteStatus). rs ++ reply.SiteLine site status ∷ [])
+    (c.loop-before.invariant w stands) (c.status-status.ensures (w.at site) (c.site.ensures.stands w stands))
     ∙ four_more (site_reply w) c.loop-before.before c.loop-before-test.true
 
 pub returns : goal.returns

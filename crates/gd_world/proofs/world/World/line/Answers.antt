@@ -11,10 +11,13 @@ invariant_of-self-else-is_err g c =
     let i = has_site _ c.args.self.now c.self.view_is c.args.site inside c.self.invariant in
     let told = c.tell-told.ensures (i.world.at c.args.site)
     (asked_stands i.world _ c.args.self.now c.self.view_is i.stands c.args.site inside
-    c.args.command.now c.requires c.from.result c.from.ensures c.index_mut-member.result.now c.index_mut-member.ensures.value) in
+    c.args.command.now c.requires c.from.result c.from.ensures c.index_mut-member.result.now
+    c.index_mut-member.ensures.value) in
     inl (line_kept i.world _ c.args.self.now c.self.view_is i.stands c.args.site inside
-    c.args.command.now c.requires c.from.result c.from.ensures c.index_mut-member.result.now c.index_mut-member.ensures.value
-    c.tell-told.new.member c.tell-told.result c.args.steps.now c.tell-told.new.steps told (sym c.is_err.ensures.value ∙ c.if-is_err.false))
+    c.args.command.now c.requires c.from.result c.from.ensures c.index_mut-member.result.now
+    c.index_mut-member.ensures.value
+    c.tell-told.new.member c.tell-told.result c.args.steps.now c.tell-told.new.steps told
+    (sym c.is_err.ensures.value ∙ c.if-is_err.false))
 
 -- ---- where memory ran out
 
@@ -24,9 +27,11 @@ returns-then-is_err-clause-answer g c w st =
     let stands = subst (StandsFor w) (sym c.self.view_is) st in
     let told = c.tell-told.ensures (w.at c.args.site)
     (asked_stands w _ c.args.self.now c.self.view_is stands c.args.site inside
-    c.args.command.now c.requires c.from.result c.from.ensures c.index_mut-member.result.now c.index_mut-member.ensures.value) in
+    c.args.command.now c.requires c.from.result c.from.ensures c.index_mut-member.result.now
+    c.index_mut-member.ensures.value) in
     line_is w _ c.args.self.now c.self.view_is stands c.args.site inside
-    c.args.command.now c.requires c.from.result c.from.ensures c.index_mut-member.result.now c.index_mut-member.ensures.value
+    c.args.command.now c.requires c.from.result c.from.ensures c.index_mut-member.result.now
+    c.index_mut-member.ensures.value
     c.tell-told.new.member c.tell-told.result c.args.steps.now c.tell-told.new.steps told
 
 pub returns-then-is_err-clause-comes : goal.returns-then-is_err-clause-comes
@@ -35,9 +40,11 @@ returns-then-is_err-clause-comes g c w st =
     let stands = subst (StandsFor w) (sym c.self.view_is) st in
     let told = c.tell-told.ensures (w.at c.args.site)
     (asked_stands w _ c.args.self.now c.self.view_is stands c.args.site inside
-    c.args.command.now c.requires c.from.result c.from.ensures c.index_mut-member.result.now c.index_mut-member.ensures.value) in
+    c.args.command.now c.requires c.from.result c.from.ensures c.index_mut-member.result.now
+    c.index_mut-member.ensures.value) in
     line_comes w _ c.args.self.now c.self.view_is stands c.args.site inside
-    c.args.command.now c.requires c.from.result c.from.ensures c.index_mut-member.result.now c.index_mut-member.ensures.value
+    c.args.command.now c.requires c.from.result c.from.ensures c.index_mut-member.result.now
+    c.index_mut-member.ensures.value
     c.tell-told.new.member c.tell-told.result c.args.steps.now c.tell-told.new.steps told _
     (on_err _ c.tell-told.result (sym c.is_err.ensures.value ∙ c.if-is_err.true))
 
@@ -49,9 +56,11 @@ returns-else-is_err-clause-answer g c w st =
     let stands = subst (StandsFor w) (sym c.self.view_is) st in
     let told = c.tell-told.ensures (w.at c.args.site)
     (asked_stands w _ c.args.self.now c.self.view_is stands c.args.site inside
-    c.args.command.now c.requires c.from.result c.from.ensures c.index_mut-member.result.now c.index_mut-member.ensures.value) in
+    c.args.command.now c.requires c.from.result c.from.ensures c.index_mut-member.result.now
+    c.index_mut-member.ensures.value) in
     line_is w _ c.args.self.now c.self.view_is stands c.args.site inside
-    c.args.command.now c.requires c.from.result c.from.ensures c.index_mut-member.result.now c.index_mut-member.ensures.value
+    c.args.command.now c.requires c.from.result c.from.ensures c.index_mut-member.result.now
+    c.index_mut-member.ensures.value
     c.tell-told.new.member c.tell-told.result c.args.steps.now c.tell-told.new.steps told
 
 pub returns-else-is_err-clause-comes : goal.returns-else-is_err-clause-comes
@@ -60,7 +69,10 @@ returns-else-is_err-clause-comes g c w st =
     let stands = subst (StandsFor w) (sym c.self.view_is) st in
     let told = c.tell-told.ensures (w.at c.args.site)
     (asked_stands w _ c.args.self.now c.self.view_is stands c.args.site inside
-    c.args.command.now c.requires c.from.result c.from.ensures c.index_mut-member.result.now c.index_mut-member.ensures.value) in
+    c.args.command.now c.requires c.from.result c.from.ensures c.index_mut-member.result.now
+    c.index_mut-member.ensures.value) in
     line_comes w _ c.args.self.now c.self.view_is stands c.args.site inside
-    c.args.command.now c.requires c.from.result c.from.ensures c.index_mut-member.result.now c.index_mut-member.ensures.value
-    c.tell-told.new.member c.tell-told.result c.args.steps.now c.tell-told.new.steps told _ (on_ok c.tell-told.result refl)
+    c.args.command.now c.requires c.from.result c.from.ensures c.index_mut-member.result.now
+    c.index_mut-member.ensures.value
+    c.tell-told.new.member c.tell-told.result c.args.steps.now c.tell-told.new.steps told _
+    (on_ok c.tell-told.result refl)

@@ -8,10 +8,13 @@ invariant_of-result c =
     let ranged : c.args.session < 2 ^ 32 = search rules in
     inl (record {
       world = start c.args.n c.args.session;
-      stands = rw c.new.ensures (stands_new c.args.n c.args.session c.in_ok-members.members.items c.requires.from c.requires.to ranged c.in_ok-members.ensures);
+      stands = rw c.new.ensures
+          (stands_new c.args.n c.args.session c.in_ok-members.members.items c.requires.from c.requires.to ranged
+          c.in_ok-members.ensures);
     })
 
 pub returns : goal.returns
 returns c =
     let ranged : c.args.session < 2 ^ 32 = search rules in
-    rw c.new.ensures (stands_new c.args.n c.args.session c.in_ok-members.members.items c.requires.from c.requires.to ranged c.in_ok-members.ensures)
+    rw c.new.ensures (stands_new c.args.n c.args.session c.in_ok-members.members.items c.requires.from c.requires.to
+    ranged c.in_ok-members.ensures)

@@ -10,5 +10,6 @@ invariant-loop-mark l =
     let pieces = l.self-inside.pieces.items in
     record {
       left : l.start + marks_size marks ≡ length pieces;
-      shot : fold shot_after l.shot (calls_of marks (drop l.start pieces)) ≡ fold shot_after (first_shot l.k l.fill) l.self.calls;
+      shot : fold shot_after l.shot (calls_of marks (drop l.start pieces))
+          ≡ fold shot_after (first_shot l.k l.fill) l.self.calls;
     }

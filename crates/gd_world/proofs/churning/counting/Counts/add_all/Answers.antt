@@ -8,7 +8,8 @@ add-requires c = let r = c.requires in (r.0 + c.loop-reply.reply-index, c.loop-r
 
 pub loop-reply-preserved : goal.loop-reply-preserved
 loop-reply-preserved c = record {
-  counted = counted_more _ _ _ _ with_reply _ _ _ c.loop-reply-test.true c.reply-item.is c.loop-reply.invariant.counted c.add.ensures.counted;
+  counted = counted_more _ _ _ _ with_reply _ _ _ c.loop-reply-test.true c.reply-item.is c.loop-reply.invariant.counted
+      c.add.ensures.counted;
   few = λ most few. few_as _ (omega arith) (c.add.ensures.few _ (c.loop-reply.invariant.few most few));
 }
 

@@ -11,7 +11,8 @@ pub returns-in_err-steps : goal.returns-in_err-steps
 returns-in_err-steps g c lines slow before follows =
     let played = times c.args.count stepped slow in
     gets_exit _ _ _ c.from_residual.result c.from_residual.ensures.1
-    (grows_then (to_all_grows (4 + c.args.count) played) (grows_round (rounds_to_all (4 + c.args.count) played))) (c.in_err-steps.ensures lines slow before follows)
+    (grows_then (to_all_grows (4 + c.args.count) played) (grows_round (rounds_to_all (4 + c.args.count) played)))
+    (c.in_err-steps.ensures lines slow before follows)
 
 pub rounds_to_all-requires : goal.rounds_to_all-requires
 rounds_to_all-requires g c =
@@ -21,8 +22,10 @@ rounds_to_all-requires g c =
 pub returns-in_err-rounds_to_all : goal.returns-in_err-rounds_to_all
 returns-in_err-rounds_to_all g c lines slow before follows =
     let played = times c.args.count stepped slow in
-    gets_exit _ _ _ c.from_residual-in_err-rounds_to_all.result c.from_residual-in_err-rounds_to_all.ensures.1 (grows_round (rounds_to_all (4 + c.args.count) played))
-    (c.in_err-rounds_to_all.ensures (lines + c.args.count) played before (c.in_ok-steps.ensures lines slow before follows))
+    gets_exit _ _ _ c.from_residual-in_err-rounds_to_all.result c.from_residual-in_err-rounds_to_all.ensures.1
+    (grows_round (rounds_to_all (4 + c.args.count) played))
+    (c.in_err-rounds_to_all.ensures (lines + c.args.count) played before
+    (c.in_ok-steps.ensures lines slow before follows))
 
 pub round-requires : goal.round-requires
 round-requires g c =
@@ -39,6 +42,8 @@ pub returns : goal.returns
 returns g c lines slow before follows =
     let played = times c.args.count stepped slow in
     let lines_then = lines + c.args.count + 24 * (4 + c.args.count) in
-    gets_as (lines_then + 24) (lines + c.args.count + 24 * (5 + c.args.count)) before c.round.new.steps _ _ c.round.new.self (omega arith) refl c.round.result
+    gets_as (lines_then + 24) (lines + c.args.count + 24 * (5 + c.args.count)) before c.round.new.steps _ _
+    c.round.new.self (omega arith) refl c.round.result
     (c.round.ensures lines_then (rounds_to_all (4 + c.args.count) played) before
-    (c.in_ok-rounds_to_all.ensures (lines + c.args.count) played before (c.in_ok-steps.ensures lines slow before follows)))
+    (c.in_ok-rounds_to_all.ensures (lines + c.args.count) played before
+    (c.in_ok-steps.ensures lines slow before follows)))
