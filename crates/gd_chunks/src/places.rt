@@ -1,6 +1,6 @@
 //! Where an element stands in rows, and what changes the rows around it.
 
-ghost use Rattle.std.specs.Prelude.{◌≡◌, ℕ, ◌+◌, ◌-◌, ◌^◌, nat_lt, ◌<◌, ◌≤◌, [], ◌∷◌, ◌++◌, length, take, drop};
+ghost use Rattle.std.specs.Prelude.{◌≡◌, ℕ, ◌+◌, ◌-◌, ◌^◌, nat_lt, ◌<◌, ◌≤◌, IsTrue, [], ◌∷◌, ◌++◌, length, take, drop};
 ghost use Rattle.std.specs.Prelude.{slice_index, if◌then◌else◌, vec_len, vec_capacity};
 ghost use Rattle.gd_chunks.specs.Rows.{joined, starts_from, row_at, IsPlace, IsLastUpto, HasRoom, parted};
 
@@ -16,9 +16,17 @@ pub(crate) struct Place {
     pub(crate) column: usize,
 }
 
-/// The place of the last of the rising numbers that is not above `n`, by halving. It looks at the last one first, since
-/// most elements come at the end.
-fn last_upto(starts: &Starts, n: usize) -> usize
+/// Whether the number at the place is the last of the rising ones that is not above `n`, and not the last of all.
+fn is_last_upto(starts: &Starts, place: usize, n: usize) -> bool
+    requires some { 0 < length starts.now.items }
+    ensures { IsTrue result → IsLastUpto starts.now.items n place }
+{
+    place < starts.len() - 1 && starts.get(place) <= n && n < starts.get(place + 1)
+}
+
+/// The place of the last of the rising numbers that is not above `n`. It looks at the last one first, since most elements
+/// come at the end, then at the one that is guessed, and then it halves.
+fn last_upto(starts: &Starts, guess: usize, n: usize) -> usize
     requires some { 0 < length starts.now.items }
     requires first { slice_index starts.now.items 0 ≤ n }
     ensures { IsLastUpto starts.now.items n result }
@@ -27,6 +35,9 @@ fn last_upto(starts: &Starts, n: usize) -> usize
     let mut high = starts.len();
     if starts.get(high - 1) <= n {
         return high - 1;
+    }
+    if is_last_upto(starts, guess, n) {
+        return guess;
     }
     while low + 1 < high {
         let middle = low + (high - low) / 2;
@@ -42,8 +53,8 @@ fn narrowed(low: usize, high: usize, middle: usize, above: bool) -> (usize, usiz
     if above { (low, middle) } else { (middle, high) }
 }
 
-/// The place of element `at`, or, at the end, the place behind the last row.
-pub(crate) fn find<T>(rows: &[Row<T>], starts: &Starts, at: usize) -> Place
+/// The place of element `at`, or, at the end, the place behind the last row. The guess is the row that it may stand in.
+pub(crate) fn find<T>(rows: &[Row<T>], starts: &Starts, guess: usize, at: usize) -> Place
     requires some { 0 < length rows.now }
     requires starts { starts.now.items ≡ starts_from 0 rows.now }
     requires at { at ≤ length (joined rows.now) }
@@ -51,7 +62,7 @@ pub(crate) fn find<T>(rows: &[Row<T>], starts: &Starts, at: usize) -> Place
     ensures inside { at < length (joined rows.now)
         → result.column < length (row_at rows.now result.row) }
 {
-    let row = last_upto(starts, at);
+    let row = last_upto(starts, guess, at);
     Place {
         row,
         column: at - starts.get(row),
@@ -129,6 +140,7 @@ pub(crate) fn room_for<T: Drop>(
     starts: &mut Starts,
     blank: &mut Vec<T>,
     alloc: Global,
+    guess: usize,
     at: usize,
 ) -> Place
     requires starts { starts.old.items ≡ starts_from 0 rows.old.items }
@@ -145,7 +157,7 @@ pub(crate) fn room_for<T: Drop>(
     if rows.is_empty() {
         return open(rows, starts, mem::replace(blank, Vec::new(alloc)), at);
     }
-    let place = find(rows.as_slice(), starts, at);
+    let place = find(rows.as_slice(), starts, guess, at);
     if rows[place.row].len() < ROW {
         return place;
     }
@@ -192,7 +204,7 @@ pub(crate) fn shed<T: Drop>(rows: &mut Vec<Row<T>>, starts: &mut Starts, count: 
     ensures items { joined rows.new.items ≡ drop count (joined rows.old.items) }
     ensures starts { starts.new.items ≡ starts_from 0 rows.new.items }
 {
-    let place = find(rows.as_slice(), starts, count);
+    let place = find(rows.as_slice(), starts, 0, count);
     drop_rows(rows, place.row);
     rows[0].shed(place.column);
     count_again(rows.as_slice(), starts, 0, 0);

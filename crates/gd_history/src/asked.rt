@@ -8,10 +8,16 @@ use std::alloc::{AllocError, Global};
 use std::collections::HashSet;
 use std::marker::Model;
 
-/// Keys, found by their hashes: each is asked for many times, and in no order.
+/// How many of the keys are at hand: a prime, so that like parts of many objects have different places.
+const NEAR: usize = 251;
+
+/// Keys, found by their hashes: each is asked for many times, and in no order. Those that were asked for last are mostly
+/// found at a glance.
 #[derive(Drop)]
 pub(crate) struct Asked {
     keys: HashSet<u64>,
+    /// Keys but 0, each in the place that it has; 0 stands for none.
+    near: [u64; NEAR],
 }
 
 impl Model for Asked {
@@ -29,6 +35,7 @@ impl Asked {
     {
         Asked {
             keys: HashSet::new(alloc),
+            near: [0; NEAR],
         }
     }
 
@@ -42,6 +49,19 @@ impl Asked {
         ensures known { IfOk result (λ is_new. OnFalse is_new (IsTrue (is_asked self.old key))) }
         ensures unchanged { IfOk result (λ is_new. OnFalse is_new (self.new ≡ self.old)) }
     {
-        Ok(self.keys.insert(key)?)
+        let place = place_of(key);
+        if key != 0 && self.near[place] == key {
+            return Ok(false);
+        }
+        let is_new = self.keys.insert(key)?;
+        self.near[place] = key;
+        Ok(is_new)
     }
+}
+
+/// The place of a key among those at hand.
+fn place_of(key: u64) -> usize
+    ensures { result < NEAR }
+{
+    (key % NEAR as u64) as usize
 }
