@@ -24,8 +24,8 @@ fn is_last_upto(starts: &Starts, place: usize, n: usize) -> bool
     place < starts.len() - 1 && starts.get(place) <= n && n < starts.get(place + 1)
 }
 
-/// The place of the last of the rising numbers that is not above `n`. It looks at the last one first, since most elements
-/// come at the end, then at the one that is guessed, and then it halves.
+/// The place of the last of the rising numbers that is not above `n`. It looks at the last one first, since most
+/// elements come at the end, then at the one that is guessed, and then it halves.
 fn last_upto(starts: &Starts, guess: usize, n: usize) -> usize
     requires some { 0 < length starts.now.items }
     requires first { slice_index starts.now.items 0 ≤ n }

@@ -1,6 +1,6 @@
 //! The keys that a search has asked for so far.
 
-ghost use Rattle.std.specs.Prelude.{◌≡◌, ◌≢◌, ℕ, [], IsTrue, IfOk, OnOk};
+ghost use Rattle.std.specs.Prelude.{◌≡◌, ◌≢◌, ◌<◌, ℕ, [], IsTrue, IfOk, OnOk};
 ghost use Rattle.std.specs.Bool.{OnFalse};
 ghost use Rattle.gd_history.specs.Waits.{is_asked};
 
@@ -11,8 +11,8 @@ use std::marker::Model;
 /// How many of the keys are at hand: a prime, so that like parts of many objects have different places.
 const NEAR: usize = 251;
 
-/// Keys, found by their hashes: each is asked for many times, and in no order. Those that were asked for last are mostly
-/// found at a glance.
+/// Keys, found by their hashes: each is asked for many times, and in no order. Those that were asked for last are
+/// mostly found at a glance.
 #[derive(Drop)]
 pub(crate) struct Asked {
     keys: HashSet<u64>,
@@ -22,10 +22,13 @@ pub(crate) struct Asked {
 
 impl Model for Asked {
     ghost use Rattle.std.specs.Prelude.{ℕ, List};
+    ghost use Rattle.gd_history.specs.Waits.{AreAsked};
 
     ghost Value = { List ℕ };
 
     ghost view = { λ a. a.keys.keys };
+
+    ghost invariant = { λ a. AreAsked a.keys.keys a.near };
 }
 
 impl Asked {
