@@ -45,6 +45,25 @@ static int typed(char *line, long clock, int site)
     return sprintf(line, "move %ld.%d %u %u", 1 + NEW * (long)draw((uint32_t)made), site, draw(1000), draw(1000));
 }
 
+/* The lines of edits, put together before any of them is timed. */
+typedef struct {
+    char text[48];
+    int length;
+} typed_line;
+
+static typed_line *typed_lines(long edits, int site)
+{
+    typed_line *lines = malloc((size_t)edits * sizeof(typed_line));
+    for (long clock = 1; clock <= edits; clock++)
+        lines[clock - 1].length = typed(lines[clock - 1].text, clock, site);
+    return lines;
+}
+
+static void edit(gd_member *member, const typed_line *line)
+{
+    done(gd_line(member, (const uint8_t *)line->text, (size_t)line->length));
+}
+
 /* What the journal lacks, which counts as kept. */
 static int64_t keep(gd_member *member, uint8_t *journal, uint64_t *length)
 {
@@ -79,12 +98,11 @@ static double make(long edits, frames *made, long *recorded, int64_t *shown)
 {
     gd_member mine = {0};
     uint16_t behind = 0;
+    typed_line *lines = typed_lines(edits, 1);
     done(gd_new(&mine, 1, 2, 7));
     double start = seconds();
     for (long clock = 1; clock <= edits; clock++) {
-        char line[64];
-        int length = typed(line, clock, 1);
-        done(gd_line(&mine, (const uint8_t *)line, (size_t)length));
+        edit(&mine, &lines[clock - 1]);
         *recorded += keep(&mine, NULL, NULL);
         uint8_t *frame = made->bytes + (clock - 1) * GD_FRAME_BYTES;
         made->lengths[clock - 1] = done(gd_frame(&mine, 2, &behind, frame, GD_FRAME_BYTES, &needed));
@@ -92,6 +110,7 @@ static double make(long edits, frames *made, long *recorded, int64_t *shown)
     double took = seconds() - start;
     *shown = done(gd_json(&mine));
     gd_free(&mine);
+    free(lines);
     return took;
 }
 
@@ -139,12 +158,13 @@ static void measure_catching_up(long events)
     for (int site = 1; site <= 2; site++) {
         gd_member there = {0};
         uint16_t behind = 0;
+        typed_line *lines = typed_lines(events / 2, site);
         done(gd_new(&there, (uint8_t)site, 3, 7));
         for (long clock = 1; clock <= events / 2; clock++) {
-            char line[64];
-            done(gd_line(&there, (const uint8_t *)line, (size_t)typed(line, clock, site)));
+            edit(&there, &lines[clock - 1]);
             keep(&there, NULL, NULL);
         }
+        free(lines);
         double start = seconds();
         while (behind < events / 2) {
             int64_t count = done(gd_frame(&there, 3, &behind, frame, sizeof frame, &needed));

@@ -2,7 +2,7 @@
 
 import json
 from collections.abc import Iterator
-from dataclasses import dataclass
+from dataclasses import dataclass, fields
 from typing import Any
 
 
@@ -19,6 +19,9 @@ class Looks:
     opacity: int = 100
     letters: int | None = None
     align: str | None = None
+
+
+LOOKS = tuple(field.name for field in fields(Looks))
 
 
 @dataclass(frozen=True, slots=True)
@@ -92,7 +95,7 @@ def _pair(numbers: list[int]) -> tuple[int, int]:
 
 
 def _looks(given: dict[str, Any]) -> Looks:
-    there = {name: given[name] for name in Looks.__slots__ if name in given}
+    there = {name: given[name] for name in LOOKS if name in given}
     return Looks(**there)
 
 

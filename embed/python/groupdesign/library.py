@@ -35,9 +35,9 @@ class Noted(ctypes.Structure):
     _fields_ = [(name, c_uint64) for name in ("number", "clock", "site")]
 
 
-_MEMBER = POINTER(Handle)
-_BYTES = [c_char_p, c_size_t]
-_OUT = [c_char_p, c_size_t, POINTER(c_uint64)]
+_MEMBER: type = POINTER(Handle)
+_BYTES: list[type] = [c_char_p, c_size_t]
+_OUT: list[type] = [c_char_p, c_size_t, POINTER(c_uint64)]
 _CALLS: dict[str, list[type]] = {
     "gd_new": [c_uint8, c_uint8, c_uint32],
     "gd_open": [*_BYTES, c_uint8, c_uint8, c_uint32, *_OUT],
