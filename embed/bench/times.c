@@ -87,11 +87,22 @@ static long memory_kb(const char *what)
     return found;
 }
 
-/* Frames, one behind the other, as many as there are edits. */
+/* Frames, each right behind the one before, as many as there are edits. The last one needs room for the longest. */
 typedef struct {
     uint8_t *bytes;
     int64_t *lengths;
 } frames;
+
+enum { USUAL_FRAME = 128 };
+
+static frames no_frames(long edits)
+{
+    size_t room = (size_t)edits * USUAL_FRAME + GD_FRAME_BYTES;
+    frames made = {malloc(room), calloc((size_t)edits, sizeof(int64_t))};
+    memset(made.bytes, 0, room);
+    memset(made.lengths, 0, (size_t)edits * sizeof(int64_t));
+    return made;
+}
 
 /* One edit after another, each with its record and its frame. The seconds of all, and the bytes of the records. */
 static double make(long edits, frames *made, long *recorded, int64_t *shown)
@@ -99,13 +110,14 @@ static double make(long edits, frames *made, long *recorded, int64_t *shown)
     gd_member mine = {0};
     uint16_t behind = 0;
     typed_line *lines = typed_lines(edits, 1);
+    uint8_t *frame = made->bytes;
     done(gd_new(&mine, 1, 2, 7));
     double start = seconds();
     for (long clock = 1; clock <= edits; clock++) {
         edit(&mine, &lines[clock - 1]);
         *recorded += keep(&mine, NULL, NULL);
-        uint8_t *frame = made->bytes + (clock - 1) * GD_FRAME_BYTES;
         made->lengths[clock - 1] = done(gd_frame(&mine, 2, &behind, frame, GD_FRAME_BYTES, &needed));
+        frame += made->lengths[clock - 1];
     }
     double took = seconds() - start;
     *shown = done(gd_json(&mine));
@@ -117,10 +129,12 @@ static double make(long edits, frames *made, long *recorded, int64_t *shown)
 static double take(long edits, const frames *made, int64_t *shown)
 {
     gd_member other = {0};
+    const uint8_t *frame = made->bytes;
     done(gd_new(&other, 2, 2, 7));
     double start = seconds();
     for (long at = 0; at < edits; at++) {
-        done(gd_take(&other, made->bytes + at * GD_FRAME_BYTES, (size_t)made->lengths[at]));
+        done(gd_take(&other, frame, (size_t)made->lengths[at]));
+        frame += made->lengths[at];
         keep(&other, NULL, NULL);
     }
     double took = seconds() - start;
@@ -131,7 +145,7 @@ static double take(long edits, const frames *made, int64_t *shown)
 
 static void measure_edits(long edits)
 {
-    frames made = {malloc((size_t)edits * GD_FRAME_BYTES), calloc((size_t)edits, sizeof(int64_t))};
+    frames made = no_frames(edits);
     long recorded = 0, framed = 0;
     int64_t shown, other;
     double making = make(edits, &made, &recorded, &shown), taking = take(edits, &made, &other);

@@ -20,7 +20,7 @@ use crate::member::Member;
 use crate::told::Told;
 use gd_answers::{Said, back_refusal, edit_refusal, line_refusal, noted_reply};
 use gd_base::{Edit, LineFault, Name, Refusal, Stamp, Steps};
-use gd_events::Event;
+use gd_events::ListedEvent;
 use gd_lines::Turn;
 use gd_site::NoteEnd;
 use gd_words::{Command, Line, Reply, what_is_read_is_in_range};
@@ -220,11 +220,11 @@ fn told_by(noted: &Result<u16, NoteEnd>) -> Told
 }
 
 /// Says that these events were done, and how many there are. `AllocError` where memory ran out.
-fn say_done(events: &[Event], said: &mut Said) -> Result<(), AllocError>
+fn say_done(events: &[ListedEvent], said: &mut Said) -> Result<(), AllocError>
     ensures { OnOk result (said.new ≡ said.old ++ flat_map reply_text (done_replies events.now)) }
 {
-    for event in events {
-        said.add(&Reply::Done { id: event.stamp() })?;
+    for listed in events {
+        said.add(&Reply::Done { id: listed.stamp() })?;
     }
     said.add(&Reply::End {
         count: events.len() as u64,

@@ -18,11 +18,11 @@ use crate::member::Member;
 use crate::unwritten::Unwritten;
 use gd_answers::{Arrived, Came, Said, take_frame};
 use gd_base::Steps;
-use gd_events::Event;
+use gd_events::{Event, ListedEvent};
 use gd_site::Site;
 use gd_wire::{Frame, FrameError, read_frame};
 use gd_words::Reply;
-use std::alloc::{AllocError, Global};
+use std::alloc::AllocError;
 use std::sync::ledger::Ledger;
 
 /// A frame has no more bytes.
@@ -87,14 +87,7 @@ impl Member {
             ≡ said.old ++ flat_map reply_text (frame_replies slow frame.now)) }
         ensures err { OnErr result (self.new.spent ≡ true) }
     {
-        match take_into(
-            self.alloc,
-            &mut self.site,
-            &mut self.unwritten,
-            frame,
-            said,
-            steps,
-        ) {
+        match take_into(&mut self.site, &mut self.unwritten, frame, said, steps) {
             Ok(from) => Ok(from),
             Err(why) => {
                 self.spent = true;
@@ -124,7 +117,6 @@ fn say_alone(reply: &Reply, said: &mut Said) -> Result<Option<u8>, AllocError>
 /// a frame that isn't taken it says why, or that the site has parted from its sender; nothing where that was said.
 /// Returns the sender, if the frame was taken. `AllocError` where memory ran out.
 fn take_into<L: Ledger>(
-    alloc: Global,
     site: &mut Site,
     unwritten: &mut Unwritten,
     frame: &Frame,
@@ -144,7 +136,7 @@ fn take_into<L: Ledger>(
     let from = frame.head().from;
     match take_frame(site, frame, steps)? {
         Came::Taken { heard } => {
-            hear_all(alloc, unwritten, said, frame.events(), heard.as_slice())?;
+            hear_all(unwritten, said, frame.events(), heard.as_slice())?;
             Ok(Some(from))
         }
         Came::Refused { fault } => {
@@ -161,10 +153,9 @@ fn take_into<L: Ledger>(
 
 /// Puts the events that were taken last, and says what came of all of them. `AllocError` where memory ran out.
 fn hear_all(
-    alloc: Global,
     unwritten: &mut Unwritten,
     said: &mut Said,
-    events: &[Event],
+    events: &[ListedEvent],
     heard: &[Arrived],
 ) -> Result<(), AllocError>
     ensures unwritten { OnOk result ((written others : List EventValue)
@@ -173,9 +164,10 @@ fn hear_all(
     ensures said { OnOk result (said.new
         ≡ said.old ++ flat_map reply_text (replies_of events.now heard.now)) }
 {
-    'events: for (event, arrived) in events.iter().zip(heard) {
-        add_taken(arrived.is_taken(), event, unwritten)?;
-        add_reply(arrived.reply(alloc, event)?, said)?;
+    'events: for (listed, arrived) in events.iter().zip(heard) {
+        let event = listed.event();
+        add_taken(arrived.is_taken(), &event, unwritten)?;
+        add_reply(arrived.reply(&event), said)?;
     }
     Ok(())
 }

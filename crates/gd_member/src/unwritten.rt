@@ -8,7 +8,7 @@ ghost use Rattle.gd_grammar.specs.Closing.{gate_place};
 ghost use Rattle.gd_grammar.specs.Drawings.{drawings};
 ghost use Rattle.gd_member.specs.Unwritten.{AreUnwritten};
 
-use gd_events::Event;
+use gd_events::{Event, ListedEvent};
 use gd_grammar::{EVENT_BYTES, HEADER_BYTES};
 use gd_logs::{CLOSED, gated_of};
 use gd_wire::{Chains, Drawings};
@@ -84,14 +84,14 @@ impl Unwritten {
     }
 
     /// Puts these events last. `AllocError` where memory ran out, and then they are of no use any more.
-    pub(crate) fn add_all(&mut self, events: &[Event]) -> Result<(), AllocError>
+    pub(crate) fn add_all(&mut self, events: &[ListedEvent]) -> Result<(), AllocError>
         ensures { OnOk result ((written others : List EventValue)
             → AreUnwritten written others self.old
             → AreUnwritten written (others ++ events.now) self.new) }
     {
-        for event in events {
+        for listed in events {
             self.reserve()?;
-            self.add(event);
+            self.add(&listed.event());
         }
         Ok(())
     }

@@ -8,7 +8,7 @@ ghost use Rattle.gd_site.specs.Foreseen.{differs, foreseen, foreseen_by, foresee
 
 use gd_base::Offer;
 use gd_check::check;
-use gd_events::Event;
+use gd_events::{Event, ListedEvent};
 use gd_stable::offer_by;
 use gd_wire::{Chains, EventBytes, Head, write_event};
 
@@ -23,23 +23,23 @@ pub(crate) struct Foreseen {
 impl Foreseen {
     /// The same once these events of the site have been offered, one after the other. Only those count that would be
     /// taken.
-    pub(crate) fn after_all(self, events: &[Event]) -> Foreseen
+    pub(crate) fn after_all(self, events: &[ListedEvent]) -> Foreseen
         ensures { result ≡ foreseen self events.now }
     {
         let mut so = self;
-        'offers: for event in events {
-            so = so.after(event);
+        'offers: for listed in events {
+            so = so.after(listed);
         }
         so
     }
 
     /// The same once the event has been offered.
-    fn after(self, event: &Event) -> Foreseen
-        ensures { result ≡ foreseen_by (foreseen_offer self event.now) self event.now }
+    fn after(self, listed: &ListedEvent) -> Foreseen
+        ensures { result ≡ foreseen_by (foreseen_offer self listed.now) self listed.now }
     {
-        let stamp = event.stamp();
-        match offer_by(self.count, self.sure, event.number(), stamp.clock()) {
-            Offer::Next => self.and_next(event),
+        let stamp = listed.stamp();
+        match offer_by(self.count, self.sure, listed.number(), stamp.clock()) {
+            Offer::Next => self.and_next(&listed.event()),
             Offer::Repeat | Offer::Gap | Offer::Backdated { .. } => self,
         }
     }

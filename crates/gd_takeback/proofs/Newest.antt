@@ -7,6 +7,10 @@ module _ {X Y : Type 0} (f : X → Y) where
   abbrev pub seen : List X → List Y
   seen xs = reverse (map f xs)
 
+  -- one more is the first that is seen
+  pub seen-more : (xs : List X) (x : X) → seen (xs ++ x ∷ []) ≡ f x ∷ seen xs
+  seen-more xs x = ap reverse (map-append f xs (x ∷ [])) ∙ reverse-append (map f xs) (f x ∷ [])
+
   length-seen : (xs : List X) → length (seen xs) ≡ length xs
   length-seen xs = length-reverse (map f xs) ∙ length-map xs f
 
@@ -22,7 +26,7 @@ module _ {X Y : Type 0} (f : X → Y) where
       (ap (take n) (reverse-append (f x ∷ []) (map f xs))
       ∙ take_at (seen xs) (f x ∷ []) n (omega (arith, full, length-seen xs)))
 
--- nothing is seen where there is nothing
-pub none-seen : {X : Type 0} (xs : List X) → length xs ≡ 0 → reverse xs ≡ []
-none-seen [] none = refl
-none-seen (x ∷ xs) none = cc
+  -- nothing is seen where there is nothing
+  pub seen-none : (xs : List X) → length xs ≡ 0 → seen xs ≡ []
+  seen-none [] none = refl
+  seen-none (x ∷ xs) none = cc

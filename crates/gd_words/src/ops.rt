@@ -15,10 +15,10 @@ use crate::colours::push_colour;
 use crate::items::{align_word, push_escaped, push_fill, push_label, push_marks, shape_word};
 use crate::reply_text::ReplyText;
 use gd_base::{
-    Align, Content, Dash, Ends, Heads, Height, Kind, Link, Looks, Member, Object, Rank, Shape,
-    Side, Stamp, Text, Tie,
+    Align, Content, Dash, Ends, Heads, Height, Kind, Label, Link, Looks, Member, Object, Rank,
+    Shape, Side, Stamp, Tie,
 };
-use gd_events::{Op, PackedLooks};
+use gd_events::Op;
 
 /// Appends the operation, of at most 6,400 bytes.
 pub(crate) fn push_op(text: &mut ReplyText, op: &Op)
@@ -52,7 +52,6 @@ pub(crate) fn push_op(text: &mut ReplyText, op: &Op)
             push_behind(text, label);
         }
         Op::Restore { id, object, ties } => {
-            let object = object.get();
             push_command(text, b"restore", *id);
             push_whole(text, object);
             push_state(text, object);
@@ -67,7 +66,7 @@ pub(crate) fn push_op(text: &mut ReplyText, op: &Op)
 }
 
 /// Appends what sets a content of the object of that id.
-fn push_content(text: &mut ReplyText, id: Stamp, content: &Content<Text, PackedLooks, Height>)
+fn push_content(text: &mut ReplyText, id: Stamp, content: &Content<Label, Looks, Height>)
     requires room { length text.old + 1100 ≤ LONGEST_REPLY }
     ensures value { text.new ≡ text.old ++ content_text id content.now }
     ensures grown { length text.new ≤ length text.old + 1100 }
@@ -81,7 +80,7 @@ fn push_content(text: &mut ReplyText, id: Stamp, content: &Content<Text, PackedL
             push_command(text, b"resize", id);
             push_two(text, *w, *h);
         }
-        Content::ToLooks(looks) => push_looks(text, id, &looks.looks()),
+        Content::ToLooks(looks) => push_looks(text, id, looks),
         Content::ToText(label) => {
             push_command(text, b"text", id);
             push_behind(text, label);
@@ -387,7 +386,7 @@ fn push_box(text: &mut ReplyText, x: i32, y: i32, w: i32, h: i32)
 }
 
 /// Appends a label as a line that asks for it has it.
-fn push_behind(text: &mut ReplyText, label: &Text)
+fn push_behind(text: &mut ReplyText, label: &Label)
     requires room { length text.old + 1001 ≤ LONGEST_REPLY }
     ensures value { text.new ≡ text.old ++ behind_text label.now }
     ensures grown { length text.new ≤ length text.old + 1001 }

@@ -12,7 +12,7 @@ use crate::replies::Replies;
 use crate::telling::only;
 use gd_answers::{Arrived, Came, take_frame};
 use gd_base::Steps;
-use gd_events::Event;
+use gd_events::ListedEvent;
 use gd_wire::Frame;
 use gd_words::Reply;
 use std::alloc::{AllocError, Global};
@@ -46,28 +46,23 @@ pub(crate) fn hear<L: Ledger>(
 }
 
 /// What is said of these events, in their order.
-fn echoes(alloc: Global, events: &[Event], heard: &[Arrived]) -> Result<Replies, WorldFault>
+fn echoes(alloc: Global, events: &[ListedEvent], heard: &[Arrived]) -> Result<Replies, WorldFault>
     ensures ok { IfOk result (λ replies. replies ≡ replies_of events.now heard.now) }
     ensures err { OnErr result (result ≡ Err WorldFault.NoMemory) }
 {
     let mut replies = Replies::new(alloc);
     for (event, arrived) in events.iter().zip(heard) {
-        push_echo(alloc, &mut replies, event, *arrived)?;
+        push_echo(&mut replies, event, *arrived)?;
     }
     Ok(replies)
 }
 
 /// Puts last what is said of an event, if anything is. `AllocError` where memory ran out.
-fn push_echo(
-    alloc: Global,
-    replies: &mut Replies,
-    event: &Event,
-    arrived: Arrived,
-) -> Result<(), AllocError>
+fn push_echo(replies: &mut Replies, event: &ListedEvent, arrived: Arrived) -> Result<(), AllocError>
     ensures { OnOk result
         (replies.new ≡ replies.old ++ reply_list (arrived_reply event.now arrived)) }
 {
-    match arrived.reply(alloc, event)? {
+    match arrived.reply(&event.event()) {
         Some(reply) => replies.push(reply),
         None => Ok(()),
     }
