@@ -2,6 +2,7 @@
  * nanoseconds of a processor for one edit or event, seconds for all, KB and bytes. */
 #include "groupdesign.h"
 
+#include <malloc.h>
 #include <stdio.h>
 #include <stdlib.h>
 #include <string.h>
@@ -159,38 +160,55 @@ static void measure_edits(long edits)
     free(made.lengths);
 }
 
+/* The frames of all events of a site, each right behind the one before. Returns how many there are. */
+static long frames_of(int site, long edits, frames *made)
+{
+    gd_member there = {0};
+    uint16_t behind = 0;
+    uint8_t *frame = made->bytes;
+    long count = 0;
+    typed_line *lines = typed_lines(edits, site);
+    done(gd_new(&there, (uint8_t)site, 3, 7));
+    for (long clock = 1; clock <= edits; clock++) {
+        edit(&there, &lines[clock - 1]);
+        keep(&there, NULL, NULL);
+    }
+    free(lines);
+    while (behind < edits) {
+        made->lengths[count] = done(gd_frame(&there, 3, &behind, frame, GD_FRAME_BYTES, &needed));
+        frame += made->lengths[count++];
+    }
+    gd_free(&there);
+    return count;
+}
+
 /* A member that was away takes all events of two others, in frames, and one that goes on from the journal of all. */
 static void measure_catching_up(long events)
 {
     gd_member away = {0}, again = {0};
-    uint8_t frame[GD_FRAME_BYTES], why[GD_WHY_BYTES];
+    uint8_t why[GD_WHY_BYTES];
+    frames made[] = {no_frames(events / 2), no_frames(events / 2)};
+    long counts[] = {frames_of(1, events / 2, &made[0]), frames_of(2, events / 2, &made[1])};
     uint8_t *journal = malloc((size_t)events * 64 + (1 << 20));
-    double taking = 0;
-    long before = memory_kb("VmRSS:"), framed = 0;
+    long framed = 0;
+    /* What the senders had is given back, so that it isn't used again unseen. */
+    malloc_trim(0);
+    long before = memory_kb("VmRSS:");
     done(gd_new(&away, 3, 3, 7));
     uint64_t length = (uint64_t)done(gd_journal_head(&away, journal, 64, &needed));
-    for (int site = 1; site <= 2; site++) {
-        gd_member there = {0};
-        uint16_t behind = 0;
-        typed_line *lines = typed_lines(events / 2, site);
-        done(gd_new(&there, (uint8_t)site, 3, 7));
-        for (long clock = 1; clock <= events / 2; clock++) {
-            edit(&there, &lines[clock - 1]);
-            keep(&there, NULL, NULL);
-        }
-        free(lines);
-        double start = seconds();
-        while (behind < events / 2) {
-            int64_t count = done(gd_frame(&there, 3, &behind, frame, sizeof frame, &needed));
-            done(gd_take(&away, frame, (size_t)count));
-            keep(&away, journal, &length);
-            framed += count;
-        }
-        taking += seconds() - start;
-        gd_free(&there);
-    }
-    long behind_kb = memory_kb("VmRSS:");
     double start = seconds();
+    for (int site = 0; site < 2; site++) {
+        const uint8_t *frame = made[site].bytes;
+        for (long at = 0; at < counts[site]; at++) {
+            done(gd_take(&away, frame, (size_t)made[site].lengths[at]));
+            keep(&away, journal, &length);
+            frame += made[site].lengths[at];
+        }
+        framed += frame - made[site].bytes;
+    }
+    double taking = seconds() - start;
+    long behind_kb = memory_kb("VmRSS:");
+    start = seconds();
     done(gd_open(&again, journal, length, 3, 3, 7, why, sizeof why, &needed));
     double opened = seconds() - start;
     start = seconds();
@@ -203,6 +221,10 @@ static void measure_catching_up(long events)
     gd_free(&away);
     gd_free(&again);
     free(journal);
+    for (int site = 0; site < 2; site++) {
+        free(made[site].bytes);
+        free(made[site].lengths);
+    }
 }
 
 int main(int count, char **words)

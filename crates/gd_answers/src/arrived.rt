@@ -1,15 +1,14 @@
 //! What came of the events of a frame.
 
-ghost use Rattle.std.specs.Prelude.{◌≡◌, ◌≤◌, length, option_map};
+ghost use Rattle.std.specs.Prelude.{◌≡◌, option_map, IfOk};
 ghost use Rattle.gd_answers.specs.Arriving.{IsShort, arrived_of, arrived_reply, is_taken};
 
-use arrayvec::ArrayVec;
 use gd_base::{FrameFault, Stamp};
-use gd_events::Event;
-use gd_grammar::FRAME_EVENTS;
+use gd_events::{Event, Operation};
 use gd_history::Arrival;
 use gd_site::Taken;
 use gd_words::Reply;
+use std::alloc::{AllocError, Global};
 
 /// What came of an event of another site.
 #[derive(Clone, Copy, Debug, Default, PartialEq, Eq)]
@@ -27,7 +26,7 @@ pub enum Arrived {
 }
 
 /// What came of the events of one frame, in their order.
-pub type Heard = ArrayVec<Arrived, FRAME_EVENTS>;
+pub type Heard = Vec<Arrived>;
 
 /// What came of a frame.
 #[derive(Drop)]
@@ -53,29 +52,27 @@ impl Arrived {
         }
     }
 
-    /// What is said of it, if anything is.
-    pub fn reply(self, event: &Event) -> Option<Reply>
-        ensures { result ≡ arrived_reply event.now self }
+    /// What is said of it, if anything is. `AllocError` where memory ran out.
+    pub fn reply(self, alloc: Global, event: &Event) -> Result<Option<Reply>, AllocError>
+        ensures { IfOk result (λ reply. reply ≡ arrived_reply event.now self) }
     {
         let id = event.stamp();
-        match self {
+        Ok(match self {
             Arrived::Passed => None,
-            Arrived::Applied => Some(Reply::Applied {
-                id,
-                op: event.op().copy(),
-            }),
-            Arrived::Dropped { by } => Some(Reply::Dropped {
-                id,
-                by,
-                op: event.op().copy(),
-            }),
-            Arrived::Reworked { count } => Some(Reply::Reworked {
-                id,
-                count,
-                op: event.op().copy(),
-            }),
+            Arrived::Applied => {
+                let op = event.op().copy(alloc)?;
+                Some(Reply::Applied { id, op })
+            }
+            Arrived::Dropped { by } => {
+                let op = event.op().copy(alloc)?;
+                Some(Reply::Dropped { id, by, op })
+            }
+            Arrived::Reworked { count } => {
+                let op = event.op().copy(alloc)?;
+                Some(Reply::Reworked { id, count, op })
+            }
             Arrived::Backdated { clock, sure } => Some(Reply::Backdated { id, clock, sure }),
-        }
+        })
     }
 
     /// The same of what a site, or a viewer, says of an event that it was given.

@@ -1,7 +1,2 @@
-//! What comes of events of any kind that arrive one after another, and what it costs, by plain definitions; and what a
-//! document has to say for that.
+//! What comes of events of any kind that arrive one after another, and what it costs, by plain definitions.
 #![tactic(auto)]
-
-mod keeping;
-
-pub use keeping::Keeping;

@@ -9,10 +9,10 @@ ghost use Rattle.gd_arrivals.specs.Tally.{tally};
 ghost use Rattle.gd_arriving.specs.Arriving.{AreAbove, PaidFront};
 
 use crate::tally::Tally;
-use gd_arrivals::Keeping;
 use gd_base::Steps;
 use gd_events::{EventList, Operation};
 use gd_history::History;
+use gd_repair::Document;
 use std::alloc::{AllocError, Global};
 use std::sync::ledger::Ledger;
 
@@ -20,7 +20,7 @@ use std::sync::ledger::Ledger;
 /// them. Nothing is trimmed: it holds the fold of all events, from what the document means, in the order of their
 /// stamps. Their operations are moved. `AllocError` where memory runs out: the events before that have taken their
 /// steps then.
-pub fn arrived_from<D: Keeping, L: Ledger>(
+pub fn arrived_from<D: Document, L: Ledger>(
     alloc: Global,
     base: D,
     line: u64,
@@ -46,7 +46,7 @@ where
     let mut left = events.into_events();
     'arrivals: while let Some(event) = left.next() {
         let (stamp, op) = event.into_parts();
-        let event = D::keep_packed(alloc, op)?;
+        let event = D::keep(alloc, op)?;
         let arrival = history.arrive(stamp, event, steps)?;
         tally.count(&arrival);
     }
@@ -55,7 +55,7 @@ where
 
 /// The history of a document that no event has changed, at which the events arrived, in their order, and what came of
 /// them, as `arrived_from` says it of line 0.
-pub fn arrived<D: Keeping, L: Ledger>(
+pub fn arrived<D: Document, L: Ledger>(
     alloc: Global,
     empty: D,
     events: EventList<D::Op>,

@@ -2,7 +2,6 @@ ghost use Rattle.std.specs.Prelude.{◌≡◌, pos, nat_abs};
 ghost use Rattle.gd_base.specs.Contents.{is_content};
 ghost use Rattle.gd_base.specs.Ranges.{is_within};
 
-use crate::label::Label;
 use crate::look::Looks;
 use crate::object::Ends;
 use crate::ranges::{PLACE_LIMIT, SIZE_LIMIT};
@@ -59,14 +58,6 @@ macro_rules! map_content {
             $crate::Content::ToRank($rank) => $crate::Content::ToRank($level),
         }
     };
-}
-
-impl<R: Copy> Content<Label, Looks, R> {
-    pub fn copy(&self) -> Self
-        ensures { result ≡ self.now }
-    {
-        map_content!(self, label => label.copy(), looks => *looks, rank => *rank)
-    }
 }
 
 impl<L, R> Content<L, Looks, R> {

@@ -38,7 +38,7 @@ pub use look::{Align, Dash, Heads, LOOKS, Look, Looks};
 pub use member::{Member, Members};
 pub use name::Name;
 pub use note::Note;
-pub use object::{Ends, KeptObject, Kind, Link, Object};
+pub use object::{Ends, Kind, Link, Object};
 pub use offer::Offer;
 pub use op::{Edit, Nothing, Op};
 pub use place::Place;

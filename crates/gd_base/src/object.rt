@@ -1,15 +1,14 @@
-ghost use Rattle.std.specs.Prelude.{◌≡◌, List, ℕ, IfOk};
+ghost use Rattle.std.specs.Prelude.{◌≡◌, IfOk};
 ghost use Rattle.gd_base.specs.Kinds.{are_ends_of, is_label_of, most_ties};
 ghost use Rattle.gd_base.specs.Whole.{labelled};
 
-use crate::label::{self, Label};
 use crate::look::Look;
 use crate::ranges::MOST_MEMBERS;
 use crate::rank::Rank;
 use crate::shape::Shape;
 use crate::stamp::Stamp;
-use crate::text::Text;
-use std::alloc::{AllocError, Global};
+use crate::text::{Text, is_title};
+use std::alloc::AllocError;
 
 /// What an object is.
 #[derive(Clone, Copy, Debug, PartialEq, Eq)]
@@ -32,11 +31,11 @@ impl Kind {
     }
 
     /// Whether an object of this kind may have that label: the one of a group is a title.
-    pub fn has_label(self, label: &Label) -> bool
+    pub fn has_label(self, label: &Text) -> bool
         ensures { result ≡ is_label_of self label.now }
     {
         match self {
-            Kind::Group => label::is_title(label),
+            Kind::Group => is_title(label),
             Kind::Shape(_) | Kind::Connector => true,
         }
     }
@@ -70,7 +69,7 @@ pub struct Link {
 /// An object, with its place in the stack, over how its label is kept. Its id is the key under which it is kept. The
 /// place and the size of a connector are 0 and mean nothing.
 #[derive(Drop)]
-pub struct Object<L = Label> {
+pub struct Object<L = Text> {
     pub kind: Kind,
     pub x: i32,
     pub y: i32,
@@ -85,12 +84,17 @@ pub struct Object<L = Label> {
     pub rank: Rank,
 }
 
-/// An object as it is kept.
-pub type KeptObject = Object<Text>;
+impl Object {
+    /// A copy with a handle to the same label. It takes no memory; `AllocError` where there are as many handles as can be counted.
+    pub fn share(&self) -> Result<Self, AllocError>
+        ensures { IfOk result (λ object. object ≡ self.now) }
+    {
+        let label = self.label.share()?;
+        Ok(self.with(label))
+    }
 
-impl<L> Object<L> {
-    /// The same object with a label that is kept otherwise.
-    fn labelled<M>(&self, label: M) -> Object<M>
+    /// A copy with that label, which is its own.
+    pub fn with(&self, label: Text) -> Self
         ensures { result ≡ labelled self.now label }
     {
         Object {
@@ -106,46 +110,5 @@ impl<L> Object<L> {
             dissolved: self.dissolved,
             rank: self.rank,
         }
-    }
-}
-
-impl Object<Label> {
-    pub fn copy(&self) -> Self
-        ensures { result ≡ self.now }
-    {
-        self.labelled(self.label.copy())
-    }
-
-    /// The same object as it is kept. `AllocError` where memory ran out.
-    pub fn keep(&self, alloc: Global) -> Result<KeptObject, AllocError>
-        ensures { IfOk result (λ object. object ≡ self.now) }
-    {
-        let label = Text::new(alloc, &self.label)?;
-        Ok(self.labelled(label))
-    }
-}
-
-impl Object<Text> {
-    /// A copy with a handle to the same label. It takes no memory; `AllocError` where there are as many handles as can
-    /// be counted.
-    pub fn share(&self) -> Result<Self, AllocError>
-        ensures { IfOk result (λ object. object ≡ self.now) }
-    {
-        let label = self.label.share()?;
-        Ok(self.labelled(label))
-    }
-
-    /// A copy with that label, which is its own.
-    pub fn with(&self, label: Text) -> Self
-        ensures { result ≡ labelled self.now label }
-    {
-        self.labelled(label)
-    }
-
-    /// A copy whose label has room of its own. It takes no memory.
-    pub fn whole(&self) -> Object
-        ensures { result ≡ self.now }
-    {
-        self.labelled(self.label.label())
     }
 }

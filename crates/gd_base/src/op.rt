@@ -1,17 +1,16 @@
 ghost use Rattle.std.specs.Prelude.{◌≡◌};
 
-use crate::content::{Content, Height, Side};
+use crate::content::{Content, Side};
 use crate::ids::Ids;
 use crate::label::Label;
 use crate::look::Looks;
-use crate::member::Members;
-use crate::object::{Ends, Object};
+use crate::object::Ends;
 use crate::shape::Shape;
 use crate::stamp::Stamp;
-use crate::ties::Ties;
 
 /// A change of a drawing, over how labels, looks, the members of a group, heights, objects and ties are kept. `Edit` is
-/// what a user asks for; `gd_events` has the one of an event, and the one in the memory that it needs.
+/// what a user asks for, with room for each part in itself; `gd_events` has what an event does, in the memory that it
+/// needs.
 #[derive(Drop)]
 pub enum Op<L, K, M, R, O, T> {
     /// A new shape on top, with the event's stamp as its id.
@@ -116,18 +115,5 @@ impl Edit {
             members => members.copy(),
             object => *object,
             ties => *ties)
-    }
-}
-
-impl Op<Label, Looks, Members, Height, Object, Ties> {
-    pub fn copy(&self) -> Self
-        ensures { result ≡ self.now }
-    {
-        crate::map_op!(self,
-            label => label.copy(),
-            looks => *looks,
-            members => members.copy(),
-            object => object.copy(),
-            ties => ties.copy())
     }
 }

@@ -1,7 +1,7 @@
 ghost use Rattle.std.specs.Prelude.{◌≡◌, [], IfOk};
-ghost use Rattle.gd_base.specs.Labels.{IsLabel};
+ghost use Rattle.gd_base.specs.Labels.{IsLabel, is_title};
 
-use crate::label::Label;
+use crate::label::{Label, contains_control};
 use arrayvec::ArrayString;
 use std::alloc::{AllocError, Global};
 use std::marker::Model;
@@ -75,11 +75,12 @@ impl Text {
             None => "",
         }
     }
+}
 
-    /// A copy with room of its own. It takes no memory.
-    pub fn label(&self) -> Label
-        ensures { result ≡ self.now }
-    {
-        Label::new(self.as_str()).unwrap_or_default()
-    }
+/// Whether it has at most 200 bytes and no line feed.
+pub(crate) fn is_title(label: &Text) -> bool
+    ensures { result ≡ is_title label.now }
+{
+    let text = label.as_str();
+    text.len() <= 200 && !contains_control(text)
 }

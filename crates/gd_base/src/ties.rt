@@ -62,12 +62,4 @@ impl Ties {
         let _none = none.is_none();
         self.items.try_push(tie).is_ok()
     }
-
-    pub fn copy(&self) -> Self
-        ensures { result ≡ self.now }
-    {
-        let mut items = ArrayVec::new();
-        items.try_extend_from_slice(self.items.as_slice()).unwrap();
-        Ties { items }
-    }
 }

@@ -31,8 +31,8 @@ impl CardBoard {
                 column,
                 title,
                 is_made,
-            } => *is_made = self.put(stamp, Card::new(*column, title.copy())),
-            Kept::Title { id, title, old } => **old = self.retitle(*id, title.copy()),
+            } => *is_made = self.put(stamp, Card::new(*column, title.get().copy())),
+            Kept::Title { id, title, old } => **old = self.retitle(*id, title.get().copy()),
             Kept::Mark { id, new, old } => *old = self.mark(*id, *new),
             Kept::Remove { id, gone } => **gone = self.take(*id),
         }

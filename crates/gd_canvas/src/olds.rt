@@ -7,7 +7,7 @@ ghost use Rattle.gd_base.specs.declared.ties.Tie.{Tie as TieValue};
 ghost use Rattle.gd_model.specs.Undoing.{old_ties, with_old};
 
 use crate::canvas::Canvas;
-use gd_base::{KeptObject, Stamp, Tie, Ties};
+use gd_base::{Object, Stamp, Tie};
 use std::alloc::{AllocError, Global};
 use std::marker::Model;
 
@@ -57,13 +57,6 @@ impl OldTies {
         self.items.as_slice()
     }
 
-    /// A copy of the links. It takes no memory.
-    pub(crate) fn copy(&self) -> Ties
-        ensures { result ≡ self.now.links }
-    {
-        copied(self.as_slice())
-    }
-
     pub(crate) fn clear(&mut self)
         ensures links { self.new.links ≡ [] }
         ensures room { self.new.room ≡ self.old.room }
@@ -99,7 +92,7 @@ fn push_olds(olds: &mut Vec<Tie>, ties: &[Tie], canvas: &Canvas)
 }
 
 /// Puts the link of an object last, where it is there. There has to be room.
-fn push_old(olds: &mut Vec<Tie>, id: Stamp, object: Option<&KeptObject>)
+fn push_old(olds: &mut Vec<Tie>, id: Stamp, object: Option<&Object>)
     requires room { length olds.old.items < vec_capacity olds.old }
     ensures olds { (rest : List TieValue) → olds.new.items ++ rest
         ≡ olds.old.items ++ with_old id (option_copied object.entry) rest }
@@ -112,15 +105,4 @@ fn push_old(olds: &mut Vec<Tie>, id: Stamp, object: Option<&KeptObject>)
             link: object.link,
         });
     }
-}
-
-fn copied(olds: &[Tie]) -> Ties
-    requires { length olds.now ≤ MOST_MEMBERS }
-    ensures { result ≡ olds.now }
-{
-    let mut copied = Ties::new();
-    for tie in olds {
-        copied.push(*tie);
-    }
-    copied
 }

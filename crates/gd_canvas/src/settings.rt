@@ -2,18 +2,18 @@
 ghost use Rattle.std.specs.Prelude.{◌≡◌};
 
 use crate::contents;
-use crate::contents::Stored;
-use gd_base::{KeptObject, Link};
+use gd_base::{Link, Object};
+use gd_model::Held;
 use gd_slots::Change;
 
 /// Puts a content into an object, where it has that part. What it replaces is what was there.
 #[derive(Drop)]
 pub struct Setting {
-    pub content: Stored,
+    pub content: Held,
 }
 
-impl Change<KeptObject> for Setting {
-    type Old = Stored;
+impl Change<Object> for Setting {
+    type Old = Held;
 
     ghost use Rattle.gd_model.specs.Objects.{set};
     ghost use Rattle.gd_canvas.specs.Settings.{replaced_by};
@@ -22,7 +22,7 @@ impl Change<KeptObject> for Setting {
 
     ghost replaced = { λ s. replaced_by s.content };
 
-    fn change(self, object: &mut KeptObject) -> Option<Stored> {
+    fn change(self, object: &mut Object) -> Option<Held> {
         if contents::fits(&self.content, object.kind) {
             Some(contents::exchange(object, self.content))
         } else {
@@ -37,7 +37,7 @@ pub struct Linking {
     pub link: Option<Link>,
 }
 
-impl Change<KeptObject> for Linking {
+impl Change<Object> for Linking {
     type Old = ();
 
     ghost use Rattle.std.specs.Prelude.{None};
@@ -47,7 +47,7 @@ impl Change<KeptObject> for Linking {
 
     ghost replaced = { λ s o. None };
 
-    fn change(self, object: &mut KeptObject) -> Option<()> {
+    fn change(self, object: &mut Object) -> Option<()> {
         object.link = self.link;
         None
     }

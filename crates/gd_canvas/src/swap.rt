@@ -7,9 +7,9 @@ ghost use Rattle.gd_model.specs.Forms.{rank_at};
 ghost use Rattle.gd_model.specs.Objects.{have_parts, laid_over, part_within, parts_of};
 ghost use Rattle.gd_canvas.specs.Swaps.{found_in, of_swap, old_of, sets, stored, stored_one, text_in};
 
-use crate::contents::{LookParts, Stored, one_part, passed};
+use crate::contents::{LookParts, one_part, passed};
 use crate::looks_swap::LooksSwap;
-use gd_base::{Content, Ends, Height, Label, Looks, Rank, Side, Stamp, Text};
+use gd_base::{Content, Ends, Height, Looks, Rank, Side, Stamp, Text};
 use gd_events::PackedLooks;
 use gd_model::Held;
 use std::alloc::{AllocError, Global};
@@ -141,19 +141,21 @@ impl Swap {
         })
     }
 
-    /// What the operation says. It takes no memory.
-    pub fn said(&self) -> Content<Label, Looks, Height>
-        ensures { result ≡ of_swap self.now }
+    /// What the operation says. `AllocError` where memory ran out.
+    pub fn said(&self, alloc: Global) -> Result<Content<Text, PackedLooks, Height>, AllocError>
+        ensures { IfOk result (λ content. content ≡ of_swap self.now) }
     {
-        match self {
+        Ok(match self {
             Swap::ToPlace { new, .. } => Content::ToPlace { x: new.x, y: new.y },
             Swap::ToSize { new, .. } => Content::ToSize { w: new.x, h: new.y },
-            Swap::ToLooks(looks) => Content::ToLooks(looks.new_looks()),
-            Swap::ToText(texts) => Content::ToText(texts.new.label()),
+            Swap::ToLooks(looks) => {
+                Content::ToLooks(PackedLooks::new(alloc, &looks.new_looks())?)
+            }
+            Swap::ToText(texts) => Content::ToText(texts.new.share()?),
             Swap::ToFlag { new, .. } => Content::ToFlag(*new),
             Swap::ToEnds(ends) => Content::ToEnds(ends.new),
             Swap::ToRank { new, .. } => Content::ToRank(*new),
-        }
+        })
     }
 
     /// A handle to the label that it sets, where it sets one.
@@ -167,7 +169,7 @@ impl Swap {
     }
 
     /// What the operation sets at that stamp, with that handle to its label.
-    pub fn stored(&self, stamp: Stamp, spare: Text) -> Stored
+    pub fn stored(&self, stamp: Stamp, spare: Text) -> Held
         requires { spare ≡ text_in (of_swap self.now) }
         ensures { result ≡ sets stamp self.now }
     {
@@ -182,23 +184,23 @@ impl Swap {
         }
     }
 
-    /// A copy of what it found. It takes no memory.
-    pub fn old(&self) -> Held
-        ensures { result ≡ old_of self.now }
+    /// A copy of what it found. It takes no memory; `AllocError` where its label has as many handles as can be counted.
+    pub fn old(&self) -> Result<Held, AllocError>
+        ensures { IfOk result (λ content. content ≡ old_of self.now) }
     {
-        match self {
+        Ok(match self {
             Swap::ToPlace { old, .. } => Content::ToPlace { x: old.x, y: old.y },
             Swap::ToSize { old, .. } => Content::ToSize { w: old.x, h: old.y },
             Swap::ToLooks(looks) => Content::ToLooks(looks.old_looks()),
-            Swap::ToText(texts) => Content::ToText(texts.old.label()),
+            Swap::ToText(texts) => Content::ToText(texts.old.share()?),
             Swap::ToFlag { old, .. } => Content::ToFlag(*old),
             Swap::ToEnds(ends) => Content::ToEnds(ends.old),
             Swap::ToRank { old, .. } => Content::ToRank(*old),
-        }
+        })
     }
 
     /// What it found, which is moved out where it lies in memory of its own.
-    pub fn take_old(&mut self) -> Stored
+    pub fn take_old(&mut self) -> Held
         ensures old { result ≡ old_of self.old }
         ensures op { of_swap self.new ≡ of_swap self.old }
     {
@@ -216,7 +218,7 @@ impl Swap {
     }
 
     /// The same, where it found something.
-    pub fn take_found(&mut self, is_found: bool) -> Option<Stored>
+    pub fn take_found(&mut self, is_found: bool) -> Option<Held>
         ensures found { result ≡ found_in is_found self.old }
         ensures op { of_swap self.new ≡ of_swap self.old }
     {
@@ -228,7 +230,7 @@ impl Swap {
     }
 
     /// Keeps what was found, and says whether anything was that is of its parts.
-    pub fn keep(&mut self, found: Option<Stored>) -> bool
+    pub fn keep(&mut self, found: Option<Held>) -> bool
         ensures found { found_in result self.new ≡ stored self.old found }
         ensures op { of_swap self.new ≡ of_swap self.old }
     {
@@ -238,7 +240,7 @@ impl Swap {
         }
     }
 
-    fn keep_one(&mut self, found: Stored) -> bool
+    fn keep_one(&mut self, found: Held) -> bool
         ensures found { found_in result self.new ≡ stored_one self.old found }
         ensures op { of_swap self.new ≡ of_swap self.old }
     {

@@ -46,7 +46,7 @@ impl Tied {
     pub(crate) fn copied(&self, alloc: Global) -> Result<Box<Tied>, AllocError>
         ensures { IfOk result (λ tied. tied.value ≡ self.now) }
     {
-        let ties = TieList::new(alloc, &self.ties.ties())?;
+        let ties = self.ties.copy(alloc)?;
         let olds = self.olds.copied(alloc)?;
         Ok(Box::new(alloc, Tied { ties, olds })?)
     }
@@ -58,11 +58,11 @@ impl Tied {
         self.ties.as_slice()
     }
 
-    /// A copy of the ties. It takes no memory.
-    pub(crate) fn copied_ties(&self) -> Ties
-        ensures { result ≡ self.now.ties }
+    /// A copy of the ties. `AllocError` where memory ran out.
+    pub(crate) fn copied_ties(&self, alloc: Global) -> Result<TieList, AllocError>
+        ensures { IfOk result (λ ties. ties ≡ self.now.ties) }
     {
-        self.ties.ties()
+        self.ties.copy(alloc)
     }
 
     /// The links that those had which are tied.
@@ -72,11 +72,11 @@ impl Tied {
         self.olds.as_slice()
     }
 
-    /// A copy of those links. It takes no memory.
-    pub(crate) fn copied_olds(&self) -> Ties
-        ensures { result ≡ self.now.olds }
+    /// A copy of those links. `AllocError` where memory ran out.
+    pub(crate) fn copied_olds(&self, alloc: Global) -> Result<TieList, AllocError>
+        ensures { IfOk result (λ olds. olds ≡ self.now.olds) }
     {
-        self.olds.copy()
+        tie_list(alloc, self.olds.as_slice())
     }
 
     /// Keeps the links in the drawing of those that are tied. It takes no memory.
@@ -118,6 +118,18 @@ pub fn own_ties(kind: Kind, ties: &[Tie]) -> &[Tie]
         Kind::Group => ties,
         Kind::Shape(_) | Kind::Connector => &[],
     }
+}
+
+/// A copy of the ties, in as much memory as they need. `AllocError` where memory ran out.
+pub fn tie_list(alloc: Global, ties: &[Tie]) -> Result<TieList, AllocError>
+    requires { length ties.now ≤ MOST_MEMBERS }
+    ensures { IfOk result (λ list. list ≡ ties.now) }
+{
+    let mut copied = Ties::new();
+    for tie in ties {
+        copied.push(*tie);
+    }
+    TieList::new(alloc, &copied)
 }
 
 /// The id of what the tie at that place is of. None past the last one.

@@ -71,11 +71,12 @@ fn number_all(
     let mut events = EventList::new(alloc);
     for place in 0..entries.len() {
         let entry = entries.get(place);
+        let op = entry.op(alloc)?;
         let stamp = entry.stamp();
         let site = stamp.site();
         let number = numbers.of(site) + 1;
         numbers.put(site, number);
-        events.push(Event::sound(stamp, number, entry.op()))?;
+        events.push(Event::sound(stamp, number, op))?;
     }
     Ok(events)
 }

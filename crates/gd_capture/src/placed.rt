@@ -5,7 +5,7 @@ ghost use Rattle.gd_slots.specs.Slots.{board_of};
 ghost use Rattle.gd_capture.specs.Placing.{placed_in};
 
 use gd_base::Stamp;
-use gd_canvas::{Canvas, KeptObject};
+use gd_canvas::{Canvas, Object};
 use gd_handover::PlacedList;
 use gd_view::ids::ids;
 use std::alloc::{AllocError, Global};
@@ -23,7 +23,7 @@ pub(crate) fn placed_of(alloc: Global, canvas: &Canvas) -> Result<PlacedList, Al
 }
 
 /// A copy of the object of that id behind it, where it is there.
-fn copy_of(canvas: &Canvas, id: Stamp) -> Result<Option<(Stamp, KeptObject)>, AllocError>
+fn copy_of(canvas: &Canvas, id: Stamp) -> Result<Option<(Stamp, Object)>, AllocError>
     ensures { IfOk result (λ placed. placed ≡ placed_in (board_of canvas.now) id) }
 {
     match canvas.get(id) {
@@ -35,7 +35,7 @@ fn copy_of(canvas: &Canvas, id: Stamp) -> Result<Option<(Stamp, KeptObject)>, Al
     }
 }
 
-fn put_last(placed: &mut PlacedList, object: Option<(Stamp, KeptObject)>) -> Result<(), AllocError>
+fn put_last(placed: &mut PlacedList, object: Option<(Stamp, Object)>) -> Result<(), AllocError>
     ensures { OnOk result (placed.new ≡ placed.old ++ option_to_list object) }
 {
     if let Some((id, object)) = object {

@@ -1,4 +1,4 @@
-//! Reads operations on cards.
+//! Reads operations on cards, into the memory that they need.
 
 ghost use Rattle.std.specs.Prelude.{◌≡◌, Ok, Err, if◌then◌else◌};
 ghost use Rattle.gd_base.specs.Results.{Gives};
@@ -7,28 +7,32 @@ ghost use Rattle.gd_cards.specs.declared.op.Op.TheVariants.{Change};
 ghost use Rattle.gd_cards.specs.CardBytes.{add_at, card_op_at, change_at, column_at, title_at};
 ghost use Rattle.gd_cards.specs.Cards.{is_mark};
 ghost use Rattle.gd_grammar.specs.Readers.{into};
+ghost use Rattle.gd_wire.specs.Packed.{GivesPacked};
+ghost use Rattle.gd_wire.specs.declared.pack_error.PackError.TheVariants.{Field};
 
-use gd_base::{FieldFault, FieldWhy, Stamp, Title, Version};
-use gd_cards::{COLUMNS, CardChange, CardOp, Mark};
-use gd_wire::Bytes;
+use gd_base::{FieldFault, FieldWhy, Stamp, Version};
+use gd_cards::{BoxedTitle, COLUMNS, CardChange, CardOp, Mark};
+use gd_wire::{Bytes, PackError};
+use std::alloc::Global;
 
 /// How many bytes a title has at most.
 const MOST_TITLE: u8 = 200;
 
 /// The operation of the event with that stamp. `Field` at the tag where no operation has it, else the first fault of
-/// its fields.
+/// its fields. `Memory` where memory ran out.
 #[tactic(auto, unfolding(gd_cards::specs::CardBytes::card_op_at, gd_cards::specs::CardBytes::change_at, gd_cards::specs::CardBytes::byte_if, gd_grammar::specs::Readers::steps))]
 pub fn card_op<'a>(
+    alloc: Global,
     bytes: &mut Bytes<'a>,
     version: Version,
     stamp: Stamp,
-) -> Result<CardOp, FieldFault>
-    ensures { Gives (λ op. (op, bytes.new)) result (card_op_at version stamp bytes.old) }
+) -> Result<CardOp, PackError>
+    ensures { GivesPacked (λ op. (op, bytes.new)) result (card_op_at version stamp bytes.old) }
 {
     let fault = bytes.fault(FieldWhy::Field);
     match bytes.byte()? {
-        1 => add(bytes),
-        2 => retitle(bytes, stamp),
+        1 => add(alloc, bytes),
+        2 => retitle(alloc, bytes, stamp),
         3 => {
             let id = bytes.id(stamp)?;
             let fault = bytes.fault(FieldWhy::Field);
@@ -43,36 +47,36 @@ pub fn card_op<'a>(
             let id = bytes.id(stamp)?;
             Ok(CardOp::Remove { id })
         }
-        _ => Err(fault),
+        _ => Err(PackError::Field(fault)),
     }
 }
 
 #[tactic(auto, unfolding(gd_cards::specs::CardBytes::add_at, gd_grammar::specs::Readers::steps))]
-fn add<'a>(bytes: &mut Bytes<'a>) -> Result<CardOp, FieldFault>
-    ensures { Gives (λ op. (op, bytes.new)) result (add_at bytes.old) }
+fn add<'a>(alloc: Global, bytes: &mut Bytes<'a>) -> Result<CardOp, PackError>
+    ensures { GivesPacked (λ op. (op, bytes.new)) result (add_at bytes.old) }
 {
     let column = column(bytes)?;
-    let title = title(bytes)?;
+    let title = title(alloc, bytes)?;
     Ok(CardOp::Add { column, title })
 }
 
 #[tactic(auto, unfolding(gd_cards::specs::CardBytes::change_at, gd_grammar::specs::Readers::steps))]
-fn retitle<'a>(bytes: &mut Bytes<'a>, stamp: Stamp) -> Result<CardOp, FieldFault>
-    ensures { Gives (λ op. (op, bytes.new)) result
+fn retitle<'a>(alloc: Global, bytes: &mut Bytes<'a>, stamp: Stamp) -> Result<CardOp, PackError>
+    ensures { GivesPacked (λ op. (op, bytes.new)) result
         (change_at stamp (into ToTitle title_at) bytes.old) }
 {
     let id = bytes.id(stamp)?;
-    let title = title(bytes)?;
+    let title = title(alloc, bytes)?;
     let change = CardChange::ToTitle(title);
     Ok(CardOp::Change { id, change })
 }
 
 /// The card's change to that mark, or `fault` where the mark is out of its range.
-fn marked(id: Stamp, mark: Mark, fault: FieldFault) -> Result<CardOp, FieldFault>
-    ensures { result ≡ (if is_mark mark then Ok (Change id (ToMark mark)) else Err fault) }
+fn marked(id: Stamp, mark: Mark, fault: FieldFault) -> Result<CardOp, PackError>
+    ensures { result ≡ (if is_mark mark then Ok (Change id (ToMark mark)) else Err (Field fault)) }
 {
     if !mark.is_in_range() {
-        return Err(fault);
+        return Err(PackError::Field(fault));
     }
     let change = CardChange::ToMark(mark);
     Ok(CardOp::Change { id, change })
@@ -91,9 +95,12 @@ fn column<'a>(bytes: &mut Bytes<'a>) -> Result<u8, FieldFault>
     Ok(column)
 }
 
+#[inline(never)]
 #[tactic(auto, unfolding(gd_cards::specs::CardBytes::title_at))]
-fn title<'a>(bytes: &mut Bytes<'a>) -> Result<Title, FieldFault>
-    ensures { Gives (λ title. (title, bytes.new)) result (title_at bytes.old) }
+fn title<'a>(alloc: Global, bytes: &mut Bytes<'a>) -> Result<BoxedTitle, PackError>
+    ensures { GivesPacked (λ title. (title, bytes.new)) result (title_at bytes.old) }
 {
-    bytes.title_within(MOST_TITLE)
+    let title = bytes.title_within(MOST_TITLE)?;
+    let title = BoxedTitle::new(alloc, title)?;
+    Ok(title)
 }

@@ -6,8 +6,8 @@ ghost use Rattle.gd_grammar.specs.FieldBytes.{label_bytes};
 ghost use Rattle.gd_grammar.specs.declared.sizes.TheConstants.{EVENT_BYTES};
 
 use crate::card_op::card_op;
-use gd_base::{FieldFault, Stamp, Title, Version};
-use gd_cards::{CardChange, CardOp, PackedCardOp, pack};
+use gd_base::{Stamp, Title, Version};
+use gd_cards::{BoxedTitle, CardChange, CardOp};
 use gd_wire::{Bytes, EventBytes, LogKind, PackError};
 use std::alloc::Global;
 
@@ -36,21 +36,12 @@ impl LogKind for Cards {
     }
 
     fn read<'a>(
-        bytes: &mut Bytes<'a>,
-        version: Version,
-        stamp: Stamp,
-    ) -> Result<CardOp, FieldFault> {
-        card_op(bytes, version, stamp)
-    }
-
-    fn read_packed<'a>(
         alloc: Global,
         bytes: &mut Bytes<'a>,
         version: Version,
         stamp: Stamp,
-    ) -> Result<PackedCardOp, PackError> {
-        let op = card_op(bytes, version, stamp)?;
-        Ok(pack(alloc, op)?)
+    ) -> Result<CardOp, PackError> {
+        card_op(alloc, bytes, version, stamp)
     }
 
     fn put(op: &CardOp, out: &mut EventBytes) {
@@ -58,7 +49,7 @@ impl LogKind for Cards {
             CardOp::Add { column, title } => {
                 out.put_byte(1);
                 out.put_byte(*column);
-                put_title(title, out);
+                put_title(title.get(), out);
             }
             CardOp::Change { id, change } => {
                 out.put_byte(change.part() + 1);
@@ -74,12 +65,12 @@ impl LogKind for Cards {
 }
 
 /// A title, or the byte of a mark, where it has one.
-fn put_change(change: &CardChange<Title>, out: &mut EventBytes)
+fn put_change(change: &CardChange<BoxedTitle>, out: &mut EventBytes)
     requires { length out.old + 201 ≤ EVENT_BYTES }
     ensures { out.new ≡ out.old ++ change_bytes change.now }
 {
     match change {
-        CardChange::ToTitle(title) => put_title(title, out),
+        CardChange::ToTitle(title) => put_title(title.get(), out),
         CardChange::ToMark(mark) => {
             if let Some(value) = mark.code().1 {
                 out.put_byte(value);

@@ -72,15 +72,15 @@ impl Held {
         requires some { 0 < blank.parts }
         ensures { Calls (LineIs line.now) self.old result self.new }
     {
-        let mut said = Said::new(alloc);
+        let mut said = self.said.no_replies(alloc);
         let mut steps = Steps::<L>::new(blank);
         match self.member.line(line, &mut said, &mut steps) {
             Ok(Came::Done) => {
-                self.said = Told::replies(said);
+                self.said.tell(said);
                 Ok(count_of(self.said.as_bytes()))
             }
             Ok(Came::Refused) => {
-                self.said = Told::replies(said);
+                self.said.tell(said);
                 Err(Fault::Refused)
             }
             Ok(Came::Other) => Err(Fault::NotHere),
@@ -101,11 +101,11 @@ impl Held {
         requires some { 0 < blank.parts }
         ensures { Calls (GestureIs lines.now) self.old result self.new }
     {
-        let mut said = Said::new(alloc);
+        let mut said = self.said.no_replies(alloc);
         let mut steps = Steps::<L>::new(blank);
         match self.member.gesture(lines, &mut said, &mut steps) {
             Ok(_) => {
-                self.said = Told::replies(said);
+                self.said.tell(said);
                 Ok(count_of(self.said.as_bytes()))
             }
             Err(_) => Err(Fault::NoMemory),
@@ -125,15 +125,15 @@ impl Held {
         requires some { 0 < blank.parts }
         ensures { Calls (TakeIs datagram.now) self.old result self.new }
     {
-        let mut said = Said::new(alloc);
+        let mut said = self.said.no_replies(alloc);
         let mut steps = Steps::<L>::new(blank);
         match self.member.take(datagram, &mut said, &mut steps) {
             Ok(Some(_)) => {
-                self.said = Told::replies(said);
+                self.said.tell(said);
                 Ok(count_of(self.said.as_bytes()))
             }
             Ok(None) => {
-                self.said = Told::replies(said);
+                self.said.tell(said);
                 Err(Fault::Refused)
             }
             Err(_) => Err(Fault::NoMemory),
@@ -211,7 +211,7 @@ impl Held {
         let mut said = Said::new(alloc);
         match said.add(&Reply::BadLog { at, why }) {
             Ok(()) => {
-                self.said = Told::replies(said);
+                self.said.tell(said);
                 Err(Fault::BadJournal)
             }
             Err(_) => Err(Fault::NoMemory),

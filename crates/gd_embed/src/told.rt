@@ -3,11 +3,14 @@ use gd_answers::Said;
 use gd_export::JsonText;
 use std::alloc::Global;
 use std::marker::Model;
+use std::mem;
 
 /// A text that waits to be handed out. Contracts see its bytes.
 #[derive(Drop)]
 pub struct Told {
     kind: Kind,
+    /// Memory of replies that were told before, for those to come.
+    room: Option<Said>,
 }
 
 /// As it was made.
@@ -37,12 +40,26 @@ impl Told {
         Told::bytes(Vec::new(alloc))
     }
 
-    /// Replies.
-    pub fn replies(said: Said) -> Told
-        ensures { result ≡ said }
+    /// No replies, to which some can be added.
+    pub fn no_replies(&mut self, alloc: Global) -> Said
+        ensures none { result ≡ [] }
+        ensures same { self.new ≡ self.old }
     {
-        Told {
-            kind: Kind::Replies(said),
+        match self.room.take() {
+            Some(mut said) => {
+                said.clear();
+                said
+            }
+            None => Said::new(alloc),
+        }
+    }
+
+    /// Tells these replies, in place of what there was.
+    pub fn tell(&mut self, said: Said)
+        ensures { self.new ≡ said }
+    {
+        if let Kind::Replies(before) = mem::replace(&mut self.kind, Kind::Replies(said)) {
+            self.room = Some(before);
         }
     }
 
@@ -52,6 +69,7 @@ impl Told {
     {
         Told {
             kind: Kind::Json(line),
+            room: None,
         }
     }
 
@@ -61,6 +79,7 @@ impl Told {
     {
         Told {
             kind: Kind::Bytes(bytes),
+            room: None,
         }
     }
 

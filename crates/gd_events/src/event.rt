@@ -1,11 +1,12 @@
-ghost use Rattle.std.specs.Prelude.{◌≡◌, ◌≤◌, Some, MatchResult};
+ghost use Rattle.std.specs.Prelude.{◌≡◌, ◌≤◌, Some, IfOk, MatchResult};
 ghost use Rattle.gd_events.specs.Events.{IsSoundWith, first_event};
 ghost use Rattle.gd_events.specs.Sound.{event_fault, IsSound};
 
 use crate::op::Op;
 use crate::operation::Operation;
 use crate::rules::{has_members, has_rising_ids, is_in_range, names_before};
-use gd_base::{Label, Shape, Stamp};
+use gd_base::{Shape, Stamp, Text};
+use std::alloc::{AllocError, Global};
 use std::marker::Model;
 use thiserror::Error;
 
@@ -73,6 +74,14 @@ impl<O: Operation> Event<O> {
         &self.op
     }
 
+    /// A copy of the event. `AllocError` where memory ran out.
+    pub fn copy(&self, alloc: Global) -> Result<Self, AllocError>
+        ensures { IfOk result (λ event. event ≡ self.now) }
+    {
+        let op = self.op.copy(alloc)?;
+        Ok(Event::sound(self.stamp, self.number, op))
+    }
+
     /// Its stamp and its operation, which is moved.
     pub fn into_parts(self) -> (Stamp, O)
         ensures stamp { result.0 ≡ self.stamp }
@@ -111,17 +120,6 @@ impl Event<Op> {
             op,
         })
     }
-
-    pub fn copy(&self) -> Self
-        ensures { result ≡ self.now }
-    {
-        let op = self.op.copy();
-        Event {
-            stamp: self.stamp,
-            number: self.number,
-            op,
-        }
-    }
 }
 
 impl Default for Event {
@@ -135,7 +133,7 @@ impl Default for Event {
             y: 0,
             w: 0,
             h: 0,
-            label: Label::default(),
+            label: Text::default(),
         };
         Event::sound(Stamp::default(), 1, op)
     }

@@ -1,26 +1,28 @@
+ghost use Rattle.std.specs.Prelude.{◌≡◌, IfOk};
+
+use crate::boxed_object::BoxedObject;
+use crate::member_list::MemberList;
 use crate::operation::Operation;
-use crate::packed::{PackedOp, pack, unpack};
-use gd_base::{Height, Label, Looks, Members, Object, Ties};
+use crate::packed_looks::PackedLooks;
+use crate::tie_list::TieList;
+use gd_base::{Height, Text, map_content, map_op};
 use std::alloc::{AllocError, Global};
 
-/// An operation on a drawing, as an event has it.
-pub type Op = gd_base::Op<Label, Looks, Members, Height, Object, Ties>;
+/// An operation on a drawing, as an event has it, in the memory that it needs: labels are shared, objects and most looks lie
+/// in boxes, and members and ties take as much as there are.
+pub type Op = gd_base::Op<Text, PackedLooks, MemberList, Height, BoxedObject, TieList>;
 
 impl Operation for Op {
     ghost use Rattle.gd_events.specs.Sound.{IsOp as is_op};
-    ghost use Rattle.gd_events.specs.Packed.{unpacked as unpacked_op};
 
     ghost IsOp = { is_op };
 
-    type Packed = PackedOp;
-
-    ghost unpacked = { unpacked_op };
-
-    fn pack(alloc: Global, op: Op) -> Result<PackedOp, AllocError> {
-        pack(alloc, &op)
-    }
-
-    fn unpack(packed: &PackedOp) -> Op {
-        unpack(packed)
+    fn copy(&self, alloc: Global) -> Result<Op, AllocError> {
+        Ok(map_op!(self,
+            label => label.share()?,
+            looks => looks.copy(alloc)?,
+            members => members.copy(alloc)?,
+            object => object.copy(alloc)?,
+            ties => ties.copy(alloc)?))
     }
 }

@@ -41,7 +41,14 @@ impl PackedLooks {
         Ok(PackedLooks { kept })
     }
 
-    /// A copy of the looks. It takes no memory.
+    /// A copy of the packed looks. `AllocError` where memory ran out.
+    pub fn copy(&self, alloc: Global) -> Result<PackedLooks, AllocError>
+        ensures { IfOk result (λ packed. packed ≡ self.now) }
+    {
+        PackedLooks::new(alloc, &self.looks())
+    }
+
+    /// The looks, inline. It takes no memory.
     pub fn looks(&self) -> Looks
         ensures { result ≡ self.now }
     {

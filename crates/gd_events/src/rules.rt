@@ -1,6 +1,7 @@
 //! The rules that a sound event keeps.
 ghost use Rattle.std.specs.Prelude.{◌≡◌, ◌&&◌, None, map};
 ghost use Rattle.std.specs.List.{list_all};
+ghost use Rattle.gd_base.specs.Contents.{is_content};
 ghost use Rattle.gd_base.specs.Looks.{is_look};
 ghost use Rattle.gd_base.specs.Ranks.{given_at};
 ghost use Rattle.gd_base.specs.Stamps as stamps;
@@ -12,9 +13,10 @@ ghost use Rattle.gd_events.specs.Sound.{are_ends_before, is_between, is_object_b
 ghost use Rattle.gd_events.specs.Sound.{rise_above, has_rising_ids};
 
 use crate::op::Op;
+use crate::packed_looks::PackedLooks;
 use gd_base::{
-    Content, Ends, Height, Label, Link, Looks, Member, Object, PLACE_LIMIT, Rank, SIZE_LIMIT,
-    Stamp, Tie, is_within,
+    Content, Ends, Height, Link, Member, Object, PLACE_LIMIT, Rank, SIZE_LIMIT, Stamp, Text, Tie,
+    is_within, map_content,
 };
 
 /// Whether the numbers of the operation are in their ranges.
@@ -24,13 +26,20 @@ pub(crate) fn is_in_range(op: &Op) -> bool
     match op {
         Op::Create { x, y, w, h, .. } => is_box_in_range(*x, *y, *w, *h),
         Op::Delete { .. } | Op::Connect { .. } => true,
-        Op::Set { content, .. } => content.is_in_range(),
+        Op::Set { content, .. } => is_content_in_range(content),
         Op::Group { members } => are_shifts_in_range(members.as_slice()),
         Op::Restore { object, ties, .. } => {
-            is_object_in_range(object) && are_ties_in_range(ties.as_slice())
+            is_object_in_range(object.get()) && are_ties_in_range(ties.as_slice())
         }
         Op::Disband { ties, .. } => are_ties_in_range(ties.as_slice()),
     }
+}
+
+fn is_content_in_range(content: &Content<Text, PackedLooks, Height>) -> bool
+    ensures { result ≡ is_content content.now }
+{
+    let numbers = map_content!(content, _label => (), looks => looks.looks(), rank => *rank);
+    numbers.is_in_range()
 }
 
 fn is_box_in_range(x: i32, y: i32, w: i32, h: i32) -> bool
@@ -91,7 +100,7 @@ pub(crate) fn has_members(op: &Op) -> bool
     match op {
         Op::Group { members } => members.as_slice().len() >= 2,
         Op::Disband { ties, .. } => ties.as_slice().len() >= 1,
-        Op::Restore { object, ties, .. } => ties.as_slice().len() <= object.kind.most_ties(),
+        Op::Restore { object, ties, .. } => ties.as_slice().len() <= object.get().kind.most_ties(),
         _ => true,
     }
 }
@@ -107,7 +116,7 @@ pub(crate) fn names_before(stamp: Stamp, op: &Op) -> bool
         Op::Group { members } => are_members_before(stamp, members.as_slice()),
         Op::Connect { ends, .. } => is_between(stamp, *ends),
         Op::Restore { id, object, ties } => {
-            is_object_before(stamp, *id, object) && are_ties_before(stamp, ties.as_slice())
+            is_object_before(stamp, *id, object.get()) && are_ties_before(stamp, ties.as_slice())
         }
         Op::Disband { id, ties } => {
             id.is_before(stamp) && are_ties_before(stamp, ties.as_slice())
@@ -115,7 +124,7 @@ pub(crate) fn names_before(stamp: Stamp, op: &Op) -> bool
     }
 }
 
-fn is_content_before(stamp: Stamp, content: &Content<Label, Looks, Height>) -> bool
+fn is_content_before(stamp: Stamp, content: &Content<Text, PackedLooks, Height>) -> bool
     ensures { result ≡ is_content_before stamp content.now }
 {
     match content {

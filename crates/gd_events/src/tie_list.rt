@@ -3,7 +3,7 @@ ghost use Rattle.std.specs.Prelude.{◌≡◌, ◌≤◌, length, IfOk};
 ghost use Rattle.gd_base.specs.Typed.{AreTied};
 ghost use Rattle.gd_base.specs.declared.ranges.TheConstants.{MOST_MEMBERS};
 
-use gd_base::{Link, Tie, Ties};
+use gd_base::{Tie, Ties};
 use std::alloc::{AllocError, Global};
 use std::marker::Model;
 
@@ -44,17 +44,11 @@ impl TieList {
         self.items.as_slice()
     }
 
-    /// A copy of the ties, inline. It takes no memory.
-    pub fn ties(&self) -> Ties
-        ensures { result ≡ self.now }
+    /// A copy of the list. `AllocError` where memory ran out.
+    pub fn copy(&self, alloc: Global) -> Result<TieList, AllocError>
+        ensures { IfOk result (λ list. list ≡ self.now) }
     {
-        // Brings the types within a `Tie` into this proof; no effect at run time.
-        let none: Option<Link> = None;
-        let _none = none.is_none();
-        let mut ties = Ties::new();
-        for tie in self.items.as_slice() {
-            ties.push(*tie);
-        }
-        ties
+        let items = Vec::from_slice(alloc, self.items.as_slice())?;
+        Ok(TieList { items })
     }
 }

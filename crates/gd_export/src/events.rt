@@ -7,8 +7,8 @@ ghost use Rattle.gd_json.specs.Values.{array, put_all};
 use crate::array::{ArrayText, JsonText};
 use crate::objects::{put_ends, put_object, ties_of};
 use crate::values::{Fields, Items, Json};
-use gd_base::{Content, Height, Label, Looks, Member, Side};
-use gd_events::{Event, EventList, Op};
+use gd_base::{Content, Height, Member, Side, Text};
+use gd_events::{Event, EventList, Op, PackedLooks};
 use std::alloc::{AllocError, Global};
 
 /// The events as one line of compact JSON: an array with an object for each event in the list's order, and LF.
@@ -21,8 +21,8 @@ pub fn events_json(alloc: Global, events: &EventList) -> Result<JsonText, AllocE
     ensures { IfOk result (λ line. line ≡ events_json events.now) }
 {
     let mut array = ArrayText::new(alloc)?;
-    for listed in events.as_slice() {
-        let json = event_of(alloc, &listed.event())?;
+    for event in events.as_slice() {
+        let json = event_of(alloc, event)?;
         array.put(alloc, &json)?;
     }
     array.into_line()
@@ -82,7 +82,7 @@ fn put_op(fields: &mut Fields, op: &Op) -> Result<(), AllocError>
             fields.id("id", *id)?;
             let ties = ties_of(fields.alloc(), ties.as_slice())?;
             fields.put("ties", ties)?;
-            put_object(fields, object)
+            put_object(fields, object.get())
         }
         Op::Disband { id, ties } => {
             fields.word("op", "disband")?;
@@ -106,7 +106,7 @@ fn put_box(fields: &mut Fields, x: i32, y: i32, w: i32, h: i32) -> Result<(), Al
 /// Puts the name of what sets a content, and the content.
 fn put_content(
     fields: &mut Fields,
-    content: &Content<Label, Looks, Height>,
+    content: &Content<Text, PackedLooks, Height>,
 ) -> Result<(), AllocError>
     ensures { OnOk result (fields.new ≡ put_all fields.old (content_fields content.now)) }
 {
@@ -123,7 +123,7 @@ fn put_content(
         }
         Content::ToLooks(looks) => {
             fields.word("op", "restyle")?;
-            fields.looks(looks)
+            fields.looks(&looks.looks())
         }
         Content::ToText(label) => {
             fields.word("op", "retext")?;

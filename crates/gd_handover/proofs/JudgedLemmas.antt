@@ -21,10 +21,10 @@ use Rattle.gd_snapshots.specs.declared.known.Known.{Known}
 use Rattle.gd_handover.specs.Parts.{Part}
 use Rattle.gd_handover.specs.Pieces.{kept_fault}
 use Rattle.gd_handover.specs.declared.fault.SnapshotFault.{SnapshotFault}
-use Rattle.gd_handover.specs.declared.fault.SnapshotFault.TheVariants.{Bad, NoMemory}
+use Rattle.gd_handover.specs.declared.fault.SnapshotFault.TheVariants.{Bad}
 use Rattle.gd_handover.specs.declared.reader.Reader.{Reader}
 use Rattle.gd_handover.proofs.LoopLemmas.{view-step}
-use Rattle.gd_handover.proofs.PartLemmas.{standing-then, part-memory, part-stops, part-standing, part-ok, part-refused}
+use Rattle.gd_handover.proofs.PartLemmas.{standing-then, part-stops, part-standing, part-ok, part-refused}
 
 -- ---- numbers
 
@@ -102,11 +102,6 @@ module _ (last : Option Stamp) where
   placed-read i o above p q
       = placed-then i (Ok (i, o)) above p
       (part-ok object (λ _ o rest. Ok ((i, o), rest)) (behind-id i) (λ bytes. refl) o (i, o) (λ bytes rest. refl) q)
-
-  -- memory ran out behind it
-  pub placed-memory : (i : Stamp) (o : Object) {r s t : Reader} {a b c : SeenSource} → is_above last i ≡ true
-      → Part id (Ok i) r s a b → Part object (Ok o) s t b c → Part (placed_at last) (Err NoMemory) r t a c
-  placed-memory i o above p q = part-memory (placed-read i o above p q)
 
 -- ---- kept events
 

@@ -145,11 +145,6 @@ pub standing-memory : {B : Type 0} {whole rest : List ℕ → Views B} {r s : Re
     → Standing whole rest r s a b → Part whole (Err NoMemory) r s a b
 standing-memory st = record { called = called-as (λ h. absurd cc) st.called; is = tt }
 
--- memory ran out behind what was read
-pub part-memory : {A : Type 0} {whole : List ℕ → Views A} {x : A} {r s : Reader} {a b : SeenSource}
-    → Part whole (Ok x) r s a b → Part whole (Err NoMemory) r s a b
-part-memory p = record { called = called-as (λ h. absurd cc) p.called; is = tt }
-
 -- ---- a part, and what follows it
 
 module _ {A B : Type 0} (first : List ℕ → Views A) (follows : List ℕ → A → List ℕ → Views B) (whole : List ℕ → Views B)

@@ -203,6 +203,11 @@ waiting-taken {read = read} least n {old} {now} {new} x w are stands moved = rec
   };
 }
 
+-- memory ran out
+pub waiting-memory : {A : Type 0} {read : List ℕ → Reads A} {least : ℕ} {old now : Reader} {before here : SeenSource}
+    → Waiting read least old now before here → Part (λ bytes. in_view (read bytes)) (Err NoMemory) old now before here
+waiting-memory w = record { called = called-as (λ h. absurd cc) w.called; is = tt }
+
 -- ---- the piece ends with a fault
 
 -- all bytes of it

@@ -12,7 +12,7 @@ use crate::fault::SnapshotFault;
 use crate::judged::{is_above, is_bounded, least_sure};
 use crate::reader::Reader;
 use crate::snapshot::{KnownList, PlacedList};
-use gd_base::{KeptObject, Object, Stamp, ViewWhy};
+use gd_base::{Object, Stamp, ViewWhy};
 use gd_events::{Event, EventList};
 use gd_outside::Source;
 use gd_snapshots::Known;
@@ -34,6 +34,7 @@ pub const NUMBER_BYTES: usize = 4;
 
 /// What is known of so many sites. Behind it come two numbers at least.
 pub fn read_known<S: Source>(
+    alloc: Global,
     reader: &mut Reader,
     source: &mut S,
     sites: u8,
@@ -50,7 +51,7 @@ pub fn read_known<S: Source>(
     let mut known = KnownList::new();
     'each: for i in 0..sites {
         let least = KNOWN_BYTES * (sites - i) as usize + 2 * NUMBER_BYTES;
-        let of = reader.next::<Known, S>(source, least)?;
+        let of = reader.next::<Known, S>(alloc, source, least)?;
         known.push(of);
     }
     Ok(known)
@@ -58,6 +59,7 @@ pub fn read_known<S: Source>(
 
 /// How many objects, or how many kept events, there are: at most `most` with those that came before them.
 pub fn read_number<S: Source>(
+    alloc: Global,
     reader: &mut Reader,
     source: &mut S,
     least: usize,
@@ -74,7 +76,7 @@ pub fn read_number<S: Source>(
     ensures most { IfOk result (λ number. before + number ≤ most) }
 {
     let at = reader.place;
-    let number = reader.next::<u32, S>(source, least)?;
+    let number = reader.next::<u32, S>(alloc, source, least)?;
     if number > most - before {
         return Err(SnapshotFault::Bad {
             at,
@@ -118,7 +120,7 @@ fn read_placed<S: Source>(
     source: &mut S,
     least: usize,
     last: Option<Stamp>,
-) -> Result<(Stamp, KeptObject), SnapshotFault>
+) -> Result<(Stamp, Object), SnapshotFault>
     requires near { reader.old.place ≤ 2 ^ 60 }
     requires few { length reader.old.ahead ≤ least }
     requires least { 7 ≤ least }
@@ -128,16 +130,15 @@ fn read_placed<S: Source>(
     ensures near { IfOk result (λ _. reader.new.place ≤ reader.old.place + 2200) }
 {
     let at = reader.place;
-    let id = reader.next::<Stamp, S>(source, least)?;
+    let id = reader.next::<Stamp, S>(alloc, source, least)?;
     if !is_above(last, id) {
         return Err(SnapshotFault::Bad {
             at,
             why: ViewWhy::Order,
         });
     }
-    let object = reader.next::<Object, S>(source, least - ID_BYTES)?;
-    let kept = object.keep(alloc)?;
-    Ok((id, kept))
+    let object = reader.next::<Object, S>(alloc, source, least - ID_BYTES)?;
+    Ok((id, object))
 }
 
 /// So many kept events, where that is known of the sites. They are the last part.
@@ -161,7 +162,7 @@ pub fn read_kept<S: Source>(
     let mut last = None;
     'each: for i in 0..count {
         let least = LEAST_EVENT * (count - i) as usize;
-        let event = read_event(reader, source, least, known, line, last)?;
+        let event = read_event(alloc, reader, source, least, known, line, last)?;
         last = Some(event.stamp());
         kept.push(event)?;
     }
@@ -170,6 +171,7 @@ pub fn read_kept<S: Source>(
 
 /// A kept event, whose stamp is above the last one, and which is bounded by what is known.
 fn read_event<S: Source>(
+    alloc: Global,
     reader: &mut Reader,
     source: &mut S,
     least: usize,
@@ -186,7 +188,7 @@ fn read_event<S: Source>(
     ensures near { IfOk result (λ _. reader.new.place ≤ reader.old.place + 1100) }
 {
     let at = reader.place;
-    let event = reader.next::<Event, S>(source, least)?;
+    let event = reader.next::<Event, S>(alloc, source, least)?;
     match kept_fault(known, line, last, &event) {
         Some(why) => Err(SnapshotFault::Bad { at, why }),
         None => Ok(event),

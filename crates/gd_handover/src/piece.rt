@@ -1,16 +1,17 @@
 //! The pieces of which a snapshot is read.
 
 ghost use Rattle.std.specs.Prelude.{◌≡◌, ℕ, List};
-ghost use Rattle.gd_base.specs.Results.{Gives};
 ghost use Rattle.gd_grammar.specs.Reading.{Reads};
 ghost use Rattle.gd_snapshots.specs.Pieces.{PieceLaws};
+ghost use Rattle.gd_wire.specs.Packed.{GivesPacked};
 
 use crate::fields;
 use crate::head::Head;
-use gd_base::{FieldFault, Object, Stamp, Version};
+use gd_base::{Object, Stamp, Version};
 use gd_events::Event;
 use gd_snapshots::Known;
-use gd_wire::{Bytes, Drawings};
+use gd_wire::{Bytes, Drawings, PackError};
+use std::alloc::Global;
 
 /// A type that is read off the front of bytes, behind which more may come. It takes no more bytes than an event.
 pub trait Piece: Drop {
@@ -20,9 +21,10 @@ pub trait Piece: Drop {
     /// How many bytes it takes at least.
     ghost least: { ℕ };
 
-    /// Reads it. The first fault is returned: `Short` at the end of all bytes where they aren't all of it.
-    fn parse<'a>(bytes: &mut Bytes<'a>) -> Result<Self, FieldFault>
-        ensures { Gives (λ x. (x, bytes.new)) result (read bytes.old) };
+    /// Reads it into the memory that it needs. The first fault is returned: `Short` at the end of all bytes where they
+    /// aren't all of it. `Memory` where memory ran out.
+    fn parse<'a>(alloc: Global, bytes: &mut Bytes<'a>) -> Result<Self, PackError>
+        ensures { GivesPacked (λ x. (x, bytes.new)) result (read bytes.old) };
 
     /// It is read alike whatever follows it, and where its spelling stands.
     ghost laws: { PieceLaws read least };
@@ -38,8 +40,8 @@ impl Piece for Head {
 
     ghost laws = { head_piece };
 
-    fn parse<'a>(bytes: &mut Bytes<'a>) -> Result<Self, FieldFault> {
-        fields::head(bytes)
+    fn parse<'a>(_alloc: Global, bytes: &mut Bytes<'a>) -> Result<Self, PackError> {
+        Ok(fields::head(bytes)?)
     }
 }
 
@@ -53,8 +55,8 @@ impl Piece for Known {
 
     ghost laws = { known_piece };
 
-    fn parse<'a>(bytes: &mut Bytes<'a>) -> Result<Self, FieldFault> {
-        fields::known(bytes)
+    fn parse<'a>(_alloc: Global, bytes: &mut Bytes<'a>) -> Result<Self, PackError> {
+        Ok(fields::known(bytes)?)
     }
 }
 
@@ -69,8 +71,8 @@ impl Piece for u32 {
 
     ghost laws = { number_piece };
 
-    fn parse<'a>(bytes: &mut Bytes<'a>) -> Result<Self, FieldFault> {
-        bytes.word()
+    fn parse<'a>(_alloc: Global, bytes: &mut Bytes<'a>) -> Result<Self, PackError> {
+        Ok(bytes.word()?)
     }
 }
 
@@ -85,8 +87,8 @@ impl Piece for Stamp {
 
     ghost laws = { id_piece };
 
-    fn parse<'a>(bytes: &mut Bytes<'a>) -> Result<Self, FieldFault> {
-        bytes.stamp()
+    fn parse<'a>(_alloc: Global, bytes: &mut Bytes<'a>) -> Result<Self, PackError> {
+        Ok(bytes.stamp()?)
     }
 }
 
@@ -101,8 +103,8 @@ impl Piece for Object {
 
     ghost laws = { object_piece };
 
-    fn parse<'a>(bytes: &mut Bytes<'a>) -> Result<Self, FieldFault> {
-        bytes.object(&None)
+    fn parse<'a>(alloc: Global, bytes: &mut Bytes<'a>) -> Result<Self, PackError> {
+        bytes.object(alloc, &None)
     }
 }
 
@@ -116,7 +118,7 @@ impl Piece for Event {
 
     ghost laws = { event_piece };
 
-    fn parse<'a>(bytes: &mut Bytes<'a>) -> Result<Self, FieldFault> {
-        bytes.event::<Drawings>(Version::Three)
+    fn parse<'a>(alloc: Global, bytes: &mut Bytes<'a>) -> Result<Self, PackError> {
+        bytes.event::<Drawings>(alloc, Version::Three)
     }
 }

@@ -8,7 +8,7 @@ ghost use Rattle.gd_snapshots.specs.Snapshots.{IsKnown};
 
 use crate::fields::{MAGIC, VERSION};
 use crate::snapshot::Snapshot;
-use gd_base::{KeptObject, Stamp};
+use gd_base::{Object, Stamp};
 use gd_snapshots::Known;
 use gd_wire::EventBytes;
 
@@ -30,13 +30,13 @@ pub(crate) fn front_of(snapshot: &Snapshot) -> EventBytes
 }
 
 /// An object behind its id.
-pub(crate) fn placed_of(placed: &(Stamp, KeptObject)) -> EventBytes
+pub(crate) fn placed_of(placed: &(Stamp, Object)) -> EventBytes
     ensures { result ≡ placed_bytes placed.now }
 {
     let (id, object) = placed;
     let mut out = EventBytes::new();
     out.put_stamp(*id);
-    out.put_object(&object.whole());
+    out.put_object(object);
     out
 }
 

@@ -1,6 +1,6 @@
 //! Reading pieces of a snapshot off a source, so that no byte behind the snapshot is taken.
 
-ghost use Rattle.std.specs.Prelude.{◌≡◌, ◌<◌, ◌≤◌, ◌+◌, ◌-◌, ◌^◌, [], length, IfErr, IfOk, OnErr};
+ghost use Rattle.std.specs.Prelude.{◌≡◌, ◌<◌, ◌≤◌, ◌+◌, ◌-◌, ◌^◌, [], length, IfOk, OnErr};
 ghost use Rattle.gd_base.specs.declared.fault.FieldWhy.TheVariants.{Short};
 ghost use Rattle.gd_grammar.specs.FieldBytes.{AreBytes};
 ghost use Rattle.gd_grammar.specs.Reading.{place};
@@ -9,13 +9,15 @@ ghost use Rattle.gd_snapshots.specs.Pieces.{Stands};
 ghost use Rattle.gd_snapshots.specs.SnapshotBytes.{in_view, view_why};
 ghost use Rattle.gd_handover.specs.Parts.{Part};
 ghost use Rattle.gd_handover.specs.Pieces.{GoesOn};
+ghost use Rattle.gd_wire.specs.Packed.{GivesPacked};
 
 use crate::ahead::Ahead;
 use crate::fault::SnapshotFault;
 use crate::piece::Piece;
 use gd_base::{FieldFault, FieldWhy, ViewWhy};
 use gd_outside::Source;
-use gd_wire::Bytes;
+use gd_wire::{Bytes, PackError};
+use std::alloc::Global;
 
 /// Bytes that were read ahead, and how many were used before them.
 #[derive(Drop)]
@@ -38,9 +40,11 @@ impl Reader {
     /// Reads the next piece. `least` is how many bytes the snapshot has at least from here on, where it is whole: no
     /// more than that are read ahead, but one byte after the other where the piece needs more.
     ///
-    /// `Read` where a read failed, and `Bad` at the piece's first fault. Bytes are judged before more are read.
+    /// `Read` where a read failed, `Bad` at the piece's first fault, and `NoMemory` where memory ran out. Bytes are
+    /// judged before more are read.
     pub fn next<P: Piece, S: Source>(
         &mut self,
+        alloc: Global,
         source: &mut S,
         least: usize,
     ) -> Result<P, SnapshotFault>
@@ -52,15 +56,17 @@ impl Reader {
         ensures near { IfOk result (λ _. self.new.place ≤ self.old.place + EVENT_BYTES) }
     {
         'piece: loop {
-            match self.take::<P>() {
+            match self.take::<P>(alloc) {
                 Ok(piece) => return Ok(piece),
-                Err(fault) => self.read_on(source, least, fault)?,
+                Err(PackError::Memory) => return Err(SnapshotFault::NoMemory),
+                Err(PackError::Field(fault)) => self.read_on(source, least, fault)?,
             }
         }
     }
 
-    /// Takes a piece off the bytes ahead. Else their first fault, and then they stay as they were.
-    fn take<P: Piece>(&mut self) -> Result<P, FieldFault>
+    /// Takes a piece off the bytes ahead. Else their first fault, or `Memory` where memory ran out, and then they stay
+    /// as they were.
+    fn take<P: Piece>(&mut self, alloc: Global) -> Result<P, PackError>
         requires near { self.old.place ≤ 2 ^ 62 }
         ensures stands { IfOk result (λ x.
             Stands P.read P.least self.old.ahead (x, self.new.ahead)) }
@@ -68,12 +74,12 @@ impl Reader {
         ensures moved { IfOk result (λ _. self.new.place + length self.new.ahead
             ≡ self.old.place + length self.old.ahead) }
         ensures near { IfOk result (λ _. self.new.place ≤ self.old.place + EVENT_BYTES) }
-        ensures fault { IfErr result (λ fault. P.read self.old.ahead ≡ Err fault) }
+        ensures read { GivesPacked (λ x. (x, self.new.ahead)) result (P.read self.old.ahead) }
         ensures stays { OnErr result (self.new ≡ self.old) }
     {
         let mut rest = Bytes::new(self.ahead.as_slice());
         rest.are_bytes();
-        let piece = P::parse(&mut rest)?;
+        let piece = P::parse(alloc, &mut rest)?;
         let count = self.ahead.len() - rest.len();
         self.ahead.skip(count);
         self.place += count as u64;

@@ -62,12 +62,12 @@ fn read_parts<S: Source>(
     ensures few { IfOk result (λ _. length reader.new.ahead ≤ 0) }
     ensures near { IfOk result (λ _. reader.new.place ≤ 2 ^ 40) }
 {
-    let head = reader.next::<Head, S>(source, LEAST_BYTES)?;
-    let known = read_known(reader, source, head.sites())?;
+    let head = reader.next::<Head, S>(alloc, source, LEAST_BYTES)?;
+    let known = read_known(alloc, reader, source, head.sites())?;
     let made = total(known.as_slice());
-    let count = read_number(reader, source, 2 * NUMBER_BYTES, made, 0)?;
+    let count = read_number(alloc, reader, source, 2 * NUMBER_BYTES, made, 0)?;
     let objects = read_objects(alloc, reader, source, count)?;
-    let left = read_number(reader, source, NUMBER_BYTES, made, count)?;
+    let left = read_number(alloc, reader, source, NUMBER_BYTES, made, count)?;
     let kept = read_kept(alloc, reader, source, known.as_slice(), left)?;
     Ok(Snapshot::new(head.session(), head.site(), known, objects, kept))
 }

@@ -5,7 +5,7 @@ ghost use Rattle.gd_base.specs.declared.ranges.TheConstants.{SITES};
 ghost use Rattle.gd_snapshots.specs.Snapshots.{IsSnapshot};
 
 use arrayvec::ArrayVec;
-use gd_base::{KeptObject, SITES, Stamp};
+use gd_base::{Object, SITES, Stamp};
 use gd_events::EventList;
 use gd_snapshots::Known;
 use std::alloc::{AllocError, Global};
@@ -58,7 +58,7 @@ impl KnownList {
 /// Objects behind their ids. Contracts see them as a list.
 #[derive(Drop)]
 pub struct PlacedList {
-    items: Vec<(Stamp, KeptObject)>,
+    items: Vec<(Stamp, Object)>,
 }
 
 impl Model for PlacedList {
@@ -81,7 +81,7 @@ impl PlacedList {
     }
 
     /// Puts an object last. `AllocError` where memory ran out, and then the list stays as it was.
-    pub fn push(&mut self, id: Stamp, object: KeptObject) -> Result<(), AllocError>
+    pub fn push(&mut self, id: Stamp, object: Object) -> Result<(), AllocError>
         ensures ok { OnOk result (self.new ≡ self.old ++ (id, object) ∷ []) }
         ensures err { OnErr result (self.new ≡ self.old) }
     {
@@ -89,7 +89,7 @@ impl PlacedList {
         Ok(())
     }
 
-    pub fn as_slice(&self) -> &[(Stamp, KeptObject)]
+    pub fn as_slice(&self) -> &[(Stamp, Object)]
         ensures { result.now ≡ self.now }
     {
         self.items.as_slice()
@@ -108,7 +108,7 @@ impl PlacedList {
 /// The objects of a list behind their ids, taken one after another. Contracts see those that are left.
 #[derive(Drop)]
 pub struct Objects {
-    items: IntoIter<(Stamp, KeptObject), Global>,
+    items: IntoIter<(Stamp, Object), Global>,
 }
 
 impl Model for Objects {
@@ -123,7 +123,7 @@ impl Model for Objects {
 
 impl Objects {
     /// Takes the first one. None exactly where none is left.
-    pub fn next(&mut self) -> Option<(Stamp, KeptObject)>
+    pub fn next(&mut self) -> Option<(Stamp, Object)>
         ensures { MatchOption result
             ((self.old ≡ []) × (self.new ≡ []))
             (λ p. self.old ≡ p ∷ self.new) }
@@ -219,7 +219,7 @@ impl Snapshot {
     }
 
     /// The objects that the events up to the line left, by their ids.
-    pub fn objects(&self) -> &[(Stamp, KeptObject)]
+    pub fn objects(&self) -> &[(Stamp, Object)]
         ensures objects { result.now ≡ self.now.objects }
         ensures good { IsSnapshot self.now }
     {

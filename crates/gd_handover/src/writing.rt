@@ -9,9 +9,9 @@ ghost use Rattle.gd_snapshots.specs.SnapshotBytes.{placed_bytes, snapshot_pieces
 
 use crate::pieces::{front_of, number_of, placed_of};
 use crate::snapshot::Snapshot;
-use gd_base::{KeptObject, Stamp};
+use gd_base::{Object, Stamp};
 use gd_effects::print;
-use gd_events::ListedEvent;
+use gd_events::Event;
 use gd_outside::{End, Sink};
 use gd_wire::{EventBytes, write_event};
 
@@ -30,7 +30,7 @@ pub fn write_snapshot<K: Sink>(snapshot: &Snapshot, output: &mut K) -> Result<()
 }
 
 /// Each object behind its id.
-fn print_objects<K: Sink>(objects: &[(Stamp, KeptObject)], output: &mut K) -> Result<(), End>
+fn print_objects<K: Sink>(objects: &[(Stamp, Object)], output: &mut K) -> Result<(), End>
     ensures does { Prints (K.seen output.old) (map Print (map placed_bytes objects.now)) result
         (K.seen output.new) }
     ensures end { (e : End) → result ≡ Err e → e ≡ End.WriteFault }
@@ -45,7 +45,7 @@ fn print_objects<K: Sink>(objects: &[(Stamp, KeptObject)], output: &mut K) -> Re
 }
 
 /// The number of the kept events, and each of them.
-fn print_kept<K: Sink>(kept: &[ListedEvent], output: &mut K) -> Result<(), End>
+fn print_kept<K: Sink>(kept: &[Event], output: &mut K) -> Result<(), End>
     requires { length kept.now < 2 ^ 32 }
     ensures does { Prints (K.seen output.old)
         (map Print (word_bytes (length kept.now) ∷ map spelling kept.now)) result
@@ -56,9 +56,8 @@ fn print_kept<K: Sink>(kept: &[ListedEvent], output: &mut K) -> Result<(), End>
     print(output, number.as_slice())?;
     let mut piece = EventBytes::new();
     let mut left = kept;
-    'events: while let Some((listed, rest)) = left.split_first() {
-        let event = listed.event();
-        write_event(&event, &mut piece);
+    'events: while let Some((event, rest)) = left.split_first() {
+        write_event(event, &mut piece);
         print(output, piece.as_slice())?;
         left = rest;
     }

@@ -11,14 +11,17 @@ ghost use Rattle.gd_events.specs.Sound.{is_shift_in_range};
 ghost use Rattle.gd_model.specs.Board.{listed};
 ghost use Rattle.gd_slots.specs.Slots.{board_of};
 ghost use Rattle.gd_reference.specs.Judging.{Target, target, targets, with_targets, grouped, are_apart, is_other};
-ghost use Rattle.gd_judging.specs.Targets.{told, as_named, as_member, rising};
+ghost use Rattle.gd_judging.specs.Faults.{EditIs};
+ghost use Rattle.gd_judging.specs.Targets.{told, as_named, as_member, group_of, rising};
 
+use crate::faults::EditFault;
 use crate::judging::{in_range, target};
 use arrayvec::ArrayVec;
 use gd_base::{EditRefusal, MOST_MEMBERS, Member, Members, Stamp};
 use gd_canvas::Canvas;
-use gd_events::Op;
+use gd_events::{MemberList, Op};
 use gd_view::Shown;
+use std::alloc::Global;
 
 /// An object that a new group names, with what stands above it.
 #[derive(Clone, Copy, Default)]
@@ -43,11 +46,24 @@ impl Named {
     }
 }
 
-/// The group of the objects of these ids, or why it is refused.
-pub(crate) fn group(canvas: &Canvas, ids: &[Stamp]) -> Result<Op, EditRefusal>
+/// The group of the objects of these ids, or why there is none.
+pub(crate) fn group(alloc: Global, canvas: &Canvas, ids: &[Stamp]) -> Result<Op, EditFault>
     requires few { map_of.len (board_of canvas.now) ≤ SESSION_EVENTS }
     requires members { length ids.now ≤ MOST_MEMBERS }
-    ensures { result ≡ with_targets (targets (target (listed (board_of canvas.now))) ids.now) }
+    ensures { EditIs
+        (with_targets (targets (target (listed (board_of canvas.now))) ids.now)) result }
+{
+    let members = members(canvas, ids)?;
+    let members = MemberList::new(alloc, &members)?;
+    Ok(Op::Group { members })
+}
+
+/// The members of the group of the objects of these ids, or why it is refused.
+fn members(canvas: &Canvas, ids: &[Stamp]) -> Result<Members, EditRefusal>
+    requires few { map_of.len (board_of canvas.now) ≤ SESSION_EVENTS }
+    requires members { length ids.now ≤ MOST_MEMBERS }
+    ensures { group_of result
+        ≡ with_targets (targets (target (listed (board_of canvas.now))) ids.now) }
 {
     match all_named(canvas, ids) {
         Some(named) => grouped(named.as_slice()),
@@ -70,11 +86,11 @@ fn all_named(canvas: &Canvas, ids: &[Stamp]) -> Option<ArrayVec<Named, MOST_MEMB
     Some(all)
 }
 
-/// The group of objects that are shown, or why it is refused.
-fn grouped(named: &[Named]) -> Result<Op, EditRefusal>
+/// The members of the group of objects that are shown, or why it is refused.
+fn grouped(named: &[Named]) -> Result<Members, EditRefusal>
     requires { length named.now ≤ MOST_MEMBERS }
     ensures { (ts : List (stamps.Stamp × Target)) → map as_named ts ≡ named.now
-        → result ≡ grouped ts }
+        → group_of result ≡ grouped ts }
 {
     if !are_apart(named) {
         return Err(EditRefusal::SameMember);
@@ -83,7 +99,7 @@ fn grouped(named: &[Named]) -> Result<Op, EditRefusal>
         return Err(EditRefusal::NotTop);
     }
     match rising(named) {
-        Some(members) => Ok(Op::Group { members }),
+        Some(members) => Ok(members),
         None => Err(EditRefusal::TooFar),
     }
 }

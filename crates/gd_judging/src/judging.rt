@@ -1,37 +1,44 @@
 //! What becomes of an edit, and of one that names a single object.
 
-ghost use Rattle.std.specs.Prelude.{◌≡◌, ◌≤◌, ◌-ℤ◌, Ok, Err, Some, None, option_map, if◌then◌else◌};
+ghost use Rattle.std.specs.Prelude.{◌≡◌, ◌≤◌, ◌-ℤ◌, Some, None, MatchResult, option_map, if◌then◌else◌};
 ghost use Rattle.std.specs.FinMap as map_of;
 ghost use Rattle.gd_base.specs.Ranges.{place_limit, is_within};
+ghost use Rattle.gd_base.specs.Stamps.{Stamp as StampValue};
+ghost use Rattle.gd_base.specs.declared.content.Content.TheVariants.{ToEnds};
+ghost use Rattle.gd_base.specs.declared.op.Op.TheVariants.{Set};
 ghost use Rattle.gd_base.specs.declared.ranges.TheConstants.{SESSION_EVENTS};
+ghost use Rattle.gd_base.specs.declared.refusal.EditRefusal.TheVariants.{NoObject};
+ghost use Rattle.gd_events.specs.Ops.{Op as OpValue};
 ghost use Rattle.gd_model.specs.Board.{listed};
 ghost use Rattle.gd_slots.specs.Slots.{board_of};
 ghost use Rattle.gd_reference.specs.Judging.{between, judged_over, moved_of, moved_to, of_drawn, of_group, of_shape};
-ghost use Rattle.gd_reference.specs.Judging.{reconnected, set_in, target, with_target};
+ghost use Rattle.gd_reference.specs.Judging.{reconnect, reconnected, set_in, target};
 ghost use Rattle.gd_model.specs.Objects.{is_connector, is_placed};
-ghost use Rattle.gd_judging.specs.Targets.{told, in_range};
+ghost use Rattle.gd_judging.specs.Faults.{EditIs};
+ghost use Rattle.gd_judging.specs.Targets.{told, if_allowed, in_range};
 
+use crate::faults::EditFault;
 use crate::groups::group;
 use gd_base::{
-    Content, Edit, EditRefusal, Ends, Height, Label, Looks, PLACE_LIMIT, Place, Side, Stamp,
-    map_content,
+    Content, Edit, EditRefusal, Ends, Height, Label, Looks, PLACE_LIMIT, Place, Side, Stamp, Text,
 };
 use gd_canvas::{Canvas, Kind};
-use gd_events::Op;
+use gd_events::{Op, PackedLooks};
 use gd_view::{Shown, shown};
+use std::alloc::Global;
 
 /// The operation that the edit becomes over this drawing, or the first of these refusals that applies, in this order:
 /// `NoObject` where an object that it names isn't shown; `NotShape` where it wants a shape and the object is a group,
 /// and `NotGroup` where it wants a group and the object is none; `NotPlaced` where it wants a place and the object is a
 /// connector, and `NotConnector` where it wants a connector and the object is none; `SameMember` where a group names an
 /// object twice, or both ends are one; `NotTop` where a group names an object that is in a group; `TooFar` where the
-/// own place of a moved object, or the shift of a member, would leave its range. No other refusal comes. It takes no
-/// memory.
+/// own place of a moved object, or the shift of a member, would leave its range. No other refusal comes. They are
+/// decided before any memory is taken, and `Memory` comes where it then ran out.
 ///
 /// Places of new shapes, sizes, looks and the number of ids are taken as they are.
-pub fn judge(canvas: &Canvas, edit: &Edit) -> Result<Op, EditRefusal>
+pub fn judge(alloc: Global, canvas: &Canvas, edit: &Edit) -> Result<Op, EditFault>
     requires few { map_of.len (board_of canvas.now) ≤ SESSION_EVENTS }
-    ensures { result ≡ judged_over (target (listed (board_of canvas.now))) edit.now }
+    ensures { EditIs (judged_over (target (listed (board_of canvas.now))) edit.now) result }
 {
     match edit {
         Edit::Create {
@@ -42,7 +49,7 @@ pub fn judge(canvas: &Canvas, edit: &Edit) -> Result<Op, EditRefusal>
             h,
             label,
         } => {
-            let label = label.copy();
+            let label = Text::new(alloc, label)?;
             Ok(Op::Create {
                 kind: *kind,
                 x: *x,
@@ -52,21 +59,20 @@ pub fn judge(canvas: &Canvas, edit: &Edit) -> Result<Op, EditRefusal>
                 label,
             })
         }
-        Edit::Delete { id } => of_any(target(canvas, *id), Op::Delete { id: *id }),
-        Edit::Connect { ends, label } => {
-            let change = Op::Connect {
-                ends: *ends,
-                label: label.copy(),
-            };
-            between(
-                change,
-                *ends,
-                target(canvas, ends.from),
-                target(canvas, ends.to),
-            )
+        Edit::Delete { id } => {
+            let _shown = named(canvas, *id)?;
+            Ok(Op::Delete { id: *id })
         }
-        Edit::Set { id, content } => set(canvas, target(canvas, *id), *id, content),
-        Edit::Group { members } => group(canvas, members.as_slice()),
+        Edit::Connect { ends, label } => {
+            between(*ends, target(canvas, ends.from), target(canvas, ends.to))?;
+            let label = Text::new(alloc, label)?;
+            Ok(Op::Connect { ends: *ends, label })
+        }
+        Edit::Set { id, content } => {
+            let shown = named(canvas, *id)?;
+            set_in(alloc, canvas, &shown, *id, content)
+        }
+        Edit::Group { members } => group(alloc, canvas, members.as_slice()),
         Edit::Restore { object, .. } => match *object {},
         Edit::Disband { ties, .. } => match *ties {},
     }
@@ -81,78 +87,77 @@ pub(crate) fn target(canvas: &Canvas, id: Stamp) -> Option<Shown>
     shown(canvas, id)
 }
 
-/// The change of any object, where it is shown.
-fn of_any(target: Option<Shown>, change: Op) -> Result<Op, EditRefusal>
-    ensures { result ≡ with_target (option_map told target) (λ t. Ok change) }
-{
-    match target {
-        Some(_) => Ok(change),
-        None => Err(EditRefusal::NoObject),
-    }
-}
-
-/// What sets a content in an object, where it is shown.
-fn set(
-    canvas: &Canvas,
-    found: Option<Shown>,
-    id: Stamp,
-    content: &Content<Label, Looks, Side>,
-) -> Result<Op, EditRefusal>
+/// The same, or that it isn't.
+fn named(canvas: &Canvas, id: Stamp) -> Result<Shown, EditRefusal>
     requires few { map_of.len (board_of canvas.now) ≤ SESSION_EVENTS }
-    ensures { result ≡ with_target (option_map told found)
-        (set_in (target (listed (board_of canvas.now))) id content.now) }
+    ensures { MatchResult result
+        (λ shown. target (listed (board_of canvas.now)) id ≡ Some (told shown))
+        (λ why. (target (listed (board_of canvas.now)) id ≡ None) × (why ≡ NoObject)) }
 {
-    match found {
-        Some(shown) => set_in(canvas, &shown, id, content),
+    match target(canvas, id) {
+        Some(shown) => Ok(shown),
         None => Err(EditRefusal::NoObject),
     }
 }
 
-/// What sets a content in an object that is shown, or why it is refused.
+/// What sets a content in an object that is shown, or why nothing does.
 fn set_in(
+    alloc: Global,
     canvas: &Canvas,
     shown: &Shown,
     id: Stamp,
     content: &Content<Label, Looks, Side>,
-) -> Result<Op, EditRefusal>
+) -> Result<Op, EditFault>
     requires few { map_of.len (board_of canvas.now) ≤ SESSION_EVENTS }
-    ensures { result
-        ≡ set_in (target (listed (board_of canvas.now))) id content.now (told shown.now) }
+    ensures { EditIs
+        (set_in (target (listed (board_of canvas.now))) id content.now (told shown.now)) result }
 {
-    let change = Op::Set {
-        id,
-        content: map_content!(content,
-            label => label.copy(),
-            looks => *looks,
-            side => Height::To(*side)),
+    let content = match content {
+        Content::ToPlace { x, y } => return Ok(moved_of(shown, id, *x, *y)?),
+        Content::ToSize { w, h } => {
+            of_shape(shown.kind)?;
+            Content::ToSize { w: *w, h: *h }
+        }
+        Content::ToLooks(looks) => {
+            of_drawn(shown.kind)?;
+            Content::ToLooks(PackedLooks::new(alloc, looks)?)
+        }
+        Content::ToText(label) => {
+            of_drawn(shown.kind)?;
+            Content::ToText(Text::new(alloc, label)?)
+        }
+        Content::ToFlag(flag) => {
+            of_group(shown.kind)?;
+            Content::ToFlag(*flag)
+        }
+        Content::ToEnds(ends) => {
+            reconnect(canvas, shown, *ends)?;
+            Content::ToEnds(*ends)
+        }
+        Content::ToRank(side) => Content::ToRank(Height::To(*side)),
     };
-    match content {
-        Content::ToPlace { x, y } => moved_of(shown, id, *x, *y),
-        Content::ToRank(_) => Ok(change),
-        Content::ToFlag(_) => of_group(shown.kind, change),
-        Content::ToSize { .. } => of_shape(shown.kind, change),
-        Content::ToEnds(None) => Err(EditRefusal::NotConnector),
-        Content::ToEnds(Some(ends)) => {
-            let judged = between(
-                change,
-                *ends,
-                target(canvas, ends.from),
-                target(canvas, ends.to),
-            );
+    Ok(Op::Set { id, content })
+}
+
+/// Whether an object may have these ends: it is a connector, and both are shown, have a place, and aren't the same.
+fn reconnect(canvas: &Canvas, shown: &Shown, ends: Option<Ends>) -> Result<(), EditRefusal>
+    requires few { map_of.len (board_of canvas.now) ≤ SESSION_EVENTS }
+    ensures { (id : StampValue) → if_allowed result (Set id (ToEnds ends))
+        ≡ reconnect (target (listed (board_of canvas.now))) id ends (told shown.now) }
+{
+    match ends {
+        None => Err(EditRefusal::NotConnector),
+        Some(ends) => {
+            let judged = between(ends, target(canvas, ends.from), target(canvas, ends.to));
             reconnected(is_connector(shown.kind), judged)
         }
-        Content::ToLooks(_) | Content::ToText(_) => of_drawn(shown.kind, change),
     }
 }
 
-/// The change of the ends of a connector: both are shown, have a place, and aren't the same.
-fn between(
-    change: Op,
-    ends: Ends,
-    from: Option<Shown>,
-    to: Option<Shown>,
-) -> Result<Op, EditRefusal>
-    ensures { result ≡ between change ends (option_map told from) (option_map told to) }
+/// Whether a connector may have these ends: both are shown, have a place, and aren't the same.
+fn between(ends: Ends, from: Option<Shown>, to: Option<Shown>) -> Result<(), EditRefusal>
+    ensures { (change : OpValue) → if_allowed result change
+        ≡ between change ends (option_map told from) (option_map told to) }
 {
     let Some(from) = from else {
         return Err(EditRefusal::NoObject);
@@ -166,12 +171,13 @@ fn between(
     if ends.from.is_same(ends.to) {
         return Err(EditRefusal::SameMember);
     }
-    Ok(change)
+    Ok(())
 }
 
 /// Other ends for what is a connector.
-fn reconnected(connects: bool, judged: Result<Op, EditRefusal>) -> Result<Op, EditRefusal>
-    ensures { result ≡ reconnected connects judged }
+fn reconnected(connects: bool, judged: Result<(), EditRefusal>) -> Result<(), EditRefusal>
+    ensures { (change : OpValue) → if_allowed result change
+        ≡ reconnected connects (if_allowed judged change) }
 {
     match judged {
         Err(EditRefusal::NoObject) => Err(EditRefusal::NoObject),
@@ -215,34 +221,34 @@ fn moved_of(shown: &Shown, id: Stamp, x: i32, y: i32) -> Result<Op, EditRefusal>
     }
 }
 
-/// The change of an object of that kind, which has to be a shape.
-fn of_shape(kind: Kind, change: Op) -> Result<Op, EditRefusal>
-    ensures { result ≡ of_shape change kind }
+/// Whether an object of that kind has a size: it has to be a shape.
+fn of_shape(kind: Kind) -> Result<(), EditRefusal>
+    ensures { (change : OpValue) → if_allowed result change ≡ of_shape change kind }
 {
     match kind {
-        Kind::Shape(_) => Ok(change),
+        Kind::Shape(_) => Ok(()),
         Kind::Group => Err(EditRefusal::NotShape),
         Kind::Connector => Err(EditRefusal::NotPlaced),
     }
 }
 
-/// The change of an object of that kind, which has to be a shape or a connector.
-fn of_drawn(kind: Kind, change: Op) -> Result<Op, EditRefusal>
-    ensures { result ≡ of_drawn change kind }
+/// Whether it has a look and a label: it has to be a shape or a connector.
+fn of_drawn(kind: Kind) -> Result<(), EditRefusal>
+    ensures { (change : OpValue) → if_allowed result change ≡ of_drawn change kind }
 {
     match kind {
-        Kind::Shape(_) | Kind::Connector => Ok(change),
+        Kind::Shape(_) | Kind::Connector => Ok(()),
         Kind::Group => Err(EditRefusal::NotShape),
     }
 }
 
-/// The change of an object of that kind, which has to be a group.
-fn of_group(kind: Kind, change: Op) -> Result<Op, EditRefusal>
-    ensures { result ≡ of_group change kind }
+/// Whether it can be dissolved: it has to be a group.
+fn of_group(kind: Kind) -> Result<(), EditRefusal>
+    ensures { (change : OpValue) → if_allowed result change ≡ of_group change kind }
 {
     match kind {
         Kind::Shape(_) | Kind::Connector => Err(EditRefusal::NotGroup),
-        Kind::Group => Ok(change),
+        Kind::Group => Ok(()),
     }
 }
 

@@ -22,13 +22,11 @@ pieces-head header events bytes written newest same is =
     ap (λ v. Print (header_bytes drawings header) ∷ prints (record_pieces drawings v [] events)) newest
     ∙ ap (λ (b : List ℕ). Print b ∷ pieces [] events) (sym (same ∙ is))
 
-pub pieces-record : (seen left rest : List Event) (e : Event) (bytes written : List ℕ) → left ≡ e ∷ rest
-    → bytes ≡ written → written ≡ gate ∷ record_bytes drawings Three seen e
-    → pieces seen left ≡ (Print bytes ∷ []) ++ pieces (seen ++ e ∷ []) rest
+pub pieces-record : (seen left rest : List Event) (e : Event) → left ≡ e ∷ rest
+    → pieces seen left
+    ≡ (Print (gate ∷ record_bytes drawings Three seen e) ∷ []) ++ pieces (seen ++ e ∷ []) rest
 unfolding record_pieces
-pieces-record seen left rest e bytes written first same is =
-    ap (λ (es : List Event). pieces seen es) first
-    ∙ ap (λ (b : List ℕ). Print b ∷ pieces (seen ++ e ∷ []) rest) (sym (same ∙ is))
+pieces-record seen left rest e first = ap (λ (es : List Event). pieces seen es) first
 
 pub pieces-end : (seen left : List Event) → left ≡ [] → pieces seen left ≡ Print (0 ∷ []) ∷ []
 unfolding record_pieces

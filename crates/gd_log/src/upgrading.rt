@@ -1,12 +1,14 @@
 //! The command `upgrade`: reads a log, and writes it in the newest version.
 
-ghost use Rattle.std.specs.Prelude.{◌≡◌, map, ℕ, Err, ◌⊎◌, IsSome};
+ghost use Rattle.std.specs.Prelude.{◌≡◌, [], ◌∷◌, ◌++◌, List, map, ℕ, Err, ◌⊎◌, IsSome};
 ghost use Rattle.gd_outside.specs.Seen.{SeenJournal, SeenLink};
 ghost use Rattle.gd_outside.specs.Told.{told};
 ghost use Rattle.gd_base.specs.declared.version.Version.TheVariants as version;
+ghost use Rattle.gd_events.specs.Events.{Event as EventValue};
+ghost use Rattle.gd_grammar.specs.Chains.{AreChains};
 ghost use Rattle.gd_grammar.specs.Drawings.{drawings};
 ghost use Rattle.gd_grammar.specs.HeaderBytes.{upgraded};
-ghost use Rattle.gd_grammar.specs.LogBytes.{log_pieces};
+ghost use Rattle.gd_grammar.specs.LogBytes.{gate, log_pieces, record_bytes};
 ghost use Rattle.gd_effects.specs.Effects.{Print};
 ghost use Rattle.gd_effects.specs.Outside.{outside};
 ghost use Rattle.gd_effects.specs.Prints.{Prints};
@@ -14,7 +16,7 @@ ghost use Rattle.gd_effects.specs.Endings.{EndsAs, no_effects};
 ghost use Rattle.gd_reference.specs.SlowRun.{IsReaderEnd, upgraded_log, ended_by};
 
 use gd_effects::{print, status_of};
-use gd_events::EventList;
+use gd_events::{Event, EventList};
 use gd_logs::{CLOSED, LogFault, ReadError, gated_of, read_log};
 use gd_outside::{End, Sink, Source, Status};
 use gd_reading::refuse;
@@ -63,10 +65,22 @@ fn write_log<K: Sink>(header: LogHeader, events: EventList, output: &mut K) -> R
     print(output, head.as_slice())?;
     let mut chains = Chains::new();
     let mut left = events.into_events();
-    'records: while let Some(listed) = left.next() {
-        let event = listed.into_event();
-        let record = gated_of::<Drawings>(&event, &mut chains);
-        print(output, record.as_slice())?;
+    'records: while let Some(event) = left.next() {
+        write_record(event, &mut chains, output)?;
     }
     print(output, &[CLOSED])
+}
+
+/// Writes an event with its check, behind an open gate, and lets it go.
+fn write_record<K: Sink>(event: Event, chains: &mut Chains, output: &mut K) -> Result<(), End>
+    ensures does { (seen : List EventValue) → AreChains drawings chains.old seen
+        → Prints (K.seen output.old)
+        (Print (gate ∷ record_bytes drawings version.Three seen event) ∷ []) result
+        (K.seen output.new) }
+    ensures chains { (seen : List EventValue) → AreChains drawings chains.old seen
+        → AreChains drawings chains.new (seen ++ event ∷ []) }
+    ensures end { (e : End) → result ≡ Err e → e ≡ End.WriteFault }
+{
+    let record = gated_of::<Drawings>(&event, chains);
+    print(output, record.as_slice())
 }

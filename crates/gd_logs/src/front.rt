@@ -78,7 +78,7 @@ fn read_events<K: LogKind, S: Source>(
     let mut events = EventList::new(alloc);
     'records: loop {
         match reader.next(alloc, source) {
-            Ok(Some(event)) => events.push_listed(event)?,
+            Ok(Some(event)) => events.push(event)?,
             Ok(None) => {
                 return Ok(LogFront {
                     events,

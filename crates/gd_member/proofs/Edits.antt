@@ -2,7 +2,6 @@
 use Rattle.std.proofs.Common.{◌≡◌, ◌+◌, ℕ, true, false, List, length, refl, sym, ap, subst, ◌∙◌, arith}
 use Rattle.std.specs.Prelude.{Result, Ok, Err}
 use Rattle.gd_base.specs.declared.refusal.EditRefusal.{EditRefusal}
-use Rattle.gd_base.specs.declared.refusal.EditRefusal.TheVariants as refusal
 use Rattle.gd_events.specs.Events.{Event}
 use Rattle.gd_member.proofs.Standing.{stands_as}
 use Rattle.gd_member.specs.Members.{IsLive, MemberValue}
@@ -12,9 +11,8 @@ use Rattle.gd_member.specs.Unwritten.{AreUnwritten}
 use Rattle.gd_reference.specs.SiteEffects.{turned}
 use Rattle.gd_reference.specs.SlowSite.{SlowSite}
 use Rattle.gd_reference.specs.TakeBack.{BackRefusal}
-use Rattle.gd_site.specs.Answers.{EditIs}
-use Rattle.gd_site.specs.Faults.{fault_of}
-use Rattle.gd_site.specs.declared.answers.EditFault.TheVariants as fault
+use Rattle.gd_judging.specs.Faults.{EditIs}
+use Rattle.gd_judging.specs.declared.faults.EditFault.TheVariants as fault
 use Rattle.gd_takeback.specs.Answers.{OnBackRefusal, PaysFor, TurnIs}
 use Rattle.gd_takeback.specs.Standing.{StandsWith}
 use Rattle.gd_takeback.specs.declared.take_back.BackFault.{BackFault}
@@ -22,20 +20,8 @@ use Rattle.gd_takeback.specs.declared.take_back.BackFault.TheVariants as back
 
 -- ---- an edit for which there is no memory
 
-pub edit_unmade : (r : Result Event EditRefusal) (e : Event) → r ≡ Ok e → EditIs r (Err fault.NoMemory)
-edit_unmade r e is = subst (λ x. EditIs x (Err fault.NoMemory)) (sym is) refl
-
-pub edit_refused : (r : Result Event EditRefusal) (why : EditRefusal) → r ≡ Err why → EditIs r (Err (fault_of why))
-edit_refused r refusal.SessionFull is = (is, refl)
-edit_refused r refusal.ClockEnd is = is
-edit_refused r refusal.NoObject is = is
-edit_refused r refusal.NotShape is = is
-edit_refused r refusal.NotGroup is = is
-edit_refused r refusal.NotPlaced is = is
-edit_refused r refusal.NotConnector is = is
-edit_refused r refusal.SameMember is = is
-edit_refused r refusal.NotTop is = is
-edit_refused r refusal.TooFar is = is
+pub edit_unmade : (r : Result Event EditRefusal) (e : Event) → EditIs r (Ok e) → EditIs r (Err fault.Memory)
+edit_unmade r e is = subst (λ x. EditIs x (Err fault.Memory)) (sym is) refl
 
 -- ---- an undo, or a redo, for whose events there is none
 

@@ -1,22 +1,28 @@
 -- How a datagram is taken.
-use Rattle.std.proofs.Common.{◌≡◌, ◌∙◌, ℕ, false, cond, List, [], ◌∷◌, ◌++◌, sym, ap, subst, append-nil}
+use Rattle.std.proofs.Common.{◌≡◌, ◌∙◌, ℕ, ◌+◌, true, false, cond, List, [], ◌∷◌, ◌++◌, refl, sym, ap, subst}
+use Rattle.std.proofs.Common.{append-nil, arith}
 use Rattle.std.specs.List.{flat_map}
-use Rattle.std.specs.Prelude.{None, Result}
+use Rattle.std.specs.Prelude.{None, OnErr, OnOk, Result}
+use Rattle.std.specs.declared.alloc.AllocError.{AllocError}
 use Rattle.gd_answers.proofs.Heard.{Leaves, accepts}
 use Rattle.gd_answers.specs.Arriving.{heard, replies_of, taken_of}
+use Rattle.gd_answers.specs.Paying.{PaysFront}
 use Rattle.gd_answers.specs.declared.arrived.Arrived.{Arrived}
 use Rattle.gd_base.specs.declared.verdict.Verdict.{Verdict}
 use Rattle.gd_base.specs.declared.verdict.Verdict.TheVariants.{Taken}
+use Rattle.gd_effects.proofs.Doing.{on_ok}
+use Rattle.gd_effects.specs.Effects.{Effect, cost}
 use Rattle.gd_events.specs.Events.{Event}
 use Rattle.gd_grammar.specs.FrameBytes.{Frame, Misread, frame}
 use Rattle.gd_lines.specs.Replies.{reply_text}
 use Rattle.gd_lines.specs.declared.reply.Reply.{Reply}
 use Rattle.gd_lines.specs.declared.reply.Reply.TheVariants as reply
+use Rattle.gd_logs.proofs.WriterLemmas.{on_err}
 use Rattle.gd_member.proofs.Pieces.{none_more}
 use Rattle.gd_member.proofs.Standing.{stands_more}
 use Rattle.gd_member.specs.Members.{IsLive, MemberValue}
 use Rattle.gd_member.specs.Standing.{Stands}
-use Rattle.gd_member.specs.Taking.{TakesIn, datagram_replies, read_replies}
+use Rattle.gd_member.specs.Taking.{TakesIn, datagram_replies, datagram_works, read_replies, read_works}
 use Rattle.gd_member.specs.Unwritten.{AreUnwritten, UnwrittenValue}
 use Rattle.gd_protocol.proofs.Backs.{backs_take_frame}
 use Rattle.gd_reference.specs.NodeRun.{is_too_long, sender, sender_by, sender_of}
@@ -74,6 +80,24 @@ said_one old new said replies put are =
 pub said_none : (old : List ℕ) (replies : List Reply) → replies ≡ [] → old ≡ old ++ flat_map reply_text replies
 said_none old replies are = sym (append-nil old) ∙ ap (λ l. old ++ flat_map reply_text l) (sym are)
 
+-- ---- its steps
+
+-- all of them were taken
+pub pays_all : {before after : ℕ} (xs : List Effect) → after ≡ before + cost xs → PaysFront before xs after
+pays_all xs paid = record { front = xs; back = []; split = sym (append-nil xs); paid = paid }
+
+-- none was
+pub pays_none : (before : ℕ) (xs : List Effect) → PaysFront before xs before
+pays_none before xs = record { front = []; back = xs; split = refl; paid = omega arith }
+
+-- what has none
+module _ {T : Type 0} (r : Result T AllocError) (steps : ℕ) {xs : List Effect} (none : xs ≡ []) where
+  pub idle : OnOk r (steps ≡ steps + cost xs)
+  idle = on_ok r (omega (arith, ap cost none))
+
+  pub idle_err : OnErr r (PaysFront steps xs steps)
+  idle_err = on_err r (pays_none steps xs)
+
 -- ---- what is taken, by what was found of each event
 
 module _ (slow : SlowSite) (f : Frame) (came : List Arrived) (judged : verdict slow f ≡ Taken)
@@ -104,5 +128,13 @@ module _ (slow : SlowSite) (bytes : List ℕ) (fits : is_too_long bytes ≡ fals
       ap (λ b. cond b (reply.LongFrame ∷ []) (read_replies slow bytes (frame bytes))) fits
       ∙ ap (read_replies slow bytes) is
 
+  pub read_worked : datagram_works slow bytes ≡ read_works slow r
+  read_worked =
+      ap (λ b. cond b [] (read_works slow (frame bytes))) fits ∙ ap (read_works slow) is
+
   pub read_sender : sender slow bytes ≡ sender_of slow r
   read_sender = ap (λ b. cond b None (sender_of slow (frame bytes))) fits ∙ ap (sender_of slow) is
+
+-- one that is too long takes no steps
+pub long_worked : (slow : SlowSite) (bytes : List ℕ) → is_too_long bytes ≡ true → datagram_works slow bytes ≡ []
+long_worked slow bytes long = ap (λ b. cond b [] (read_works slow (frame bytes))) long

@@ -4,11 +4,13 @@ ghost use Rattle.std.specs.List.{flat_map};
 ghost use Rattle.std.specs.Prelude.{◌≡◌, ◌≤◌, ◌++◌, IfOk, IsTrue, OnOk, length};
 ghost use Rattle.gd_base.specs.Sites.{is_site};
 ghost use Rattle.gd_lines.specs.Replies.{reply_text};
+ghost use Rattle.gd_lines.specs.declared.reply.Reply.TheVariants as reply;
 ghost use Rattle.gd_reference.specs.NodeRun.{note_said, parting_said, who_at, who_replies};
 ghost use Rattle.gd_reference.specs.SlowSite.{SlowSite};
 ghost use Rattle.gd_site.specs.Sites.{StandsFor};
 
 use gd_answers::Said;
+use gd_base::Note;
 use gd_site::Site;
 use gd_words::Reply;
 use std::alloc::AllocError;
@@ -54,8 +56,15 @@ fn say_note(site: &Site, number: u8, said: &mut Said) -> Result<u64, AllocError>
     if note.number == 0 {
         return Ok(0);
     }
-    said.add(&Reply::Who { site: number, note })?;
+    add_note(number, note, said)?;
     Ok(1)
+}
+
+/// Says that note of that site. `AllocError` where memory ran out.
+fn add_note(site: u8, note: Note, said: &mut Said) -> Result<(), AllocError>
+    ensures { OnOk result (said.new ≡ said.old ++ reply_text (reply.Who site note)) }
+{
+    said.add(&Reply::Who { site, note })
 }
 
 /// Says that the site has parted from that one, if it has, and returns how many lines that was. `AllocError` where

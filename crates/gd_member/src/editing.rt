@@ -6,7 +6,7 @@ ghost use Rattle.gd_lines.specs.InRange.{IsEdit};
 ghost use Rattle.gd_reference.specs.Judging as judging;
 ghost use Rattle.gd_reference.specs.SlowSite.{SlowSite};
 ghost use Rattle.gd_reference.specs.TakeBack.{after_edit};
-ghost use Rattle.gd_site.specs.Answers.{EditIs};
+ghost use Rattle.gd_judging.specs.Faults.{EditIs};
 ghost use Rattle.gd_site.specs.Sites.{StandsFor};
 ghost use Rattle.gd_takeback.specs.Answers.{StampIs};
 
@@ -23,7 +23,7 @@ impl Member {
     /// then.
     ///
     /// `ClockEnd`, `SessionFull`, `NoObject`, `NotShape`, `NotGroup`, `NotPlaced`, `NotConnector`, `SameMember`,
-    /// `NotTop` and `TooFar` are decided in this order, whether there is memory or not; `NoMemory` where there was none
+    /// `NotTop` and `TooFar` are decided in this order, whether there is memory or not; `Memory` where there was none
     /// for the event. After each of them the member and the steps are as before.
     pub fn edit<L: Ledger>(&mut self, edit: &Edit, steps: &mut Steps<L>) -> Result<Stamp, EditFault>
         requires live { IsLive self.old }
@@ -41,7 +41,9 @@ impl Member {
             Ok(()) => {
                 let event = self.backs.edit(&mut self.site, edit, steps)?;
                 self.unwritten.add(&event);
-                Ok(event.stamp())
+                let stamp = event.stamp();
+                drop(event);
+                Ok(stamp)
             }
             Err(_) => Err(fault_without_memory(&self.site, edit)),
         }
@@ -55,7 +57,10 @@ fn fault_without_memory(site: &Site, edit: &Edit) -> EditFault
         → EditIs (judging.edit slow edit.now) (Err result) }
 {
     match site.decide(edit) {
-        Ok(_) => EditFault::NoMemory,
-        Err(why) => EditFault::from(why),
+        Ok(event) => {
+            drop(event);
+            EditFault::Memory
+        }
+        Err(fault) => fault,
     }
 }

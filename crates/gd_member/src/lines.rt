@@ -3,7 +3,7 @@
 ghost use Rattle.std.specs.List.{flat_map};
 ghost use Rattle.std.specs.Prelude.{◌≡◌, ◌++◌, ℕ, Ok, Err, IfOk, List, OnErr, OnOk, Some, true};
 ghost use Rattle.gd_base.specs.declared.refusal.Refusal.{Refusal as RefusalValue};
-ghost use Rattle.gd_events.specs.Events.{Event};
+ghost use Rattle.gd_events.specs.Events.{Event as EventValue};
 ghost use Rattle.gd_lines.specs.InRange.{IsEdit};
 ghost use Rattle.gd_lines.specs.Lines.{read};
 ghost use Rattle.gd_lines.specs.Replies.{reply_text};
@@ -20,7 +20,7 @@ use crate::member::Member;
 use crate::told::Told;
 use gd_answers::{Said, back_refusal, edit_refusal, line_refusal, noted_reply};
 use gd_base::{Edit, LineFault, Name, Refusal, Stamp, Steps};
-use gd_events::ListedEvent;
+use gd_events::Event;
 use gd_lines::Turn;
 use gd_site::NoteEnd;
 use gd_words::{Command, Line, Reply, what_is_read_is_in_range};
@@ -44,7 +44,7 @@ impl Member {
         steps: &mut Steps<L>,
     ) -> Result<Told, AllocError>
         requires { IsLive self.old }
-        ensures { (slow : SlowSite) (written : List Event) → Stands slow written self.old
+        ensures { (slow : SlowSite) (written : List EventValue) → Stands slow written self.old
             → Answers slow written (read line.now) result
             self.new said.old said.new steps.old steps.new }
     {
@@ -61,7 +61,7 @@ impl Member {
     ) -> Result<Told, AllocError>
         requires live { IsLive self.old }
         requires read { IsRead line }
-        ensures { (slow : SlowSite) (written : List Event) → Stands slow written self.old
+        ensures { (slow : SlowSite) (written : List EventValue) → Stands slow written self.old
             → Answers slow written line result self.new said.old said.new steps.old steps.new }
     {
         match line {
@@ -90,7 +90,7 @@ impl Member {
     ) -> Result<Told, AllocError>
         requires live { IsLive self.old }
         requires ranged { IsEdit edit.now }
-        ensures { (slow : SlowSite) (written : List Event) → Stands slow written self.old
+        ensures { (slow : SlowSite) (written : List EventValue) → Stands slow written self.old
             → Answers slow written (Ok (command.Edit edit.now)) result
             self.new said.old said.new steps.old steps.new }
     {
@@ -111,7 +111,7 @@ impl Member {
         steps: &mut Steps<L>,
     ) -> Result<Told, AllocError>
         requires { IsLive self.old }
-        ensures { (slow : SlowSite) (written : List Event) → Stands slow written self.old
+        ensures { (slow : SlowSite) (written : List EventValue) → Stands slow written self.old
             → Answers slow written (Ok (command.Turn which)) result
             self.new said.old said.new steps.old steps.new }
     {
@@ -127,7 +127,7 @@ impl Member {
     /// A name. `AllocError` where memory ran out, and then the member is spent.
     fn take_name(&mut self, name: Name, said: &mut Said) -> Result<Told, AllocError>
         requires { IsLive self.old }
-        ensures { (slow : SlowSite) (written : List Event) (steps : ℕ)
+        ensures { (slow : SlowSite) (written : List EventValue) (steps : ℕ)
             → Stands slow written self.old → Answers slow written (Ok (command.Name name)) result
             self.new said.old said.new steps steps }
     {
@@ -138,7 +138,7 @@ impl Member {
     /// A focus. `AllocError` where memory ran out, and then the member is spent.
     fn take_focus(&mut self, focus: Option<Stamp>, said: &mut Said) -> Result<Told, AllocError>
         requires { IsLive self.old }
-        ensures { (slow : SlowSite) (written : List Event) (steps : ℕ)
+        ensures { (slow : SlowSite) (written : List EventValue) (steps : ℕ)
             → Stands slow written self.old → Answers slow written (Ok (command.Focus focus)) result
             self.new said.old said.new steps steps }
     {
@@ -181,7 +181,7 @@ impl Member {
     /// Where the site stands. `AllocError` where memory ran out, and then the member is as before.
     fn tell_status(&self, said: &mut Said) -> Result<Told, AllocError>
         requires { IsLive self.now }
-        ensures { (slow : SlowSite) (written : List Event) (steps : ℕ)
+        ensures { (slow : SlowSite) (written : List EventValue) (steps : ℕ)
             → Stands slow written self.now → Answers slow written (Ok command.Status) result
             self.now said.old said.new steps steps }
     {
@@ -193,7 +193,7 @@ impl Member {
     /// The notes of all sites. `AllocError` where memory ran out, and then the member is as before.
     fn tell_who(&self, said: &mut Said) -> Result<Told, AllocError>
         requires { IsLive self.now }
-        ensures { (slow : SlowSite) (written : List Event) (steps : ℕ)
+        ensures { (slow : SlowSite) (written : List EventValue) (steps : ℕ)
             → Stands slow written self.now → Answers slow written (Ok command.Who) result
             self.now said.old said.new steps steps }
     {
@@ -220,11 +220,11 @@ fn told_by(noted: &Result<u16, NoteEnd>) -> Told
 }
 
 /// Says that these events were done, and how many there are. `AllocError` where memory ran out.
-fn say_done(events: &[ListedEvent], said: &mut Said) -> Result<(), AllocError>
+fn say_done(events: &[Event], said: &mut Said) -> Result<(), AllocError>
     ensures { OnOk result (said.new ≡ said.old ++ flat_map reply_text (done_replies events.now)) }
 {
-    for listed in events {
-        said.add(&Reply::Done { id: listed.stamp() })?;
+    for event in events {
+        said.add(&Reply::Done { id: event.stamp() })?;
     }
     said.add(&Reply::End {
         count: events.len() as u64,

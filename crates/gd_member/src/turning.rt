@@ -2,7 +2,7 @@
 
 ghost use Rattle.std.specs.Prelude.{◌≡◌, ◌++◌, List, Err, IfOk, OnOk, length, true};
 ghost use Rattle.gd_events.specs.Events.{Event};
-ghost use Rattle.gd_member.specs.Turning.{CountIs, OnRefused, is_memory};
+ghost use Rattle.gd_member.specs.Turning.{CountIs, OnRefused, PaysCount, is_memory};
 ghost use Rattle.gd_member.specs.Unwritten.{AreUnwritten};
 ghost use Rattle.gd_reference.specs.SlowSite.{SlowSite};
 ghost use Rattle.gd_reference.specs.SiteEffects.{turned};
@@ -25,7 +25,7 @@ impl Member {
     ghost use Rattle.gd_member.specs.Standing.{Stands};
 
     /// Takes the last gesture back that wasn't taken back yet, or does the last one again that was. Returns how many
-    /// events it became, which are unwritten then.
+    /// events it became, which are unwritten then, and of which each took a step.
     ///
     /// `Nothing`, `ClockEnd` and `SessionFull` are decided in this order, and then the member is as before.
     /// `NoMemory` where memory ran out, and then the member is spent.
@@ -38,6 +38,8 @@ impl Member {
         ensures keeps { (slow : SlowSite) (written : List Event) → Stands slow written self.old
             → OnRefused result (Stands slow written self.new) }
         ensures spent { result ≡ Err BackFault.NoMemory → self.new.spent ≡ true }
+        ensures steps { (slow : SlowSite) (written : List Event) → Stands slow written self.old
+            → PaysCount (length (turned (taking.turn slow which))) result steps.old steps.new }
     {
         let events = self.turn_events(which, steps)?;
         Ok(events.as_slice().len() as u64)

@@ -8,9 +8,9 @@ ghost use Rattle.gd_grammar.specs.Closing.{gate_place};
 ghost use Rattle.gd_grammar.specs.Drawings.{drawings};
 ghost use Rattle.gd_member.specs.Unwritten.{AreUnwritten};
 
-use gd_events::{Event, ListedEvent};
+use gd_events::Event;
 use gd_grammar::{EVENT_BYTES, HEADER_BYTES};
-use gd_logs::{CLOSED, gated_of};
+use gd_logs::{CLOSED, put_gated};
 use gd_wire::{Chains, Drawings};
 use std::alloc::{AllocError, Global};
 use std::marker::Model;
@@ -77,21 +77,20 @@ impl Unwritten {
         ensures { (written others : List EventValue) → AreUnwritten written others self.old
             → AreUnwritten written (others ++ event.now ∷ []) self.new }
     {
-        let record = gated_of::<Drawings>(event, &mut self.chains);
         let _ = self.bytes.pop();
-        self.bytes.extend_from_slice(record.as_slice()).unwrap();
+        put_gated::<Drawings>(event, &mut self.chains, &mut self.bytes);
         self.bytes.push_reserved(CLOSED);
     }
 
     /// Puts these events last. `AllocError` where memory ran out, and then they are of no use any more.
-    pub(crate) fn add_all(&mut self, events: &[ListedEvent]) -> Result<(), AllocError>
+    pub(crate) fn add_all(&mut self, events: &[Event]) -> Result<(), AllocError>
         ensures { OnOk result ((written others : List EventValue)
             → AreUnwritten written others self.old
             → AreUnwritten written (others ++ events.now) self.new) }
     {
-        for listed in events {
+        for event in events {
             self.reserve()?;
-            self.add(&listed.event());
+            self.add(event);
         }
         Ok(())
     }

@@ -17,7 +17,7 @@ use crate::journalling::{record_all_and_say, record_and_say};
 use crate::member::Member;
 use crate::sending::{send_frames_with, send_newest};
 use gd_answers::Said;
-use gd_events::{Event, ListedEvent};
+use gd_events::Event;
 use gd_logs::{LogWriter, Records};
 use gd_outside::{End, Journal, Link, Sink};
 use gd_wire::Drawings;
@@ -52,7 +52,7 @@ pub(crate) fn announce<K: Sink, J: Journal, N: Link>(
 /// object failed; no other end comes.
 pub(crate) fn announce_all<K: Sink, J: Journal, N: Link>(
     member: &mut Member,
-    events: &[ListedEvent],
+    events: &[Event],
     said: &Said,
     output: &mut K,
     journal: &mut J,
@@ -74,14 +74,14 @@ pub(crate) fn announce_all<K: Sink, J: Journal, N: Link>(
 fn records_of(
     alloc: Global,
     log: &LogWriter,
-    events: &[ListedEvent],
+    events: &[Event],
 ) -> Result<Records<Drawings>, AllocError>
     ensures { IfOk result (λ records. (seen : List EventValue)
         → AreChains drawings log.now.chains seen → AreRecords drawings seen events.now records) }
 {
     let mut records = Records::new(alloc, log);
-    for listed in events {
-        records.add(&listed.event())?;
+    for event in events {
+        records.add(event)?;
     }
     Ok(records)
 }

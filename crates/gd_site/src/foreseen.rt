@@ -8,9 +8,9 @@ ghost use Rattle.gd_site.specs.Foreseen.{differs, foreseen, foreseen_by, foresee
 
 use gd_base::Offer;
 use gd_check::check;
-use gd_events::{Event, ListedEvent};
+use gd_events::Event;
 use gd_stable::offer_by;
-use gd_wire::{Chains, EventBytes, Head, write_event};
+use gd_wire::{Chains, Drawings, EventBytes, Head, write_event};
 
 /// How many events of a site would be held, its sure clock, and the check of these events.
 #[derive(Clone, Copy, Debug)]
@@ -21,25 +21,36 @@ pub(crate) struct Foreseen {
 }
 
 impl Foreseen {
+    /// Whether the head shows a parting, once these events of its site have been offered.
+    pub(crate) fn parts(self, events: &[Event], head: Head) -> bool
+        ensures { result ≡ differs (foreseen self events.now) head }
+    {
+        // An event brings at most one more: where the head counts more than all of them there is nothing to compare.
+        if events.len() < usize::from(head.count.saturating_sub(self.count)) {
+            return false;
+        }
+        self.after_all(events).differs(head)
+    }
+
     /// The same once these events of the site have been offered, one after the other. Only those count that would be
     /// taken.
-    pub(crate) fn after_all(self, events: &[ListedEvent]) -> Foreseen
+    fn after_all(self, events: &[Event]) -> Foreseen
         ensures { result ≡ foreseen self events.now }
     {
         let mut so = self;
-        'offers: for listed in events {
-            so = so.after(listed);
+        'offers: for event in events {
+            so = so.after(event);
         }
         so
     }
 
     /// The same once the event has been offered.
-    fn after(self, listed: &ListedEvent) -> Foreseen
-        ensures { result ≡ foreseen_by (foreseen_offer self listed.now) self listed.now }
+    fn after(self, event: &Event) -> Foreseen
+        ensures { result ≡ foreseen_by (foreseen_offer self event.now) self event.now }
     {
-        let stamp = listed.stamp();
-        match offer_by(self.count, self.sure, listed.number(), stamp.clock()) {
-            Offer::Next => self.and_next(&listed.event()),
+        let stamp = event.stamp();
+        match offer_by(self.count, self.sure, event.number(), stamp.clock()) {
+            Offer::Next => self.and_next(event),
             Offer::Repeat | Offer::Gap | Offer::Backdated { .. } => self,
         }
     }
@@ -60,7 +71,7 @@ impl Foreseen {
     }
 
     /// Whether as many events would be held as a head counts, with another check.
-    pub(crate) fn differs(self, head: Head) -> bool
+    fn differs(self, head: Head) -> bool
         ensures { result ≡ differs self head }
     {
         self.count == head.count && self.check != head.check
@@ -72,7 +83,5 @@ pub(crate) fn chain(chains: &mut Chains, event: &Event)
     ensures { chains.new
         ≡ with_taken chains.old event.now.stamp.site (spelling drawings event.now) }
 {
-    let mut bytes = EventBytes::new();
-    write_event(event, &mut bytes);
-    chains.take(event.stamp().site(), bytes.as_slice());
+    chains.take_event::<Drawings>(event);
 }

@@ -1,5 +1,4 @@
 ghost use Rattle.std.specs.Prelude.{◌≡◌, ◌+◌, ◌-◌, ◌≤◌, List, [], ◌∷◌, ◌++◌, length, drop, nat_le, if◌then◌else◌, OnOk};
-ghost use Rattle.std.specs.Prelude.{OnErr};
 ghost use Rattle.gd_events.specs.Events.{Event as EventValue};
 ghost use Rattle.gd_events.specs.Sound.{IsSound};
 ghost use Rattle.gd_grammar.specs.FrameBytes.{events_bytes};
@@ -8,17 +7,17 @@ ghost use Rattle.gd_wire.specs.Frames.{spelled_events};
 ghost use Rattle.gd_stable.specs.Outboxes.{numbered_above, first_above};
 ghost use Rattle.gd_stable.specs.Numbering.{follows, are_numbered_on, last_number, count_to};
 
-use gd_events::{Event, ListedEvent};
+use gd_events::Event;
 use gd_wire::FrameEvents;
 use std::alloc::{AllocError, Global};
 use std::collections::VecDeque;
 use std::marker::Model;
 
-/// Own events that some other site may not have yet, in the order in which they were pushed, each in the memory that
-/// its operation needs. Contracts see the events, and beside them for how many more the list has room.
+/// Own events that some other site may not have yet, in the order in which they were pushed. Contracts see the events,
+/// and beside them for how many more the list has room.
 #[derive(Drop)]
 pub struct Outbox {
-    events: VecDeque<ListedEvent>,
+    events: VecDeque<Event>,
     /// Whether their numbers go on by one, as a site's own do. Then `after` and `drop_to` find the place of an event
     /// from its number, and else they look through all of them.
     numbered_on: bool,
@@ -51,8 +50,8 @@ impl Outbox {
         }
     }
 
-    /// Makes room in the list for one more event, so that `push_listed` can put it there. `AllocError` where memory ran
-    /// out. The events stay in any case.
+    /// Makes room in the list for one more event, so that `push` can put it there. `AllocError` where memory ran out.
+    /// The events stay in any case.
     pub fn reserve(&mut self) -> Result<(), AllocError>
         ensures events { self.new.events ≡ self.old.events }
         ensures room { OnOk result (1 ≤ self.new.spare) }
@@ -60,19 +59,8 @@ impl Outbox {
         self.events.reserve(1)
     }
 
-    /// Packs the event and puts it last. `AllocError` where memory ran out, and then the events are as before.
-    pub fn push(&mut self, event: Event) -> Result<(), AllocError>
-        ensures ok { OnOk result (self.new.events ≡ self.old.events ++ event ∷ []) }
-        ensures err { OnErr result (self.new.events ≡ self.old.events) }
-    {
-        let event = ListedEvent::new(*self.events.allocator(), event)?;
-        self.reserve()?;
-        self.push_listed(event);
-        Ok(())
-    }
-
     /// Puts the event last, where the list has room, as it has after a `reserve`. It takes no memory.
-    pub fn push_listed(&mut self, event: ListedEvent)
+    pub fn push(&mut self, event: Event)
         requires { 1 ≤ self.old.spare }
         ensures events { self.new.events ≡ self.old.events ++ event ∷ [] }
         ensures spare { self.new.spare + 1 ≡ self.old.spare }
@@ -119,7 +107,7 @@ fn follows(last: Option<u16>, number: u16) -> bool
 }
 
 /// The number of the last event, if there is one.
-fn last_number(events: &VecDeque<ListedEvent>) -> Option<u16>
+fn last_number(events: &VecDeque<Event>) -> Option<u16>
     ensures { result ≡ last_number events.now.items }
 {
     Some(events.back()?.number())
@@ -127,7 +115,7 @@ fn last_number(events: &VecDeque<ListedEvent>) -> Option<u16>
 
 /// Whether the numbers go on by one.
 #[tactic(auto, unfolding(crate::specs::Numbering::go_on_from))]
-fn are_numbered_on(events: &VecDeque<ListedEvent>) -> bool
+fn are_numbered_on(events: &VecDeque<Event>) -> bool
     ensures { result ≡ are_numbered_on events.now.items }
 {
     let mut last = None;
@@ -142,7 +130,7 @@ fn are_numbered_on(events: &VecDeque<ListedEvent>) -> bool
 }
 
 /// How many of the first events are numbered at most `k`, where their numbers go on by one; otherwise none is counted.
-fn count_to(numbered_on: bool, events: &VecDeque<ListedEvent>, k: u16) -> usize
+fn count_to(numbered_on: bool, events: &VecDeque<Event>, k: u16) -> usize
     ensures { result ≡ count_to numbered_on events.now.items k }
 {
     match events.front() {
@@ -155,7 +143,7 @@ fn count_to(numbered_on: bool, events: &VecDeque<ListedEvent>, k: u16) -> usize
 }
 
 /// Removes the first `count` events, and touches no other.
-fn drop_first(events: &mut VecDeque<ListedEvent>, count: usize)
+fn drop_first(events: &mut VecDeque<Event>, count: usize)
     requires { count ≤ length events.old.items }
     ensures { events.new.items ≡ drop count events.old.items }
 {
@@ -164,7 +152,7 @@ fn drop_first(events: &mut VecDeque<ListedEvent>, count: usize)
 
 /// Puts the event last, where it is numbered above `k`. False exactly where its bytes don't fit then, and nothing
 /// changes.
-fn put_above(found: &mut FrameEvents, k: u16, event: &ListedEvent) -> bool
+fn put_above(found: &mut FrameEvents, k: u16, event: &Event) -> bool
     ensures room { result ≡ nat_le
         (length (events_bytes (numbered_above k (event.now ∷ []))))
         (FRAME_ROOM - length found.old.text) }
@@ -173,11 +161,10 @@ fn put_above(found: &mut FrameEvents, k: u16, event: &ListedEvent) -> bool
         (if result then es ++ numbered_above k (event.now ∷ []) else es) }
     ensures sound { IsSound event.now }
 {
-    let event = event.event();
     // Brings the event's invariant into this proof; no effect at run time.
     let _ = event.op();
     if event.number() <= k {
         return true;
     }
-    found.push(&event)
+    found.push(event)
 }

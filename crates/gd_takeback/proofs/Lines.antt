@@ -11,10 +11,10 @@ use Rattle.gd_lines.specs.Edits.{Edit}
 use Rattle.gd_reference.specs.Judging.{edit}
 use Rattle.gd_reference.specs.SlowSite.{SlowSite}
 use Rattle.gd_reference.specs.TakeBack.{Asked, after_asked, answer, events_in, made, with_events}
-use Rattle.gd_site.specs.Answers.{EditIs}
+use Rattle.gd_judging.specs.Faults.{EditIs}
 use Rattle.gd_site.specs.Sites.{StandsFor}
-use Rattle.gd_site.specs.declared.answers.EditFault.{EditFault}
-use Rattle.gd_site.specs.declared.answers.EditFault.TheVariants as fault
+use Rattle.gd_judging.specs.declared.faults.EditFault.{EditFault}
+use Rattle.gd_judging.specs.declared.faults.EditFault.TheVariants as fault
 use Rattle.gd_takeback.proofs.Doing.{made-more}
 use Rattle.gd_takeback.specs.Answers.{OnRefusal, StampIs}
 use Rattle.gd_takeback.specs.Making.{HasMade, Makes, Making}
@@ -35,17 +35,15 @@ made-push slow (first ∷ asked) last =
 -- unless memory ran out
 abbrev pub OnAnswer : Result Stamp EditFault → Type 0 → Type 0
 OnAnswer (Ok stamp) P = P
-OnAnswer (Err fault.NoMemory) P = Unit {0}
-OnAnswer (Err other) P = P
+OnAnswer (Err fault.Memory) P = Unit {0}
+OnAnswer (Err (fault.Refused why)) P = P
 
 -- where an edit is refused it becomes no event
 none-made : (x : Result Event EditRefusal) (why : EditFault) → EditIs x (Err why)
     → OnRefusal (Err why) (events_in x ≡ [])
-none-made (Err w) fault.NoMemory h = tt
-none-made (Ok e) fault.NoMemory h = tt
-none-made (Err w) why h = refl
-none-made (Ok e) (fault.SessionFull n) h = let p = h.0 in cc
-none-made (Ok e) why h = cc
+none-made x fault.Memory h = tt
+none-made (Err w) (fault.Refused why) h = refl
+none-made (Ok e) (fault.Refused why) h = cc
 
 module _ (slow : SlowSite) (asked : List Asked) (old : Making) (has : HasMade slow (made slow asked) old) where
   -- a line that is refused changes nothing
@@ -83,5 +81,6 @@ module _ (slow : SlowSite) (asked : List Asked) (old : Making) (has : HasMade sl
           subst (λ (es : List Event). HasMade slow es new)
           (sym (all ∙ ap (λ (x : Result Event EditRefusal). made slow asked ++ events_in x) is.1))
           (made-more slow (made slow asked) is.0 old new has (made_by is.0 is.1))
-      go (Err fault.NoMemory) is made_by same = tt
-      go (Err why) is made_by same = stays (none-made (edit there wanted) why is) same
+      go (Err fault.Memory) is made_by same = tt
+      go (Err (fault.Refused why)) is made_by same =
+          stays (none-made (edit there wanted) (fault.Refused why) is) same

@@ -26,7 +26,7 @@ module _ {X Y : Type 0} (f : X → Y) where
       (ap (take n) (reverse-append (f x ∷ []) (map f xs))
       ∙ take_at (seen xs) (f x ∷ []) n (omega (arith, full, length-seen xs)))
 
-  -- nothing is seen where there is nothing
-  pub seen-none : (xs : List X) → length xs ≡ 0 → seen xs ≡ []
-  seen-none [] none = refl
-  seen-none (x ∷ xs) none = cc
+-- nothing is seen where there is nothing
+pub none-seen : {X : Type 0} (xs : List X) → length xs ≡ 0 → reverse xs ≡ []
+none-seen [] none = refl
+none-seen (x ∷ xs) none = cc

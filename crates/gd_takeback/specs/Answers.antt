@@ -6,10 +6,10 @@ use Rattle.gd_base.specs.declared.refusal.EditRefusal.TheVariants as refusal
 use Rattle.gd_events.specs.Events.{Event}
 use Rattle.gd_events.specs.Ops.{Op}
 use Rattle.gd_reference.specs.TakeBack.{BackRefusal, NothingBack, Refused}
-use Rattle.gd_site.specs.Answers.{EditIs}
+use Rattle.gd_judging.specs.Faults.{EditIs}
 use Rattle.gd_site.specs.Judged.{room}
-use Rattle.gd_site.specs.declared.answers.EditFault.{EditFault}
-use Rattle.gd_site.specs.declared.answers.EditFault.TheVariants as edit
+use Rattle.gd_judging.specs.declared.faults.EditFault.{EditFault}
+use Rattle.gd_judging.specs.declared.faults.EditFault.TheVariants as edit
 use Rattle.gd_takeback.specs.declared.take_back.BackFault.{BackFault}
 use Rattle.gd_takeback.specs.declared.take_back.BackFault.TheVariants as fault
 
@@ -29,8 +29,8 @@ TurnIs r (Err fault.NoMemory) = IsOk r
 -- where an edit is refused, for another cause than want of memory
 abbrev pub OnRefusal : Result Stamp EditFault → Type 0 → Type 0
 OnRefusal (Ok stamp) P = Unit {0}
-OnRefusal (Err edit.NoMemory) P = Unit {0}
-OnRefusal (Err other) P = P
+OnRefusal (Err edit.Memory) P = Unit {0}
+OnRefusal (Err (edit.Refused why)) P = P
 
 -- the same of an undo, or a redo
 abbrev pub OnBackRefusal : Result (List Event) BackFault → Type 0 → Type 0

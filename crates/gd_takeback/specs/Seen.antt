@@ -1,12 +1,11 @@
--- Packed operations, as contracts see them.
-use Rattle.std.specs.Prelude.{ℕ, List, [], ◌∷◌, length, map, reverse, Option, None, Some, Vec}
+-- What takes events back, as contracts see it.
+use Rattle.std.specs.Prelude.{ℕ, List, [], ◌∷◌, length, reverse, Option, None, Some, Vec}
 use Rattle.std.specs.declared.alloc.Global.{Global}
 use Rattle.gd_events.specs.Ops.{Op}
-use Rattle.gd_events.specs.Packed.{PackedOp, unpacked}
 
--- those of a vector, the last one first
-abbrev pub newest_first : Vec PackedOp Global → List Op
-newest_first ops = reverse (map unpacked ops.items)
+-- the operations of a vector, the last one first
+abbrev pub newest_first : Vec Op Global → List Op
+newest_first ops = reverse ops.items
 
 -- how many there are in the first list
 abbrev pub count_of : List (List Op) → Option ℕ

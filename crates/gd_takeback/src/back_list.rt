@@ -5,7 +5,7 @@ ghost use Rattle.gd_reference.specs.Backs.{kept};
 ghost use Rattle.gd_takeback.specs.Seen.{newest_first, count_of};
 
 use gd_base::MOST_BACKS;
-use gd_events::PackedOp;
+use gd_events::Op;
 use std::alloc::{AllocError, Global};
 use std::collections::VecDeque;
 use std::marker::Model;
@@ -15,7 +15,7 @@ use std::marker::Model;
 #[derive(Drop)]
 pub(crate) struct BackList {
     /// The newest last, and of each gesture what takes its last event back last.
-    gestures: VecDeque<Vec<PackedOp>>,
+    gestures: VecDeque<Vec<Op>>,
 }
 
 impl Model for BackList {
@@ -55,7 +55,7 @@ impl BackList {
 
     /// Keeps one more, where there is room for it, as there is after a `reserve`. Where there are 1,024 the oldest
     /// goes. It takes no memory.
-    pub(crate) fn keep(&mut self, back: Vec<PackedOp>)
+    pub(crate) fn keep(&mut self, back: Vec<Op>)
         requires { 1 ≤ self.old.spare }
         ensures { self.new.gestures ≡ kept (newest_first back) self.old.gestures }
     {
@@ -73,7 +73,7 @@ impl BackList {
     }
 
     /// Takes the newest out, where there is one.
-    pub(crate) fn take_newest(&mut self) -> Option<Vec<PackedOp>>
+    pub(crate) fn take_newest(&mut self) -> Option<Vec<Op>>
         ensures { MatchOption result (self.old.gestures ≡ [])
             (λ back. self.old.gestures ≡ newest_first back ∷ self.new.gestures) }
     {
@@ -89,7 +89,7 @@ impl BackList {
 }
 
 /// Drops the oldest, where there is one.
-fn drop_oldest(gestures: &mut VecDeque<Vec<PackedOp>>)
+fn drop_oldest(gestures: &mut VecDeque<Vec<Op>>)
     ensures items { gestures.new.items ≡ drop 1 gestures.old.items }
     ensures len { deque_len gestures.new ≡ deque_len gestures.old - 1 }
     ensures capacity { deque_capacity gestures.new ≡ deque_capacity gestures.old }

@@ -12,7 +12,7 @@ ghost use Rattle.gd_takeback.specs.Making.{Makes, MayBecome, making};
 ghost use Rattle.gd_takeback.specs.Seen.{newest_first};
 
 use gd_base::{Edit, Stamp, Steps};
-use gd_events::{Event, EventList, ListedEvent, Op, PackedOp};
+use gd_events::{Event, EventList, Op};
 use gd_site::{EditFault, Site};
 use std::alloc::{AllocError, Global};
 use std::marker::Model;
@@ -23,7 +23,7 @@ use std::sync::ledger::Ledger;
 pub struct Gesture {
     events: EventList,
     /// What takes the last event back last.
-    back: Vec<PackedOp>,
+    back: Vec<Op>,
 }
 
 impl Model for Gesture {
@@ -48,14 +48,14 @@ impl Gesture {
     }
 
     /// The events that were made.
-    pub fn events(&self) -> &[ListedEvent]
+    pub fn events(&self) -> &[Event]
         ensures { result.now ≡ self.now.events }
     {
         self.events.as_slice()
     }
 
     /// The same, and what takes them back.
-    pub(crate) fn into_parts(self) -> (EventList, Vec<PackedOp>)
+    pub(crate) fn into_parts(self) -> (EventList, Vec<Op>)
         ensures events { result.0 ≡ self.events }
         ensures back { newest_first result.1 ≡ self.back }
     {
@@ -65,7 +65,7 @@ impl Gesture {
     /// Has the site make the next event, of an edit of its user, and returns its stamp. `ClockEnd`, `SessionFull`,
     /// `NoObject`, `NotShape`, `NotGroup`, `NotPlaced`, `NotConnector`, `SameMember`, `NotTop` and `TooFar` are decided
     /// in this order, before any memory is taken, and then the site, the gesture and the steps are as before;
-    /// `NoMemory` where it then ran out, and the steps are as before.
+    /// `Memory` where it then ran out, and the steps are as before.
     pub fn edit<L: Ledger>(
         &mut self,
         site: &mut Site,
@@ -84,7 +84,7 @@ impl Gesture {
     {
         let event = site.decide(edit)?;
         let stamp = event.stamp();
-        self.make(site, &event, steps)?;
+        self.make(site, event, steps)?;
         Ok(stamp)
     }
 
@@ -107,26 +107,27 @@ impl Gesture {
         let Ok(event) = site.next(op) else {
             return Ok(());
         };
-        self.make(site, &event, steps)
+        self.make(site, event, steps)
     }
 
     /// Has it make this event, which is its next one. `AllocError` where memory ran out, and the steps are as before.
     fn make<L: Ledger>(
         &mut self,
         site: &mut Site,
-        event: &Event,
+        event: Event,
         steps: &mut Steps<L>,
     ) -> Result<(), AllocError>
-        requires { event.now ≡ own_event site.old event.now.op }
+        requires { event ≡ own_event site.old event.op }
         ensures makes { (slow : SlowSite) → StandsFor slow site.old
-            → OnOk result (Makes slow event.now (making site.old self.old)
+            → OnOk result (Makes slow event (making site.old self.old)
             (making site.new self.new)) }
         ensures steps { OnOk result (steps.new ≡ steps.old + 1) }
         ensures err_steps { OnErr result (steps.new ≡ steps.old) }
     {
-        let back = site.back(event)?;
+        let back = site.back(&event)?;
         self.back.push(back)?;
-        self.events.push(event.copy())?;
-        site.accept(event, steps)
+        self.events.push(event)?;
+        let events = self.events.as_slice();
+        site.accept(&events[events.len() - 1], steps)
     }
 }

@@ -1,7 +1,6 @@
 //! A site's gestures, and their taking back.
 ghost use Rattle.std.specs.Prelude.{◌≡◌, ◌+◌, ◌∷◌, [], IfOk, OnOk, OnErr, length};
 ghost use Rattle.std.specs.List.{AllByRecursion};
-ghost use Rattle.gd_events.specs.Packed.{unpacked};
 ghost use Rattle.gd_lines.specs.InRange.{IsEdit};
 ghost use Rattle.gd_protocol.specs.Sites.{IsBack};
 ghost use Rattle.gd_reference.specs.Backs.{no_backs, with_gesture};
@@ -10,7 +9,7 @@ ghost use Rattle.gd_reference.specs.SiteEffects.{turned};
 ghost use Rattle.gd_reference.specs.SlowSite.{SlowSite, clock};
 ghost use Rattle.gd_reference.specs.TakeBack as taking;
 ghost use Rattle.gd_reference.specs.TakeBack.{after_edit, after_turn};
-ghost use Rattle.gd_site.specs.Answers.{EditIs};
+ghost use Rattle.gd_judging.specs.Faults.{EditIs};
 ghost use Rattle.gd_site.specs.Sites.{StandsFor};
 ghost use Rattle.gd_takeback.specs.Answers.{OnBackRefusal, PaysFor, TurnIs, may_turn};
 ghost use Rattle.gd_takeback.specs.Making.{DoesAll, MayBecome};
@@ -20,7 +19,7 @@ ghost use Rattle.gd_takeback.specs.Standing.{PassesOn, StandsWith, handed};
 use crate::back_list::BackList;
 use crate::gesture::Gesture;
 use gd_base::{Edit, EditRefusal, Steps};
-use gd_events::{Event, EventList, Op, PackedOp, unpack};
+use gd_events::{Event, EventList, Op};
 use gd_lines::Turn;
 use gd_site::{EditFault, Site};
 use std::alloc::{AllocError, Global};
@@ -97,7 +96,7 @@ impl TakeBack {
     /// Carries out an edit of the site's user alone, and returns the event that it became. It keeps what takes the edit
     /// back, and forgets what could be done again. `ClockEnd`, `SessionFull`, `NoObject`, `NotShape`, `NotGroup`,
     /// `NotPlaced`, `NotConnector`, `SameMember`, `NotTop` and `TooFar` are decided in this order, before any memory is
-    /// taken; `NoMemory` where it then ran out. After each of them the site, what is kept here and the steps are as
+    /// taken; `Memory` where it then ran out. After each of them the site, what is kept here and the steps are as
     /// before.
     pub fn edit<L: Ledger>(
         &mut self,
@@ -167,8 +166,8 @@ impl TakeBack {
 }
 
 /// What takes a gesture of one event back.
-fn alone(alloc: Global, op: PackedOp) -> Result<Vec<PackedOp>, AllocError>
-    ensures { IfOk result (λ back. newest_first back ≡ unpacked op ∷ []) }
+fn alone(alloc: Global, op: Op) -> Result<Vec<Op>, AllocError>
+    ensures { IfOk result (λ back. newest_first back ≡ op ∷ []) }
 {
     let mut back = Vec::new(alloc);
     back.push(op)?;
@@ -214,7 +213,7 @@ fn may_turn(due: &BackList, site: &Site) -> Result<(), BackFault>
 /// then.
 fn do_all<L: Ledger>(
     alloc: Global,
-    back: Vec<PackedOp>,
+    back: Vec<Op>,
     site: &mut Site,
     steps: &mut Steps<L>,
 ) -> Result<Gesture, AllocError>
@@ -224,14 +223,7 @@ fn do_all<L: Ledger>(
     let mut gesture = Gesture::new(alloc);
     let mut left = back;
     'left: while let Some(op) = left.pop() {
-        gesture.turn(site, unpacked(op), steps)?;
+        gesture.turn(site, op, steps)?;
     }
     Ok(gesture)
-}
-
-/// The operation that is packed.
-fn unpacked(op: PackedOp) -> Op
-    ensures { result ≡ unpacked op }
-{
-    unpack(&op)
 }

@@ -1,6 +1,6 @@
 //! The worked frame of docs/FORMATS.md is read and written, and changes of it are refused, where memory is ample.
 
-use gd_base::{Label, Note, Shape, Stamp, WireFault, WireWhy};
+use gd_base::{Note, Shape, Stamp, Text, WireFault, WireWhy};
 use gd_events::{Event, Op};
 use gd_wire::{FrameBytes, FrameError, FrameEvents, Head, read_frame, write_frame};
 use std::rt::HostRuntime;
@@ -28,7 +28,7 @@ fn rect() -> Option<Event> {
         y: 0,
         w: 10,
         h: 10,
-        label: Label::default(),
+        label: Text::default(),
     };
     Event::new(Stamp::new(1, 2)?, 1, op).ok()
 }

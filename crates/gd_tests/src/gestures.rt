@@ -59,8 +59,8 @@ fn write_together<J: Journal>(
         return Ok(Some(0));
     }
     let mut records = Records::new(alloc, &writer);
-    for listed in log.events.as_slice() {
-        records.add(&listed.event())?;
+    for event in log.events.as_slice() {
+        records.add(event)?;
     }
     if records.is_empty() {
         return Ok(None);

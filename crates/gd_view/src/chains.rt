@@ -9,7 +9,7 @@ ghost use Rattle.gd_slots.specs.Slots.{board_of};
 ghost use Rattle.gd_view.specs.Chains.{first_parent, group_in, link_limit, parent_by, sum_limit, with_link, Within};
 
 use crate::OBJECTS;
-use gd_base::{KeptObject, Link, Stamp};
+use gd_base::{Link, Object, Stamp};
 use gd_canvas::Canvas;
 use gd_model::Above;
 
@@ -53,7 +53,7 @@ fn above_within(canvas: &Canvas, id: Stamp, link: Option<Link>, most: u32) -> Op
 
 /// The group that a link leads to, where it is there and has a greater id.
 #[tactic(auto, using(crate::proofs::Rulesets::drawn))]
-pub(crate) fn group_at<'a>(canvas: &'a Canvas, below: Stamp, link: &Link) -> Option<&'a KeptObject>
+pub(crate) fn group_at<'a>(canvas: &'a Canvas, below: Stamp, link: &Link) -> Option<&'a Object>
     ensures { option_copied result
         ≡ group_in (listed (board_of canvas.now)) below link.now }
 {
@@ -69,7 +69,7 @@ pub(crate) fn with_link(
     sum: &Above,
     parent: Option<Stamp>,
     link: &Link,
-    group: &KeptObject,
+    group: &Object,
     turn: u32,
 ) -> Above
     requires few { turn ≤ SESSION_EVENTS }
@@ -83,7 +83,7 @@ pub(crate) fn with_link(
 }
 
 /// The parent that a link gives, where its group isn't dissolved.
-pub(crate) fn parent_by(link: &Link, group: &KeptObject) -> Option<Stamp>
+pub(crate) fn parent_by(link: &Link, group: &Object) -> Option<Stamp>
     ensures { result ≡ parent_by link.now group.now }
 {
     if group.dissolved {

@@ -9,7 +9,7 @@ ghost use Rattle.gd_slots.specs.Slots.{board_of};
 ghost use Rattle.gd_view.specs.Chains.{Within};
 
 use crate::seen::{has_ends, place_at, stands};
-use gd_base::{Body, Ends, Item, JoinedItem, KeptObject, Kind, ShapeItem, Stamp};
+use gd_base::{Body, Ends, Item, JoinedItem, Kind, Object, ShapeItem, Stamp};
 use gd_canvas::Canvas;
 use gd_model::Above;
 use std::alloc::AllocError;
@@ -27,7 +27,7 @@ pub fn item(canvas: &Canvas, id: Stamp) -> Result<Option<Item>, AllocError>
     }
 }
 
-fn shown_item(canvas: &Canvas, id: Stamp, object: &KeptObject) -> Result<Option<Item>, AllocError>
+fn shown_item(canvas: &Canvas, id: Stamp, object: &Object) -> Result<Option<Item>, AllocError>
     requires { length (listed (board_of canvas.now)) ≤ SESSION_EVENTS }
     ensures { IfOk result (λ item. item
         ≡ shown_as (item_at id) (listed (board_of canvas.now)) id object.now) }
@@ -44,7 +44,7 @@ fn shown_item(canvas: &Canvas, id: Stamp, object: &KeptObject) -> Result<Option<
     }
 }
 
-pub(crate) fn item_by(id: Stamp, object: &KeptObject, above: &Above) -> Result<Item, AllocError>
+pub(crate) fn item_by(id: Stamp, object: &Object, above: &Above) -> Result<Item, AllocError>
     requires { Within SESSION_EVENTS above.now }
     ensures { IfOk result (λ item. item ≡ item_at id object.now above.now) }
 {
@@ -58,7 +58,7 @@ pub(crate) fn item_by(id: Stamp, object: &KeptObject, above: &Above) -> Result<I
     })
 }
 
-fn body_of(object: &KeptObject) -> Result<Body, AllocError>
+fn body_of(object: &Object) -> Result<Body, AllocError>
     ensures { IfOk result (λ body. body ≡ body_of object.now.kind object.now) }
 {
     match object.kind {
@@ -77,7 +77,7 @@ fn body_of(object: &KeptObject) -> Result<Body, AllocError>
     }
 }
 
-fn joined_of(object: &KeptObject, ends: Option<Ends>) -> Result<Body, AllocError>
+fn joined_of(object: &Object, ends: Option<Ends>) -> Result<Body, AllocError>
     ensures { IfOk result (λ body. body ≡ joined_of object.now ends) }
 {
     match ends {

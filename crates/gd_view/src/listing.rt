@@ -17,7 +17,7 @@ use crate::known::Known;
 use crate::levels::levels;
 use crate::seen::{is_gone, is_placed};
 use crate::sums::sums;
-use gd_base::{Ends, Item, KeptObject, Stamp};
+use gd_base::{Ends, Item, Object, Stamp};
 use gd_canvas::Canvas;
 use gd_model::Above;
 use std::alloc::{AllocError, Global};
@@ -63,7 +63,7 @@ fn item(
     canvas: &Canvas,
     table: &Known,
     id: Stamp,
-    object: &KeptObject,
+    object: &Object,
 ) -> Result<Option<Item>, AllocError>
     requires known { AreKnown (listed (board_of canvas.now)) table.now }
     requires sum { known table.now id ≡ above (listed (board_of canvas.now)) id object.now.link }
@@ -83,7 +83,7 @@ fn item(
 }
 
 /// What stands above an object, where it is shown but for its ends.
-fn stands(table: &Known, id: Stamp, object: &KeptObject) -> Option<Above>
+fn stands(table: &Known, id: Stamp, object: &Object) -> Option<Above>
     requires { IfSome (known table.now id) (λ a. Within SESSION_EVENTS a) }
     ensures above { (d : Drawing) → known table.now id ≡ above d id object.now.link
         → result ≡ stands d id object.now }
@@ -96,7 +96,7 @@ fn stands(table: &Known, id: Stamp, object: &KeptObject) -> Option<Above>
 }
 
 /// Whether the ends of an object that has them are shown.
-fn has_ends(canvas: &Canvas, table: &Known, object: &KeptObject) -> bool
+fn has_ends(canvas: &Canvas, table: &Known, object: &Object) -> bool
     requires { AreKnown (listed (board_of canvas.now)) table.now }
     ensures { result ≡ has_ends (listed (board_of canvas.now)) object.now }
 {
@@ -125,7 +125,7 @@ fn is_end(canvas: &Canvas, table: &Known, id: Stamp) -> bool
     }
 }
 
-fn is_placed_there(canvas: &Canvas, table: &Known, id: Stamp, object: &KeptObject) -> bool
+fn is_placed_there(canvas: &Canvas, table: &Known, id: Stamp, object: &Object) -> bool
     requires sum { known table.now id ≡ above (listed (board_of canvas.now)) id object.now.link }
     requires within { IfSome (known table.now id) (λ a. Within SESSION_EVENTS a) }
     ensures { result ≡ is_end_by (listed (board_of canvas.now)) id (Some object.now) }

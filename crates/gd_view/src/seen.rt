@@ -12,7 +12,7 @@ ghost use Rattle.gd_view.specs.Chains.{sum_limit, Within};
 
 use crate::chains::above;
 use crate::places::Shown;
-use gd_base::{Ends, KeptObject, Kind, Place, Stamp};
+use gd_base::{Ends, Kind, Object, Place, Stamp};
 use gd_canvas::Canvas;
 use gd_model::Above;
 
@@ -37,7 +37,7 @@ pub fn is_top(canvas: &Canvas, id: Stamp) -> bool
     }
 }
 
-fn shown_as(canvas: &Canvas, id: Stamp, object: &KeptObject) -> Option<Shown>
+fn shown_as(canvas: &Canvas, id: Stamp, object: &Object) -> Option<Shown>
     requires { length (listed (board_of canvas.now)) ≤ SESSION_EVENTS }
     ensures { result ≡ shown_as shown_at (listed (board_of canvas.now)) id object.now }
 {
@@ -49,7 +49,7 @@ fn shown_as(canvas: &Canvas, id: Stamp, object: &KeptObject) -> Option<Shown>
 }
 
 /// What stands above an object, where it is shown but for its ends.
-pub(crate) fn stands(canvas: &Canvas, id: Stamp, object: &KeptObject) -> Option<Above>
+pub(crate) fn stands(canvas: &Canvas, id: Stamp, object: &Object) -> Option<Above>
     requires { length (listed (board_of canvas.now)) ≤ SESSION_EVENTS }
     ensures above { result ≡ stands (listed (board_of canvas.now)) id object.now }
     ensures within { IfSome result (λ a. Within SESSION_EVENTS a) }
@@ -61,7 +61,7 @@ pub(crate) fn stands(canvas: &Canvas, id: Stamp, object: &KeptObject) -> Option<
 }
 
 /// Whether the ends of an object that has them are shown.
-pub(crate) fn has_ends(canvas: &Canvas, object: &KeptObject) -> bool
+pub(crate) fn has_ends(canvas: &Canvas, object: &Object) -> bool
     requires { length (listed (board_of canvas.now)) ≤ SESSION_EVENTS }
     ensures { result ≡ has_ends (listed (board_of canvas.now)) object.now }
 {
@@ -100,7 +100,7 @@ pub(crate) fn is_placed(kind: Kind) -> bool
     }
 }
 
-fn shown_at(object: &KeptObject, above: &Above) -> Shown
+fn shown_at(object: &Object, above: &Above) -> Shown
     requires { Within SESSION_EVENTS above.now }
     ensures { result ≡ shown_at object.now above.now }
 {
@@ -114,7 +114,7 @@ fn shown_at(object: &KeptObject, above: &Above) -> Shown
     }
 }
 
-pub(crate) fn place_at(object: &KeptObject, above: &Above) -> Place
+pub(crate) fn place_at(object: &Object, above: &Above) -> Place
     requires { Within SESSION_EVENTS above.now }
     ensures { result
         ≡ record { x = object.now.x +ℤ above.now.dx; y = object.now.y +ℤ above.now.dy } }
@@ -137,7 +137,7 @@ fn place(x: i64, y: i64) -> Place
 }
 
 /// Whether it is a dissolved group.
-pub(crate) fn is_gone(object: &KeptObject) -> bool
+pub(crate) fn is_gone(object: &Object) -> bool
     ensures { result ≡ is_gone object.now }
 {
     match object.kind {

@@ -15,7 +15,7 @@ ghost use Rattle.gd_view.specs.Sums.{known, above_at, AreKnown};
 use crate::chains::{first_parent, group_at, parent_by, with_link};
 use crate::ids::ids;
 use crate::known::Known;
-use gd_base::{KeptObject, Link, Stamp};
+use gd_base::{Link, Object, Stamp};
 use gd_canvas::Canvas;
 use gd_model::Above;
 use std::alloc::{AllocError, Global};
@@ -73,7 +73,7 @@ fn sum_by(canvas: &Canvas, table: &Known, id: Stamp, link: &Link, turn: u32) -> 
 }
 
 /// What stands above a group's member, by what stands above the group.
-fn through(sum: &Above, link: &Link, group: &KeptObject, turn: u32) -> Above
+fn through(sum: &Above, link: &Link, group: &Object, turn: u32) -> Above
     requires few { turn ≤ SESSION_EVENTS }
     requires within { Within turn sum.now }
     ensures sum { result ≡ above_by link.now group.now sum.now }

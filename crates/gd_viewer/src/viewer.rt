@@ -116,18 +116,19 @@ impl Viewer {
     /// comes for the next event alone; then too they are as before.
     pub fn arrive<L: Ledger>(
         &mut self,
-        event: Event,
+        event: &Event,
         steps: &mut Steps<L>,
     ) -> Result<Taken, AllocError>
-        requires { IsTrue (is_site self.old.heard.sites event.stamp.site) }
+        requires { IsTrue (is_site self.old.heard.sites event.now.stamp.site) }
         ensures stands { (slow : SlowViewer) → StandsFor slow self.old
-            → OnOk result (StandsFor (viewer_arrived slow event) self.new) }
+            → OnOk result (StandsFor (viewer_arrived slow event.now) self.new) }
         ensures answer { (slow : SlowViewer) → StandsFor slow self.old
-            → IfOk result (λ taken. taken ≡ taken_by (viewer_offer slow event) slow event) }
+            → IfOk result (λ taken. taken ≡ taken_by (viewer_offer slow event.now) slow event.now) }
         ensures steps { (slow : SlowViewer) → StandsFor slow self.old
-            → OnOk result (steps.new ≡ steps.old + steps_by (viewer_offer slow event) slow event) }
+            → OnOk result (steps.new
+            ≡ steps.old + steps_by (viewer_offer slow event.now) slow event.now) }
         ensures err_offer { (slow : SlowViewer) → StandsFor slow self.old
-            → OnErr result (viewer_offer slow event ≡ Next) }
+            → OnErr result (viewer_offer slow event.now ≡ Next) }
         ensures err_stands { (slow : SlowViewer) → StandsFor slow self.old
             → OnErr result (StandsFor slow self.new) }
         ensures err_steps { OnErr result (steps.new ≡ steps.old) }
@@ -149,18 +150,22 @@ impl Viewer {
     }
 
     /// Takes the next event of a site.
-    fn take<L: Ledger>(&mut self, event: Event, steps: &mut Steps<L>) -> Result<Arrival, AllocError>
-        requires inside { IsTrue (is_site self.old.heard.sites event.stamp.site) }
+    fn take<L: Ledger>(
+        &mut self,
+        event: &Event,
+        steps: &mut Steps<L>,
+    ) -> Result<Arrival, AllocError>
+        requires inside { IsTrue (is_site self.old.heard.sites event.now.stamp.site) }
         requires next { offered
-            (of_site self.old.heard.counts event.stamp.site)
-            (of_site self.old.heard.sures event.stamp.site) event.number event.stamp.clock
+            (of_site self.old.heard.counts event.now.stamp.site)
+            (of_site self.old.heard.sures event.now.stamp.site) event.now.number event.now.stamp.clock
             ≡ Next }
         ensures stands { (slow : SlowViewer) → StandsFor slow self.old
-            → OnOk result (StandsFor (with_viewed slow event) self.new) }
+            → OnOk result (StandsFor (with_viewed slow event.now) self.new) }
         ensures answer { (slow : SlowViewer) → StandsFor slow self.old
-            → IfOk result (λ arrival. arrival ≡ arrival_of (outcome_of slow.held event)) }
+            → IfOk result (λ arrival. arrival ≡ arrival_of (outcome_of slow.held event.now)) }
         ensures steps { (slow : SlowViewer) → StandsFor slow self.old
-            → OnOk result (steps.new ≡ steps.old + cost_of slow.held event) }
+            → OnOk result (steps.new ≡ steps.old + cost_of slow.held event.now) }
         ensures err_stands { (slow : SlowViewer) → StandsFor slow self.old
             → OnErr result (StandsFor slow self.new) }
         ensures err_steps { OnErr result (steps.new ≡ steps.old) }

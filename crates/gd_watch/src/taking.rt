@@ -11,7 +11,7 @@ ghost use Rattle.gd_watch.specs.Taking.{AreInside};
 
 use gd_answers::{Arrived, say};
 use gd_base::Steps;
-use gd_events::ListedEvent;
+use gd_events::Event;
 use gd_outside::{End, Sink};
 use gd_viewer::Viewer;
 use gd_wire::{Frame, FrameError, read_frame};
@@ -38,7 +38,7 @@ pub(crate) fn take_item<K: Sink, L: Ledger>(
         → StandsFor (after_item slow bytes.now) viewer.new) }
 {
     match read_frame(alloc, bytes) {
-        Ok(frame) => take_frame(viewer, &frame, output, steps),
+        Ok(frame) => take_frame(alloc, viewer, &frame, output, steps),
         Err(FrameError::Fault(fault)) => say(&Reply::BadFrame { fault }, output),
         Err(FrameError::Memory) => Err(End::NoMemory),
     }
@@ -46,6 +46,7 @@ pub(crate) fn take_item<K: Sink, L: Ledger>(
 
 /// Has it take a frame, or prints why it doesn't.
 fn take_frame<K: Sink, L: Ledger>(
+    alloc: Global,
     viewer: &mut Viewer,
     frame: &Frame,
     output: &mut K,
@@ -61,15 +62,16 @@ fn take_frame<K: Sink, L: Ledger>(
     if let Err(fault) = viewer.check_frame(frame) {
         return say(&Reply::NotTaken { fault }, output);
     }
-    take_events(viewer, frame.events(), output, steps)?;
+    take_events(alloc, viewer, frame.events(), output, steps)?;
     viewer.beat(frame);
     Ok(())
 }
 
 /// Has it take events of sites of the session, one after another.
 fn take_events<K: Sink, L: Ledger>(
+    alloc: Global,
     viewer: &mut Viewer,
-    events: &[ListedEvent],
+    events: &[Event],
     output: &mut K,
     steps: &mut Steps<L>,
 ) -> Result<(), End>
@@ -83,30 +85,30 @@ fn take_events<K: Sink, L: Ledger>(
     ensures sites { viewer.new.heard.sites ≡ viewer.old.heard.sites }
 {
     for event in events {
-        take_event(viewer, event, output, steps)?;
+        take_event(alloc, viewer, event, output, steps)?;
     }
     Ok(())
 }
 
 /// Has it take an event of a site of the session, if it is the next one.
 fn take_event<K: Sink, L: Ledger>(
+    alloc: Global,
     viewer: &mut Viewer,
-    listed: &ListedEvent,
+    event: &Event,
     output: &mut K,
     steps: &mut Steps<L>,
 ) -> Result<(), End>
     requires met { (slow : SlowViewer) × StandsFor slow viewer.old }
-    requires inside { IsTrue (is_site viewer.old.heard.sites listed.now.stamp.site) }
+    requires inside { IsTrue (is_site viewer.old.heard.sites event.now.stamp.site) }
     ensures does { (slow : SlowViewer) → StandsFor slow viewer.old
-        → PrintsInSteps (K.seen output.old) steps.old (of_viewer_event slow listed.now) result
+        → PrintsInSteps (K.seen output.old) steps.old (of_viewer_event slow event.now) result
         (K.seen output.new) steps.new }
     ensures stands { OnOk result ((slow : SlowViewer) → StandsFor slow viewer.old
-        → StandsFor (viewer_arrived slow listed.now) viewer.new) }
+        → StandsFor (viewer_arrived slow event.now) viewer.new) }
     ensures sites { viewer.new.heard.sites ≡ viewer.old.heard.sites }
 {
-    let event = listed.event();
-    let taken = viewer.arrive(event.copy(), steps)?;
-    match Arrived::of(&taken).reply(&event) {
+    let taken = viewer.arrive(event, steps)?;
+    match Arrived::of(&taken).reply(alloc, event)? {
         Some(reply) => say(&reply, output),
         None => Ok(()),
     }

@@ -16,8 +16,8 @@ use Rattle.gd_wire.specs.Frames.{FaultIs, FrameEventsValue, pack_error, spelled_
 use Rattle.gd_wire.specs.Packed.{GivesPacked}
 use Rattle.gd_wire.specs.declared.frame.error.ReadError.{ReadError}
 use Rattle.gd_wire.specs.declared.frame.error.ReadError.TheVariants as reading
-use Rattle.gd_wire.specs.declared.packed.PackError.{PackError}
-use Rattle.gd_wire.specs.declared.packed.PackError.TheVariants as packed
+use Rattle.gd_wire.specs.declared.pack_error.PackError.{PackError}
+use Rattle.gd_wire.specs.declared.pack_error.PackError.TheVariants as packed
 
 -- ---- reading
 

@@ -1,18 +1,22 @@
 //! The checks of the events of all sites, and checks in bytes.
 
-ghost use Rattle.std.specs.Prelude.{◌≡◌, ◌≤◌, ◌+◌, ◌-◌, ◌++◌, length, slice_index, slice_set};
+ghost use Rattle.std.specs.Prelude.{◌≡◌, ◌≤◌, ◌+◌, ◌-◌, ◌++◌, length, slice_index, slice_set, vec_capacity, vec_len};
 ghost use Rattle.gd_base.specs.Results.{Gives};
 ghost use Rattle.gd_base.specs.declared.ranges.TheConstants.{SITES};
 ghost use Rattle.gd_check.specs.Checks.{check};
 ghost use Rattle.gd_grammar.specs.Chains.{no_chains, with_taken};
 ghost use Rattle.gd_grammar.specs.FieldBytes.{check_bytes};
 ghost use Rattle.gd_grammar.specs.Fields.{check_word_at};
+ghost use Rattle.gd_grammar.specs.Kinds.{spelling};
 ghost use Rattle.gd_grammar.specs.declared.sizes.TheConstants.{EVENT_BYTES};
 
 use crate::buffer::EventBytes;
 use crate::bytes::Bytes;
+use crate::kind::LogKind;
+use crate::write::write_event_of;
 use gd_base::{FieldFault, SITES};
 use gd_check::check;
+use gd_events::Event;
 use std::marker::Model;
 
 /// For each site, the check of its events, one behind the other. Contracts see them as a list, in the order of the
@@ -20,6 +24,8 @@ use std::marker::Model;
 #[derive(Drop)]
 pub struct Chains {
     checks: [u32; SITES as usize],
+    /// The room in which an event is spelled: one of its own for each event would have to be cleared first.
+    spelled: EventBytes,
 }
 
 impl Model for Chains {
@@ -37,6 +43,7 @@ impl Chains {
     {
         Chains {
             checks: [0; SITES as usize],
+            spelled: EventBytes::new(),
         }
     }
 
@@ -45,6 +52,7 @@ impl Chains {
     {
         Chains {
             checks: self.checks,
+            spelled: EventBytes::new(),
         }
     }
 
@@ -83,6 +91,36 @@ impl Chains {
         ensures taken { self.new ≡ with_taken self.old site bytes.now }
     {
         let value = self.next(site, bytes);
+        self.set(site, value);
+        value
+    }
+
+    /// Takes an event in, as one of a log of that kind.
+    pub fn take_event<K: LogKind>(&mut self, event: &Event<K::Op>)
+        ensures { self.new
+            ≡ with_taken self.old event.now.stamp.site (spelling K.kind event.now) }
+    {
+        write_event_of::<K>(event, &mut self.spelled);
+        let site = event.stamp().site();
+        let value = check(self.at(site), self.spelled.as_slice());
+        self.set(site, value);
+    }
+
+    /// The same, and puts its bytes last. Returns the check of its site's events with it. It takes no memory.
+    pub fn spell<K: LogKind>(&mut self, event: &Event<K::Op>, out: &mut Vec<u8>) -> u32
+        requires { vec_len out.old + EVENT_BYTES ≤ vec_capacity out.old }
+        ensures value { result ≡ check
+            (slice_index self.old (event.now.stamp.site - 1)) (spelling K.kind event.now) }
+        ensures taken { self.new
+            ≡ with_taken self.old event.now.stamp.site (spelling K.kind event.now) }
+        ensures bytes { out.new.items ≡ out.old.items ++ spelling K.kind event.now }
+        ensures len { vec_len out.new ≤ vec_len out.old + EVENT_BYTES }
+        ensures room { vec_capacity out.old ≤ vec_capacity out.new }
+    {
+        write_event_of::<K>(event, &mut self.spelled);
+        let site = event.stamp().site();
+        let value = check(self.at(site), self.spelled.as_slice());
+        out.extend_from_slice(self.spelled.as_slice()).unwrap();
         self.set(site, value);
         value
     }

@@ -1,40 +1,28 @@
 //! What operations set.
 ghost use Rattle.std.specs.Prelude.{◌≡◌, IfOk};
 ghost use Rattle.gd_base.specs.Results.{Gives};
+ghost use Rattle.gd_base.specs.declared.content.Content.TheVariants.{ToLooks};
 ghost use Rattle.gd_grammar.specs.EventBytes.{colour_at, fill_at, width_at};
 ghost use Rattle.gd_grammar.specs.OpBytes.{ends_at, level_at, lone_at, place_at, reconnect_at, size_at};
-ghost use Rattle.gd_wire.specs.Packed.{said};
+ghost use Rattle.gd_wire.specs.Packed.{GivesPacked};
 
 use crate::bytes::Bytes;
+use crate::pack_error::PackError;
 use gd_base::{
-    COLOUR_LIMIT, Content, Ends, FieldFault, FieldWhy, Height, Label, Looks, PLACE_LIMIT,
-    SIZE_LIMIT, Stamp, Text, WIDTH_LIMIT, map_content,
+    COLOUR_LIMIT, Content, Ends, FieldFault, FieldWhy, Height, Looks, PLACE_LIMIT, SIZE_LIMIT,
+    Stamp, Text, WIDTH_LIMIT,
 };
 use gd_events::PackedLooks;
 use std::alloc::{AllocError, Global};
-use std::convert::Infallible;
 
-/// A content that is no label.
-pub(crate) type SmallContent = Content<Infallible, Looks, Height>;
+/// What an operation sets.
+pub(crate) type Done = Content<Text, PackedLooks, Height>;
 
-/// The same as an operation has it.
-pub(crate) fn labelled(content: &SmallContent) -> Content<Label, Looks, Height>
-    ensures { result ≡ said content.now }
+/// These looks, as an operation sets them. `AllocError` where memory ran out.
+pub(crate) fn looks_of(alloc: Global, looks: &Looks) -> Result<Done, AllocError>
+    ensures { IfOk result (λ content. content ≡ ToLooks looks.now) }
 {
-    map_content!(content, none => match *none {}, looks => *looks, height => *height)
-}
-
-/// The same as a packed operation has it. `AllocError` where memory ran out.
-pub(crate) fn packed(
-    alloc: Global,
-    content: &SmallContent,
-) -> Result<Content<Text, PackedLooks, Height>, AllocError>
-    ensures { IfOk result (λ packed. packed ≡ said content.now) }
-{
-    Ok(map_content!(content,
-        none => match *none {},
-        looks => PackedLooks::new(alloc, looks)?,
-        height => *height))
+    Ok(Content::ToLooks(PackedLooks::new(alloc, looks)?))
 }
 
 /// The word that stands for no fill.
@@ -42,8 +30,8 @@ pub(crate) const NO_FILL: u32 = 0xFFFF_FFFF;
 
 impl<'a> Bytes<'a> {
     #[tactic(auto, unfolding(gd_grammar::specs::OpBytes::place_at, gd_grammar::specs::Readers::steps))]
-    pub(crate) fn place(&mut self) -> Result<SmallContent, FieldFault>
-        ensures { Gives (λ c. (said c, self.new)) result (place_at self.old) }
+    pub(crate) fn place(&mut self) -> Result<Done, FieldFault>
+        ensures { Gives (λ c. (c, self.new)) result (place_at self.old) }
     {
         let x = self.signed(PLACE_LIMIT)?;
         let y = self.signed(PLACE_LIMIT)?;
@@ -51,8 +39,8 @@ impl<'a> Bytes<'a> {
     }
 
     #[tactic(auto, unfolding(gd_grammar::specs::OpBytes::size_at, gd_grammar::specs::Readers::steps))]
-    pub(crate) fn size(&mut self) -> Result<SmallContent, FieldFault>
-        ensures { Gives (λ c. (said c, self.new)) result (size_at self.old) }
+    pub(crate) fn size(&mut self) -> Result<Done, FieldFault>
+        ensures { Gives (λ c. (c, self.new)) result (size_at self.old) }
     {
         let w = self.signed(SIZE_LIMIT)?;
         let h = self.signed(SIZE_LIMIT)?;
@@ -61,8 +49,8 @@ impl<'a> Bytes<'a> {
 
     /// A rank that an object had.
     #[tactic(auto, unfolding(gd_grammar::specs::Readers::steps))]
-    pub(crate) fn level(&mut self, stamp: Stamp) -> Result<SmallContent, FieldFault>
-        ensures { Gives (λ c. (said c, self.new)) result (level_at stamp self.old) }
+    pub(crate) fn level(&mut self, stamp: Stamp) -> Result<Done, FieldFault>
+        ensures { Gives (λ c. (c, self.new)) result (level_at stamp self.old) }
     {
         let rank = self.rank(Some(stamp))?;
         Ok(Content::ToRank(Height::At(rank)))
@@ -70,24 +58,27 @@ impl<'a> Bytes<'a> {
 
     /// A lone stroke, fill or width: which one, and its value.
     #[tactic(auto, unfolding(gd_grammar::specs::OpBytes::lone_at, gd_grammar::specs::Readers::steps))]
-    pub(crate) fn lone(&mut self) -> Result<SmallContent, FieldFault>
-        ensures { Gives (λ c. (said c, self.new)) result (lone_at self.old) }
+    pub(crate) fn lone(&mut self, alloc: Global) -> Result<Done, PackError>
+        ensures { GivesPacked (λ c. (c, self.new)) result (lone_at self.old) }
     {
         let fault = self.fault(FieldWhy::Field);
         match self.byte()? {
             1 => {
                 let colour = self.colour()?;
-                Ok(Content::ToLooks(Looks::only_stroke(colour)))
+                let content = looks_of(alloc, &Looks::only_stroke(colour))?;
+                Ok(content)
             }
             2 => {
                 let fill = self.fill()?;
-                Ok(Content::ToLooks(Looks::only_fill(fill)))
+                let content = looks_of(alloc, &Looks::only_fill(fill))?;
+                Ok(content)
             }
             3 => {
                 let width = self.width()?;
-                Ok(Content::ToLooks(Looks::only_width(width)))
+                let content = looks_of(alloc, &Looks::only_width(width))?;
+                Ok(content)
             }
-            _ => Err(fault),
+            _ => Err(PackError::Field(fault)),
         }
     }
 
@@ -103,8 +94,8 @@ impl<'a> Bytes<'a> {
 
     /// Other ends of a connector.
     #[tactic(auto, unfolding(gd_grammar::specs::Readers::steps))]
-    pub(crate) fn reconnect(&mut self, stamp: Stamp) -> Result<SmallContent, FieldFault>
-        ensures { Gives (λ c. (said c, self.new)) result (reconnect_at stamp self.old) }
+    pub(crate) fn reconnect(&mut self, stamp: Stamp) -> Result<Done, FieldFault>
+        ensures { Gives (λ c. (c, self.new)) result (reconnect_at stamp self.old) }
     {
         let ends = self.ends(stamp)?;
         Ok(Content::ToEnds(Some(ends)))

@@ -12,15 +12,17 @@ ghost use Rattle.gd_grammar.specs.OpBytes.{style_at};
 ghost use Rattle.gd_grammar.specs.Spelling.{lone_or, looks_tag};
 ghost use Rattle.gd_grammar.specs.declared.sizes.TheConstants.{EVENT_BYTES};
 ghost use Rattle.gd_wire.specs.Lone.{lone_bytes};
-ghost use Rattle.gd_wire.specs.Packed.{said};
+ghost use Rattle.gd_wire.specs.Packed.{GivesPacked};
 
 use crate::buffer::EventBytes;
 use crate::bytes::Bytes;
-use crate::content::{NO_FILL, SmallContent};
+use crate::content::{Done, NO_FILL, looks_of};
+use crate::pack_error::PackError;
 use gd_base::{
-    Align, Content, Dash, FieldFault, FieldWhy, Heads, LETTERS_LIMIT, Look, Looks, OPACITY_LIMIT,
+    Align, Dash, FieldFault, FieldWhy, Heads, LETTERS_LIMIT, Look, Looks, OPACITY_LIMIT,
     ROUND_LIMIT, WIDTH_LIMIT,
 };
+use std::alloc::Global;
 
 /// A part behind a 1, or nothing behind a 0.
 macro_rules! if_set {
@@ -80,15 +82,16 @@ impl<'a> Bytes<'a> {
 
     /// What is set of a look, where it has bytes of no lone part.
     #[tactic(auto, unfolding(gd_grammar::specs::OpBytes::style_at, gd_grammar::specs::Readers::steps))]
-    pub(crate) fn style(&mut self) -> Result<SmallContent, FieldFault>
-        ensures { Gives (λ c. (said c, self.new)) result (style_at self.old) }
+    pub(crate) fn style(&mut self, alloc: Global) -> Result<Done, PackError>
+        ensures { GivesPacked (λ c. (c, self.new)) result (style_at self.old) }
     {
         let fault = self.fault(FieldWhy::Field);
         let looks = self.all_looks()?;
         if !is_style(&looks) {
-            return Err(fault);
+            return Err(PackError::Field(fault));
         }
-        Ok(Content::ToLooks(looks))
+        let content = looks_of(alloc, &looks)?;
+        Ok(content)
     }
 
     #[tactic(auto, unfolding(gd_grammar::specs::LookBytes::all_looks_at, gd_grammar::specs::Readers::steps))]

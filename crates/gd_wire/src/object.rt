@@ -7,14 +7,17 @@ ghost use Rattle.gd_grammar.specs.ObjectBytes.{some_link_at, link_at};
 ghost use Rattle.gd_grammar.specs.ObjectBytes.{given_at, object_at, of_kind_at, own_ends_at, own_label_at, rank_at};
 ghost use Rattle.gd_grammar.specs.Spelling.{ends_bytes, kind_byte, flag_byte, link_bytes, rank_bytes, object_bytes};
 ghost use Rattle.gd_grammar.specs.declared.sizes.TheConstants.{EVENT_BYTES, OBJECT_BYTES};
+ghost use Rattle.gd_wire.specs.Packed.{GivesPacked};
 
 use crate::buffer::EventBytes;
 use crate::bytes::Bytes;
+use crate::pack_error::PackError;
 use gd_base::{
     Ends, FieldFault, FieldWhy, Kind, Label, Link, Object, PLACE_LIMIT, Rank, SIZE_LIMIT, Shape,
     Stamp,
 };
 use gd_grammar::Naming;
+use std::alloc::Global;
 
 /// The kind of a group, behind those of shapes.
 const GROUP: u8 = 5;
@@ -26,22 +29,25 @@ impl<'a> Bytes<'a> {
     /// An object of at most `OBJECT_BYTES`, without its id, and the operation that names it, if one does. The first
     /// fault is returned: `Short` at the end of all bytes where a field isn't whole, `FutureId` at a group or a rank
     /// that this operation may not name, and `Field` at the first byte of any other field that is out of its range.
+    /// `Memory` where memory ran out.
     #[tactic(auto, unfolding(gd_grammar::specs::ObjectBytes::object_at, gd_grammar::specs::Readers::steps))]
-    pub fn object(&mut self, naming: &Option<Naming>) -> Result<Object, FieldFault>
-        ensures { Gives (λ object. (object, self.new)) result (object_at naming.now self.old) }
+    pub fn object(&mut self, alloc: Global, naming: &Option<Naming>) -> Result<Object, PackError>
+        ensures { GivesPacked (λ object. (object, self.new)) result
+            (object_at naming.now self.old) }
     {
         let kind = self.kind()?;
-        self.of_kind(kind, naming)
+        self.of_kind(alloc, kind, naming)
     }
 
     /// What stands behind the kind of an object.
     #[tactic(auto, unfolding(gd_grammar::specs::ObjectBytes::of_kind_at, gd_grammar::specs::Readers::steps))]
     pub(crate) fn of_kind(
         &mut self,
+        alloc: Global,
         kind: Kind,
         naming: &Option<Naming>,
-    ) -> Result<Object, FieldFault>
-        ensures read { Gives (λ object. (object, self.new)) result
+    ) -> Result<Object, PackError>
+        ensures read { GivesPacked (λ object. (object, self.new)) result
             (of_kind_at kind naming.now self.old) }
         ensures kind { IfOk result (λ object. object.kind ≡ kind) }
     {
@@ -50,7 +56,7 @@ impl<'a> Bytes<'a> {
         let w = self.signed(SIZE_LIMIT)?;
         let h = self.signed(SIZE_LIMIT)?;
         let look = self.whole_look()?;
-        let label = self.own_label(kind)?;
+        let label = self.own_text(alloc, kind)?;
         let ends = self.own_ends(kind, stamp_of(naming))?;
         let link = self.link(naming)?;
         let dissolved = self.flag()?;
@@ -72,7 +78,7 @@ impl<'a> Bytes<'a> {
 
     /// The label of an object of that kind: the one of a group is a title.
     #[tactic(auto, unfolding(gd_grammar::specs::ObjectBytes::own_label_at))]
-    fn own_label(&mut self, kind: Kind) -> Result<Label, FieldFault>
+    pub(crate) fn own_label(&mut self, kind: Kind) -> Result<Label, FieldFault>
         ensures { Gives (λ x. (x, self.new)) result (own_label_at kind self.old) }
     {
         match kind {

@@ -22,115 +22,130 @@ use gd_lines::{Command, LookName};
 
 /// The edit of that name, with the `count` words behind it.
 #[tactic(auto, unfolding(gd_lines::specs::Rows::by_name, gd_lines::specs::Edits::edit_rows))]
-pub(crate) fn edit(words: &mut Words<'_>, name: &[u8], count: usize) -> Asked<Command>
-    ensures { Asks (λ c. (c, words.new)) result (by_name edit_rows name.now count) words.old }
+pub(crate) fn edit(
+    words: &mut Words<'_>,
+    name: &[u8],
+    count: usize,
+    command: &mut Command,
+) -> Asked<()>
+    ensures { Asks (λ u. (command.new, words.new)) result (by_name edit_rows name.now count) words.old }
 {
     by_name! { name;
-        b"create", count >= 5 => create(words),
-        b"delete", count == 1 => delete(words),
-        b"move", count == 3 => set_place(words),
-        b"resize", count == 3 => set_size(words),
-        _ => look_edit(words, name, count)
+        b"create", count >= 5 => create(words, command),
+        b"delete", count == 1 => delete(words, command),
+        b"move", count == 3 => set_place(words, command),
+        b"resize", count == 3 => set_size(words, command),
+        _ => look_edit(words, name, count, command)
     }
 }
 
 /// Of looks, and then the others.
 #[tactic(auto, unfolding(gd_lines::specs::Rows::by_name, gd_lines::specs::Edits::look_rows))]
-fn look_edit(words: &mut Words<'_>, name: &[u8], count: usize) -> Asked<Command>
-    ensures { Asks (λ c. (c, words.new)) result (by_name look_rows name.now count) words.old }
+fn look_edit(words: &mut Words<'_>, name: &[u8], count: usize, command: &mut Command) -> Asked<()>
+    ensures { Asks (λ u. (command.new, words.new)) result (by_name look_rows name.now count) words.old }
 {
     by_name! { name;
-        b"stroke", count == 2 => set_look(words, LookName::Stroke),
-        b"fill", count == 2 => set_look(words, LookName::Fill),
-        b"width", count == 2 => set_look(words, LookName::Width),
-        b"dash", count == 2 => set_look(words, LookName::Dash),
-        b"heads", count == 2 => set_look(words, LookName::Heads),
-        b"round", count == 2 => set_look(words, LookName::Round),
-        b"opacity", count == 2 => set_look(words, LookName::Opacity),
-        b"size", count == 2 => set_look(words, LookName::Size),
-        b"align", count == 2 => set_look(words, LookName::Align),
-        b"style", are_pairs(count) => set_style(words, (count - 1) / 2),
-        _ => other_edit(words, name, count)
+        b"stroke", count == 2 => set_look(words, LookName::Stroke, command),
+        b"fill", count == 2 => set_look(words, LookName::Fill, command),
+        b"width", count == 2 => set_look(words, LookName::Width, command),
+        b"dash", count == 2 => set_look(words, LookName::Dash, command),
+        b"heads", count == 2 => set_look(words, LookName::Heads, command),
+        b"round", count == 2 => set_look(words, LookName::Round, command),
+        b"opacity", count == 2 => set_look(words, LookName::Opacity, command),
+        b"size", count == 2 => set_look(words, LookName::Size, command),
+        b"align", count == 2 => set_look(words, LookName::Align, command),
+        b"style", are_pairs(count) => set_style(words, (count - 1) / 2, command),
+        _ => other_edit(words, name, count, command)
     }
 }
 
 /// Of texts, connectors, groups and the stack.
 #[tactic(auto, unfolding(gd_lines::specs::Rows::by_name, gd_lines::specs::Edits::other_rows))]
-fn other_edit(words: &mut Words<'_>, name: &[u8], count: usize) -> Asked<Command>
-    ensures { Asks (λ c. (c, words.new)) result (by_name other_rows name.now count) words.old }
+fn other_edit(words: &mut Words<'_>, name: &[u8], count: usize, command: &mut Command) -> Asked<()>
+    ensures { Asks (λ u. (command.new, words.new)) result (by_name other_rows name.now count) words.old }
 {
     by_name! { name;
-        b"text", count >= 1 => set_text(words),
-        b"connect", count >= 2 => connect(words),
-        b"reconnect", count == 3 => set_ends(words),
-        b"group", count >= 2 && count <= MOST_MEMBERS => group(words, count),
-        b"ungroup", count == 1 => set(words, Content::ToFlag(true)),
-        b"raise", count == 1 => set(words, Content::ToRank(Side::Top)),
-        b"lower", count == 1 => set(words, Content::ToRank(Side::Bottom)),
+        b"text", count >= 1 => set_text(words, command),
+        b"connect", count >= 2 => connect(words, command),
+        b"reconnect", count == 3 => set_ends(words, command),
+        b"group", count >= 2 && count <= MOST_MEMBERS => group(words, count, command),
+        b"ungroup", count == 1 => set(words, Content::ToFlag(true), command),
+        b"raise", count == 1 => set(words, Content::ToRank(Side::Top), command),
+        b"lower", count == 1 => set(words, Content::ToRank(Side::Bottom), command),
         _ => Err(LineFault::UnknownCommand)
     }
 }
 
-fn create(words: &mut Words<'_>) -> Result<Command, LineFault>
-    ensures { Gives (λ c. (c, words.new)) result (create_words words.old) }
+fn create(words: &mut Words<'_>, command: &mut Command) -> Result<(), LineFault>
+    ensures { Gives (λ u. (command.new, words.new)) result (create_words words.old) }
 {
-    Ok(Command::Edit(Edit::Create {
+    *command = Command::Edit(Edit::Create {
         kind: words.kind()?,
         x: words.place()?,
         y: words.place()?,
         w: words.size()?,
         h: words.size()?,
         label: words.label()?,
-    }))
+    });
+    Ok(())
 }
 
-fn delete(words: &mut Words<'_>) -> Result<Command, LineFault>
-    ensures { Gives (λ c. (c, words.new)) result (delete_words words.old) }
+fn delete(words: &mut Words<'_>, command: &mut Command) -> Result<(), LineFault>
+    ensures { Gives (λ u. (command.new, words.new)) result (delete_words words.old) }
 {
-    Ok(Command::Edit(Edit::Delete { id: words.id()? }))
+    *command = Command::Edit(Edit::Delete { id: words.id()? });
+    Ok(())
 }
 
-fn group(words: &mut Words<'_>, count: usize) -> Result<Command, LineFault>
+fn group(words: &mut Words<'_>, count: usize, command: &mut Command) -> Result<(), LineFault>
     requires { count ≤ MOST_MEMBERS }
-    ensures { Gives (λ c. (c, words.new)) result (group_words count words.old) }
+    ensures { Gives (λ u. (command.new, words.new)) result (group_words count words.old) }
 {
-    Ok(Command::Edit(Edit::Group {
+    *command = Command::Edit(Edit::Group {
         members: words.ids(count)?,
-    }))
+    });
+    Ok(())
 }
 
 /// An id, and what is set without further words.
-fn set(words: &mut Words<'_>, content: Content<Label, Looks, Side>) -> Result<Command, LineFault>
-    ensures { Gives (λ c. (c, words.new)) result (set_words (pure content) words.old) }
+fn set(
+    words: &mut Words<'_>,
+    content: Content<Label, Looks, Side>,
+    command: &mut Command,
+) -> Result<(), LineFault>
+    ensures { Gives (λ u. (command.new, words.new)) result (set_words (pure content) words.old) }
 {
-    Ok(Command::Edit(Edit::Set {
+    *command = Command::Edit(Edit::Set {
         id: words.id()?,
         content,
-    }))
+    });
+    Ok(())
 }
 
-fn set_place(words: &mut Words<'_>) -> Result<Command, LineFault>
-    ensures { Gives (λ c. (c, words.new)) result (set_words place_words words.old) }
+fn set_place(words: &mut Words<'_>, command: &mut Command) -> Result<(), LineFault>
+    ensures { Gives (λ u. (command.new, words.new)) result (set_words place_words words.old) }
 {
-    Ok(Command::Edit(Edit::Set {
+    *command = Command::Edit(Edit::Set {
         id: words.id()?,
         content: Content::ToPlace {
             x: words.place()?,
             y: words.place()?,
         },
-    }))
+    });
+    Ok(())
 }
 
-fn set_size(words: &mut Words<'_>) -> Result<Command, LineFault>
-    ensures { Gives (λ c. (c, words.new)) result (set_words size_words words.old) }
+fn set_size(words: &mut Words<'_>, command: &mut Command) -> Result<(), LineFault>
+    ensures { Gives (λ u. (command.new, words.new)) result (set_words size_words words.old) }
 {
-    Ok(Command::Edit(Edit::Set {
+    *command = Command::Edit(Edit::Set {
         id: words.id()?,
         content: Content::ToSize {
             w: words.size()?,
             h: words.size()?,
         },
-    }))
+    });
+    Ok(())
 }
 
 /// Whether so many words are an id and 1 to 9 pairs of a name and a value.
@@ -141,23 +156,25 @@ fn are_pairs(count: usize) -> bool
 }
 
 /// One part of a look.
-fn set_look(words: &mut Words<'_>, name: LookName) -> Result<Command, LineFault>
-    ensures { Gives (λ c. (c, words.new)) result (set_words (look_words name) words.old) }
+fn set_look(words: &mut Words<'_>, name: LookName, command: &mut Command) -> Result<(), LineFault>
+    ensures { Gives (λ u. (command.new, words.new)) result (set_words (look_words name) words.old) }
 {
     let id = words.id()?;
     let looks = value(words, name, Looks::none())?;
     let content = Content::ToLooks(looks);
-    Ok(Command::Edit(Edit::Set { id, content }))
+    *command = Command::Edit(Edit::Set { id, content });
+    Ok(())
 }
 
 /// So many parts of a look.
-fn set_style(words: &mut Words<'_>, count: usize) -> Result<Command, LineFault>
-    ensures { Gives (λ c. (c, words.new)) result (set_words (style_words count) words.old) }
+fn set_style(words: &mut Words<'_>, count: usize, command: &mut Command) -> Result<(), LineFault>
+    ensures { Gives (λ u. (command.new, words.new)) result (set_words (style_words count) words.old) }
 {
     let id = words.id()?;
     let looks = looks(words, count)?;
     let content = Content::ToLooks(looks);
-    Ok(Command::Edit(Edit::Set { id, content }))
+    *command = Command::Edit(Edit::Set { id, content });
+    Ok(())
 }
 
 fn looks(words: &mut Words<'_>, count: usize) -> Result<Looks, LineFault>
@@ -224,14 +241,15 @@ fn value(words: &mut Words<'_>, name: LookName, looks: Looks) -> Result<Looks, L
     }
 }
 
-fn connect(words: &mut Words<'_>) -> Result<Command, LineFault>
-    ensures { Gives (λ c. (c, words.new)) result (connect_words words.old) }
+fn connect(words: &mut Words<'_>, command: &mut Command) -> Result<(), LineFault>
+    ensures { Gives (λ u. (command.new, words.new)) result (connect_words words.old) }
 {
     let from = words.id()?;
     let to = words.id()?;
     let label = words.label()?;
     let ends = Ends { from, to };
-    Ok(Command::Edit(Edit::Connect { ends, label }))
+    *command = Command::Edit(Edit::Connect { ends, label });
+    Ok(())
 }
 
 #[tactic(auto, unfolding(crate::proofs::Opened::reading, gd_lines::specs::Edits::ends_at))]
@@ -243,20 +261,22 @@ fn ends(words: &mut Words<'_>) -> Result<Ends, LineFault>
     Ok(Ends { from, to })
 }
 
-fn set_ends(words: &mut Words<'_>) -> Result<Command, LineFault>
-    ensures { Gives (λ c. (c, words.new)) result (set_words ends_words words.old) }
+fn set_ends(words: &mut Words<'_>, command: &mut Command) -> Result<(), LineFault>
+    ensures { Gives (λ u. (command.new, words.new)) result (set_words ends_words words.old) }
 {
     let id = words.id()?;
     let ends = ends(words)?;
     let content = Content::ToEnds(Some(ends));
-    Ok(Command::Edit(Edit::Set { id, content }))
+    *command = Command::Edit(Edit::Set { id, content });
+    Ok(())
 }
 
-fn set_text(words: &mut Words<'_>) -> Result<Command, LineFault>
-    ensures { Gives (λ c. (c, words.new)) result (set_words text_words words.old) }
+fn set_text(words: &mut Words<'_>, command: &mut Command) -> Result<(), LineFault>
+    ensures { Gives (λ u. (command.new, words.new)) result (set_words text_words words.old) }
 {
-    Ok(Command::Edit(Edit::Set {
+    *command = Command::Edit(Edit::Set {
         id: words.id()?,
         content: Content::ToText(words.label()?),
-    }))
+    });
+    Ok(())
 }

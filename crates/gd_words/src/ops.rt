@@ -15,10 +15,10 @@ use crate::colours::push_colour;
 use crate::items::{align_word, push_escaped, push_fill, push_label, push_marks, shape_word};
 use crate::reply_text::ReplyText;
 use gd_base::{
-    Align, Content, Dash, Ends, Heads, Height, Kind, Label, Link, Looks, Member, Object, Rank,
-    Shape, Side, Stamp, Tie,
+    Align, Content, Dash, Ends, Heads, Height, Kind, Link, Looks, Member, Object, Rank, Shape,
+    Side, Stamp, Text, Tie,
 };
-use gd_events::Op;
+use gd_events::{Op, PackedLooks};
 
 /// Appends the operation, of at most 6,400 bytes.
 pub(crate) fn push_op(text: &mut ReplyText, op: &Op)
@@ -52,6 +52,7 @@ pub(crate) fn push_op(text: &mut ReplyText, op: &Op)
             push_behind(text, label);
         }
         Op::Restore { id, object, ties } => {
+            let object = object.get();
             push_command(text, b"restore", *id);
             push_whole(text, object);
             push_state(text, object);
@@ -66,7 +67,7 @@ pub(crate) fn push_op(text: &mut ReplyText, op: &Op)
 }
 
 /// Appends what sets a content of the object of that id.
-fn push_content(text: &mut ReplyText, id: Stamp, content: &Content<Label, Looks, Height>)
+fn push_content(text: &mut ReplyText, id: Stamp, content: &Content<Text, PackedLooks, Height>)
     requires room { length text.old + 1100 ≤ LONGEST_REPLY }
     ensures value { text.new ≡ text.old ++ content_text id content.now }
     ensures grown { length text.new ≤ length text.old + 1100 }
@@ -80,7 +81,7 @@ fn push_content(text: &mut ReplyText, id: Stamp, content: &Content<Label, Looks,
             push_command(text, b"resize", id);
             push_two(text, *w, *h);
         }
-        Content::ToLooks(looks) => push_looks(text, id, looks),
+        Content::ToLooks(looks) => push_looks(text, id, &looks.looks()),
         Content::ToText(label) => {
             push_command(text, b"text", id);
             push_behind(text, label);
@@ -386,7 +387,7 @@ fn push_box(text: &mut ReplyText, x: i32, y: i32, w: i32, h: i32)
 }
 
 /// Appends a label as a line that asks for it has it.
-fn push_behind(text: &mut ReplyText, label: &Label)
+fn push_behind(text: &mut ReplyText, label: &Text)
     requires room { length text.old + 1001 ≤ LONGEST_REPLY }
     ensures value { text.new ≡ text.old ++ behind_text label.now }
     ensures grown { length text.new ≤ length text.old + 1001 }

@@ -29,9 +29,10 @@ use Rattle.gd_reference.specs.SlowSite.{SlowSite, status}
 use Rattle.gd_reference.specs.TakeBack.{BackRefusal, after_edit, after_turn, back_refusal, backs_of, events_in, turn}
 use Rattle.gd_reference.specs.TakeBack.{with_events, with_made, with_turned}
 use Rattle.gd_reference.specs.World.{Focuses, Names, Prints, after_line, most_notes, noted, refocused, renamed}
-use Rattle.gd_site.specs.Answers.{EditIs, next_note}
+use Rattle.gd_judging.specs.Faults.{EditIs}
+use Rattle.gd_site.specs.Answers.{next_note}
 use Rattle.gd_site.specs.Sites.{StandsFor}
-use Rattle.gd_site.specs.declared.answers.EditFault.{EditFault}
+use Rattle.gd_judging.specs.declared.faults.EditFault.{EditFault}
 use Rattle.gd_site.specs.declared.answers.NoteEnd as site
 use Rattle.gd_takeback.specs.Answers.{OnBackRefusal, PaysFor, TurnIs}
 use Rattle.gd_takeback.specs.Standing.{StandsWith}

@@ -12,7 +12,7 @@ use crate::replies::Replies;
 use crate::telling::only;
 use gd_answers::{Arrived, Came, take_frame};
 use gd_base::Steps;
-use gd_events::ListedEvent;
+use gd_events::Event;
 use gd_wire::Frame;
 use gd_words::Reply;
 use std::alloc::{AllocError, Global};
@@ -29,7 +29,7 @@ pub(crate) fn hear<L: Ledger>(
     ensures { (slow : SlowSite) → StandsWith slow member.old.site member.old.backs
         → Hears slow frame.now result steps.old member.new steps.new }
 {
-    let came = take_frame(&mut member.site, frame, steps)?;
+    let came = take_frame(alloc, &mut member.site, frame, steps)?;
     match came {
         Came::Taken { heard } => echoes(alloc, frame.events(), heard.as_slice()),
         Came::Refused { fault } => only(alloc, Reply::NotTaken { fault }),
@@ -46,23 +46,28 @@ pub(crate) fn hear<L: Ledger>(
 }
 
 /// What is said of these events, in their order.
-fn echoes(alloc: Global, events: &[ListedEvent], heard: &[Arrived]) -> Result<Replies, WorldFault>
+fn echoes(alloc: Global, events: &[Event], heard: &[Arrived]) -> Result<Replies, WorldFault>
     ensures ok { IfOk result (λ replies. replies ≡ replies_of events.now heard.now) }
     ensures err { OnErr result (result ≡ Err WorldFault.NoMemory) }
 {
     let mut replies = Replies::new(alloc);
     for (event, arrived) in events.iter().zip(heard) {
-        push_echo(&mut replies, event, *arrived)?;
+        push_echo(alloc, &mut replies, event, *arrived)?;
     }
     Ok(replies)
 }
 
 /// Puts last what is said of an event, if anything is. `AllocError` where memory ran out.
-fn push_echo(replies: &mut Replies, event: &ListedEvent, arrived: Arrived) -> Result<(), AllocError>
+fn push_echo(
+    alloc: Global,
+    replies: &mut Replies,
+    event: &Event,
+    arrived: Arrived,
+) -> Result<(), AllocError>
     ensures { OnOk result
         (replies.new ≡ replies.old ++ reply_list (arrived_reply event.now arrived)) }
 {
-    match arrived.reply(&event.event()) {
+    match arrived.reply(alloc, event)? {
         Some(reply) => replies.push(reply),
         None => Ok(()),
     }

@@ -18,7 +18,7 @@ use crate::member::Member;
 use crate::replies::Replies;
 use gd_answers::{back_refusal, edit_refusal, noted_reply};
 use gd_base::{Refusal, Steps};
-use gd_events::ListedEvent;
+use gd_events::Event;
 use gd_lines::Command;
 use gd_site::Site;
 use gd_words::Reply;
@@ -60,13 +60,13 @@ pub(crate) fn tell<L: Ledger>(
 }
 
 /// That these events were done, and how many there are.
-fn done(alloc: Global, events: &[ListedEvent]) -> Result<Replies, WorldFault>
+fn done(alloc: Global, events: &[Event]) -> Result<Replies, WorldFault>
     ensures ok { IfOk result (λ replies. replies ≡ done_replies events.now) }
     ensures err { OnErr result (result ≡ Err WorldFault.NoMemory) }
 {
     let mut replies = Replies::new(alloc);
-    for listed in events {
-        replies.push(Reply::Done { id: listed.stamp() })?;
+    for event in events {
+        replies.push(Reply::Done { id: event.stamp() })?;
     }
     replies.push(Reply::End {
         count: events.len() as u64,

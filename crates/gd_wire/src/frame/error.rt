@@ -1,5 +1,5 @@
 //! Why bytes give no frame.
-use crate::packed::PackError;
+use crate::pack_error::PackError;
 use crate::read::wire_why;
 use gd_base::{FieldFault, WireFault, WireWhy};
 use std::alloc::AllocError;

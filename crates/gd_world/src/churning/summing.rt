@@ -3,6 +3,7 @@
 ghost use Rattle.std.specs.Prelude.{◌≡◌, ◌≤◌, ◌++◌, ◌∷◌, [], length, map, IfOk, OnOk, bytes_eq};
 ghost use Rattle.std.specs.List.{concat};
 ghost use Rattle.gd_lines.specs.Replies.{reply_text};
+ghost use Rattle.gd_lines.specs.declared.reply.Reply.TheVariants as reply;
 ghost use Rattle.gd_reference.specs.DrawingText.{item_replies};
 ghost use Rattle.gd_reference.specs.World.{World as SlowWorld};
 ghost use Rattle.gd_site.specs.Sites.{StandsFor as SiteStandsFor};
@@ -91,12 +92,26 @@ fn text_of(alloc: Global, items: &[Item]) -> Result<Vec<u8>, AllocError>
 {
     let mut text = Vec::new(alloc);
     for item in items {
-        let shared = item.share()?;
-        put(&mut text, &Reply::Item { item: shared })?;
+        put_item(&mut text, item)?;
     }
-    let count = items.len() as u64;
-    put(&mut text, &Reply::End { count })?;
+    put_end(&mut text, items.len() as u64)?;
     Ok(text)
+}
+
+/// Puts the line of an item last. `AllocError` where memory ran out.
+fn put_item(text: &mut Vec<u8>, item: &Item) -> Result<(), AllocError>
+    ensures { OnOk result
+        (text.new.items ≡ text.old.items ++ reply_text (reply.Item item.now)) }
+{
+    let item = item.share()?;
+    put(text, &Reply::Item { item })
+}
+
+/// Puts last how many there are. `AllocError` where memory ran out.
+fn put_end(text: &mut Vec<u8>, count: u64) -> Result<(), AllocError>
+    ensures { OnOk result (text.new.items ≡ text.old.items ++ reply_text (reply.End count)) }
+{
+    put(text, &Reply::End { count })
 }
 
 fn put(text: &mut Vec<u8>, reply: &Reply) -> Result<(), AllocError>

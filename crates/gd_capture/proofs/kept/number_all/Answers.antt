@@ -25,7 +25,7 @@ pub sound-requires-clause-op : goal.sound-requires-clause-op
 sound-requires-clause-op c =
     let x = c.get-entry.result.now in
     let P = λ (e : Stamped Op). IsOp e.stamp e.op in
-    subst P (ap₂ stamped (sym c.stamp-stamp.ensures) (sym c.op.ensures))
+    subst P (ap₂ stamped (sym c.stamp-stamp.ensures) (sym c.in_ok-op.ensures))
     (admitted_here P c.args.entries.now c.loop-place.place x c.requires.sound (omega arith) c.get-entry.ensures)
 
 pub loop-place-preserved : goal.loop-place-preserved
@@ -37,7 +37,7 @@ loop-place-preserved c =
     let range = c.site-site.ensures.range in
     let is = subst (λ (s : Stamp). IsSite s.site) stamp (range.site_above, range.site_below) in
     let number = c.of-number.ensures.number ∙ ap (of_site numbers) site in
-    let op = c.op.ensures in
+    let op = c.in_ok-op.ensures in
     let event : c.sound.result
     ≡ record { stamp = x.stamp; number = of_site numbers x.stamp.site + 1; op = x.op } = c.sound.ensures
     ∙ (λ i. record { stamp = stamp i; number = number i + 1; op = op i }) in

@@ -18,4 +18,4 @@ returns-in_ok-put-in-Restore c =
     let front = c.in_ok-put-in-Restore.ensures ∙ (λ i. put_field (named i) (codes "ties", ties i)) in
     let whole = ap (λ (op : Op). put_all fields (op_fields op)) (sym k.is) in
     on_ok_weaker c.put_object.result (λ e. e ∙ ap (λ fs. put_all fs (object_fields k.object)) front ∙ whole)
-    c.put_object.ensures
+    (rw c.get.ensures at c.put_object.ensures)

@@ -1,4 +1,4 @@
-use Rattle.std.proofs.Common.{◌∙◌, ap, length, map, refl}
+use Rattle.std.proofs.Common.{◌∙◌, length, map, refl}
 use Rattle.gd_effects.proofs.Doing.{along_done, along_exit, along_from, along_then}
 use Rattle.gd_grammar.specs.Drawings.{spelling}
 use Rattle.gd_grammar.specs.FieldBytes.{word_bytes}
@@ -23,15 +23,15 @@ pub returns-in_err-print-2-clause-does : goal.returns-in_err-print-2-clause-does
 returns-in_err-print-2-clause-does g c input journal link steps =
     along_exit _ (prints (map spelling c.in-Some.rest.now)) c.from_residual-in_err-print-2.ensures.1
     (c.events.invariant input journal link steps)
-    (λ t. piece-next spelling c.events.left.now c.in-Some.rest.now c.in-Some.listed.now _ c.in-Some.ensures.cases.0
-    (c.as_slice-in-Some.ensures.bytes ∙ c.write_event.ensures ∙ ap spelling c.event-event.ensures))
+    (λ t. piece-next spelling c.events.left.now c.in-Some.rest.now c.in-Some.event.now _ c.in-Some.ensures.cases.0
+    (c.as_slice-in-Some.ensures.bytes ∙ c.write_event.ensures))
     (c.in_err-print-2.ensures.does input journal link steps)
 
 pub events-preserved : goal.events-preserved
 events-preserved g c input journal link steps =
     along_then (prints (map spelling c.in-Some.rest.now)) (c.events.invariant input journal link steps)
-    (λ t. piece-next spelling c.events.left.now c.in-Some.rest.now c.in-Some.listed.now _ c.in-Some.ensures.cases.0
-    (c.as_slice-in-Some.ensures.bytes ∙ c.write_event.ensures ∙ ap spelling c.event-event.ensures))
+    (λ t. piece-next spelling c.events.left.now c.in-Some.rest.now c.in-Some.event.now _ c.in-Some.ensures.cases.0
+    (c.as_slice-in-Some.ensures.bytes ∙ c.write_event.ensures))
     (c.in_ok-print-2.ensures.does input journal link steps)
 
 pub returns-clause-does : goal.returns-clause-does

@@ -1,7 +1,5 @@
-use Rattle.std.proofs.Common.{◌≡◌, List, [], ◌∷◌, ◌++◌, ◌∙◌, ap, refl}
-use Rattle.gd_base.specs.declared.version.Version.TheVariants.{Three}
+use Rattle.std.proofs.Common.{[], ◌∷◌, ◌++◌, refl}
 use Rattle.gd_grammar.specs.Drawings.{drawings}
-use Rattle.gd_grammar.specs.LogBytes.{gate, record_bytes}
 use Rattle.gd_grammar.proofs.ChainLemmas.{none-are}
 use Rattle.gd_effects.proofs.Doing.{along_from, along_then, along_last, along_exit}
 use Rattle.gd_log.proofs.PieceLemmas.{pieces, pieces-head, pieces-record, pieces-end}
@@ -25,33 +23,24 @@ records-init g c =
           (c.in_ok-print.ensures.does input journal link steps),
     )
 
-pub returns-in_err-print-2-clause-does : goal.returns-in_err-print-2-clause-does
-returns-in_err-print-2-clause-does g c input journal link steps =
+pub returns-in_err-write_record-clause-does : goal.returns-in_err-write_record-clause-does
+returns-in_err-write_record-clause-does g c input journal link steps =
     let seen = c.records.invariant.0 in
-    let text =
-    c.gated_of-record.ensures.bytes seen c.records.invariant.1
-    ∙ ap (λ e. gate ∷ record_bytes drawings Three seen e) c.into_event-event.ensures in
-    along_exit _ (pieces (seen ++ c.in-Some.listed ∷ []) c.next.new.self) c.from_residual-in_err-print-2.ensures.1
+    along_exit _ (pieces (seen ++ c.in-Some.event ∷ []) c.next.new.self) c.from_residual-in_err-write_record.ensures.1
     (c.records.invariant.2 input journal link steps)
-    (λ t. pieces-record seen c.records.left c.next.new.self c.in-Some.listed _ _ c.in-Some.ensures
-    c.as_slice-in-Some.ensures.value text)
-    (c.in_err-print-2.ensures.does input journal link steps)
+    (λ t. pieces-record seen c.records.left c.next.new.self c.in-Some.event c.in-Some.ensures)
+    (c.in_err-write_record.ensures.does seen c.records.invariant.1 input journal link steps)
 
 pub records-preserved : goal.records-preserved
 records-preserved g c =
-    let seen = c.records.invariant.0 in
-    let text =
-    c.gated_of-record.ensures.bytes seen c.records.invariant.1
-    ∙ ap (λ e. gate ∷ record_bytes drawings Three seen e) c.into_event-event.ensures in (
-      seen ++ c.in-Some.listed ∷ [],
-      rw (← c.into_event-event.ensures)
-          (c.gated_of-record.ensures.chains seen c.records.invariant.1),
+    let seen = c.records.invariant.0 in (
+      seen ++ c.in-Some.event ∷ [],
+      c.in_ok-write_record.ensures.chains seen c.records.invariant.1,
       λ input journal link steps.
-          along_then (pieces (seen ++ c.in-Some.listed ∷ []) c.next.new.self)
+          along_then (pieces (seen ++ c.in-Some.event ∷ []) c.next.new.self)
           (c.records.invariant.2 input journal link steps)
-          (λ t. pieces-record seen c.records.left c.next.new.self c.in-Some.listed _ _ c.in-Some.ensures
-          c.as_slice-in-Some.ensures.value text)
-          (c.in_ok-print-2.ensures.does input journal link steps),
+          (λ t. pieces-record seen c.records.left c.next.new.self c.in-Some.event c.in-Some.ensures)
+          (c.in_ok-write_record.ensures.does seen c.records.invariant.1 input journal link steps),
     )
 
 pub returns-clause-does : goal.returns-clause-does

@@ -38,7 +38,7 @@ pub records-preserved : goal.records-preserved
 records-preserved g c =
     let taken = rw c.in-Ok-Some.field-0-is at c.in-Ok-Some.ensures in
     let took = taken.next.follows c.records.events c.records.invariant.follows in
-    rw (c.in_ok-push_listed-in-Ok-Some.ensures.ok, taken.next.header) record {
+    rw (c.in_ok-push-in-Ok-Some.ensures.ok, taken.next.header) record {
       called = source_called_as (λ failed. absurd failed) (source_called_then c.records.invariant.called taken.called);
       follows = took.follows;
       chained = taken.next.chained c.records.events c.records.invariant.chained;
@@ -119,8 +119,8 @@ returns-in-Err-Memory-clause-called g c =
     source_called_as (λ failed. absurd cc)
     (source_called_then c.records.invariant.called c.in-Err-Memory.ensures.called)
 
-pub returns-in_err-push_listed-in-Ok-Some-clause-called : goal.returns-in_err-push_listed-in-Ok-Some-clause-called
-returns-in_err-push_listed-in-Ok-Some-clause-called g c =
+pub returns-in_err-push-in-Ok-Some-clause-called : goal.returns-in_err-push-in-Ok-Some-clause-called
+returns-in_err-push-in-Ok-Some-clause-called g c =
     let p = err_from_is_err_and c.from_residual.result c.from_residual.ensures.1 in
     source_called_as (λ failed. absurd (let f = rw (p.1, p.2) at failed in cc))
     (source_called_then c.records.invariant.called c.in-Ok-Some.ensures.called)

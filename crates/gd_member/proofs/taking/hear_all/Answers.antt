@@ -11,28 +11,28 @@ events-init c = heard_none c.args.events.now c.args.heard.now _ _
 
 pub events-preserved : goal.events-preserved
 events-preserved c =
-    let gives = c.into_iter-listed-iterator.ensures.into_iter_gives in
-    let zipped = c.zip-listed-items.ensures in
-    let listed = c.in-Some.listed in
+    let gives = c.into_iter-event-iterator.ensures.into_iter_gives in
+    let zipped = c.zip-event-items.ensures in
+    let event = c.in-Some.event in
     let arrived = c.in-Some.arrived in
     let t =
-    zip_turn c.args.events.now c.args.heard.now c.events.yielded c.into_iter-listed-iterator.result
-    c.events.listed-iterator c.next.new.self c.next.result
+    zip_turn c.args.events.now c.args.heard.now c.events.yielded c.into_iter-event-iterator.result
+    c.events.event-iterator c.next.new.self c.next.result
     (ap (λ z. iter_rest (zip_first z)) gives ∙ ap iter_rest zipped.first ∙ c.iter.ensures.rest)
-    (ap (λ z. iter_rest (zip_second z)) gives ∙ zipped.second.0) c.events.yielded_by (listed, arrived) c.in-Some.is
+    (ap (λ z. iter_rest (zip_second z)) gives ∙ zipped.second.0) c.events.yielded_by (event, arrived) c.in-Some.is
     c.next.ensures.steps in
-    rw (length_push c.events.yielded (listed, arrived))
-    (heard_more c.args.events.now c.args.heard.now c.events.invariant listed.now arrived.now t.0 t.1 (t.2 listed.now)
-    (t.3 arrived.now) (rw (c.is_taken.ensures, c.event-event.ensures) at c.in_ok-add_taken.ensures)
-    (rw (c.reply.ensures, c.event-event.ensures) at c.in_ok-add_reply.ensures))
+    rw (length_push c.events.yielded (event, arrived))
+    (heard_more c.args.events.now c.args.heard.now c.events.invariant event.now arrived.now t.0 t.1 (t.2 event.now)
+    (t.3 arrived.now) (rw c.is_taken.ensures at c.in_ok-add_taken.ensures)
+    (rw c.in_ok-reply.ensures at c.in_ok-add_reply.ensures))
 
 pub returns-clause-unwritten : goal.returns-clause-unwritten
 returns-clause-unwritten c =
-    let gives = c.into_iter-listed-iterator.ensures.into_iter_gives in
-    let zipped = c.zip-listed-items.ensures in
+    let gives = c.into_iter-event-iterator.ensures.into_iter_gives in
+    let zipped = c.zip-event-items.ensures in
     let all =
-    zip_end c.args.events.now c.args.heard.now c.events.yielded c.into_iter-listed-iterator.result
-    c.events.listed-iterator c.next.new.self c.next.result
+    zip_end c.args.events.now c.args.heard.now c.events.yielded c.into_iter-event-iterator.result
+    c.events.event-iterator c.next.new.self c.next.result
     (ap (λ z. iter_rest (zip_first z)) gives ∙ ap iter_rest zipped.first ∙ c.iter.ensures.rest)
     (ap (λ z. iter_rest (zip_second z)) gives ∙ zipped.second.0) c.events.yielded_by c.in-None.is
     c.next.ensures.steps in
@@ -40,11 +40,11 @@ returns-clause-unwritten c =
 
 pub returns-clause-said : goal.returns-clause-said
 returns-clause-said c =
-    let gives = c.into_iter-listed-iterator.ensures.into_iter_gives in
-    let zipped = c.zip-listed-items.ensures in
+    let gives = c.into_iter-event-iterator.ensures.into_iter_gives in
+    let zipped = c.zip-event-items.ensures in
     let all =
-    zip_end c.args.events.now c.args.heard.now c.events.yielded c.into_iter-listed-iterator.result
-    c.events.listed-iterator c.next.new.self c.next.result
+    zip_end c.args.events.now c.args.heard.now c.events.yielded c.into_iter-event-iterator.result
+    c.events.event-iterator c.next.new.self c.next.result
     (ap (λ z. iter_rest (zip_first z)) gives ∙ ap iter_rest zipped.first ∙ c.iter.ensures.rest)
     (ap (λ z. iter_rest (zip_second z)) gives ∙ zipped.second.0) c.events.yielded_by c.in-None.is
     c.next.ensures.steps in

@@ -5,7 +5,7 @@ use Rattle.gd_grammar.specs.Drawings.{drawings}
 use Rattle.gd_logs.specs.Written.{AreRecords}
 use Rattle.gd_node.proofs.announcing.records_of.Given as goal
 
-abbrev pub invariant-loop-listed : goal.invariant-loop-listed
-invariant-loop-listed l =
+abbrev pub invariant-loop-event : goal.invariant-loop-event
+invariant-loop-event l =
     (seen : List Event) → AreChains drawings l.log.chains seen
-    → AreRecords drawings seen (take l.listed-index l.events) l.records
+    → AreRecords drawings seen (take l.event-index l.events) l.records

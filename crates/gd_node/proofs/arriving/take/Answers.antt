@@ -23,48 +23,48 @@ returns-in_err-heard-clause-carries g c link =
 
 -- ---- one that was refused
 
-pub returns-in_err-say-in-Refused-clause-carries : goal.returns-in_err-say-in-Refused-clause-carries
-returns-in_err-say-in-Refused-clause-carries g c link =
+pub returns-in_err-say_not_taken-in-Refused-clause-carries : goal.returns-in_err-say_not_taken-in-Refused-clause-carries
+returns-in_err-say_not_taken-in-Refused-clause-carries g c link =
     let f = c.args.frame.now in
     let fault = c.in-Refused.fault in
     let took = c.in_ok-heard.ensures in
-    carries_exit _ c.from_residual-in_err-say-in-Refused.ensures.1
+    carries_exit _ c.from_residual-in_err-say_not_taken-in-Refused.ensures.1
     (carries_left f (reply.NotTaken fault ∷ []) _ _ link
     (λ slow m. refused_left slow f (took.stands slow m.stands.site) (took.steps slow m.stands.site) fault
-    (rw c.in-Refused.is at (took.heard slow m.stands.site))) refl refl c.in_err-say-in-Refused.ensures)
+    (rw c.in-Refused.is at (took.heard slow m.stands.site))) refl refl c.in_err-say_not_taken-in-Refused.ensures)
 
-pub returns-in_ok-say-in-Refused-clause-carries : goal.returns-in_ok-say-in-Refused-clause-carries
-returns-in_ok-say-in-Refused-clause-carries g c link =
+pub returns-in_ok-say_not_taken-in-Refused-clause-carries : goal.returns-in_ok-say_not_taken-in-Refused-clause-carries
+returns-in_ok-say_not_taken-in-Refused-clause-carries g c link =
     let f = c.args.frame.now in
     let fault = c.in-Refused.fault in
     let took = c.in_ok-heard.ensures in
     carries_ok None
     (carries_left f (reply.NotTaken fault ∷ []) _ _ link
     (λ slow m. refused_left slow f (took.stands slow m.stands.site) (took.steps slow m.stands.site) fault
-    (rw c.in-Refused.is at (took.heard slow m.stands.site))) refl refl c.in_ok-say-in-Refused.ensures)
+    (rw c.in-Refused.is at (took.heard slow m.stands.site))) refl refl c.in_ok-say_not_taken-in-Refused.ensures)
 
-pub returns-in_ok-say-in-Refused-clause-sender : goal.returns-in_ok-say-in-Refused-clause-sender
-returns-in_ok-say-in-Refused-clause-sender g c slow stands =
+pub returns-in_ok-say_not_taken-in-Refused-clause-sender : goal.returns-in_ok-say_not_taken-in-Refused-clause-sender
+returns-in_ok-say_not_taken-in-Refused-clause-sender g c slow stands =
     sender_at slow c.args.frame.now (rw c.in-Refused.is at (c.in_ok-heard.ensures.heard slow stands))
 
 -- ---- one that shows a parting
 
-pub returns-in_err-say-in-Parted-clause-carries : goal.returns-in_err-say-in-Parted-clause-carries
-returns-in_err-say-in-Parted-clause-carries g c link =
+pub returns-in_err-say_parted-in-Parted-clause-carries : goal.returns-in_err-say_parted-in-Parted-clause-carries
+returns-in_err-say_parted-in-Parted-clause-carries g c link =
     let f = c.args.frame.now in
     let count = c.in-Parted.count in
     let took = c.in_ok-heard.ensures in
     let from = ap (λ (h : Head). h.from) c.head-from.ensures.head in
-    carries_exit _ c.from_residual-in_err-say-in-Parted.ensures.1
+    carries_exit _ c.from_residual-in_err-say_parted-in-Parted.ensures.1
     (carries_left f (reply.Parted f.head.from count ∷ []) _ _ link
     (λ slow m. parted_left slow f (took.stands slow m.stands.site) (took.steps slow m.stands.site) count
     (rw c.in-Parted.is at (took.heard slow m.stands.site))) refl refl
     (λ input journal link steps.
     does_as (ap (λ (s : ℕ). says (reply.Parted s count) ∷ []) (sym from))
-    (c.in_err-say-in-Parted.ensures input journal link steps)))
+    (c.in_err-say_parted-in-Parted.ensures input journal link steps)))
 
-pub returns-in_ok-say-in-Parted-clause-carries : goal.returns-in_ok-say-in-Parted-clause-carries
-returns-in_ok-say-in-Parted-clause-carries g c link =
+pub returns-in_ok-say_parted-in-Parted-clause-carries : goal.returns-in_ok-say_parted-in-Parted-clause-carries
+returns-in_ok-say_parted-in-Parted-clause-carries g c link =
     let f = c.args.frame.now in
     let count = c.in-Parted.count in
     let took = c.in_ok-heard.ensures in
@@ -75,10 +75,10 @@ returns-in_ok-say-in-Parted-clause-carries g c link =
     (rw c.in-Parted.is at (took.heard slow m.stands.site))) refl refl
     (λ input journal link steps.
     does_as (ap (λ (s : ℕ). says (reply.Parted s count) ∷ []) (sym from))
-    (c.in_ok-say-in-Parted.ensures input journal link steps)))
+    (c.in_ok-say_parted-in-Parted.ensures input journal link steps)))
 
-pub returns-in_ok-say-in-Parted-clause-sender : goal.returns-in_ok-say-in-Parted-clause-sender
-returns-in_ok-say-in-Parted-clause-sender g c slow stands =
+pub returns-in_ok-say_parted-in-Parted-clause-sender : goal.returns-in_ok-say_parted-in-Parted-clause-sender
+returns-in_ok-say_parted-in-Parted-clause-sender g c slow stands =
     sender_at slow c.args.frame.now (rw c.in-Parted.is at (c.in_ok-heard.ensures.heard slow stands))
 
 -- ---- one of a site that had parted before

@@ -4,15 +4,15 @@ use Rattle.gd_lines.specs.declared.reply.Reply.TheVariants as reply
 use Rattle.gd_node.proofs.Hearing.{done_all, done_more}
 use Rattle.gd_node.proofs.editing.said_of.Goals as goal
 
-pub loop-listed-init : goal.loop-listed-init
-loop-listed-init c = c.new-said.ensures
+pub loop-event-init : goal.loop-event-init
+loop-event-init c = c.new-said.ensures
 
-pub loop-listed-preserved : goal.loop-listed-preserved
-loop-listed-preserved c =
-    done_more c.args.events.now c.loop-listed.listed-index _ _ c.loop-listed.said _ (omega arith) c.listed-item.is
-    c.loop-listed.invariant
-    (c.in_ok-add.ensures ∙ ap (λ id. c.loop-listed.said ++ reply_text (reply.Done id)) c.stamp.ensures)
+pub loop-event-preserved : goal.loop-event-preserved
+loop-event-preserved c =
+    done_more c.args.events.now c.loop-event.event-index _ _ c.loop-event.said _ (omega arith) c.event-item.is
+    c.loop-event.invariant
+    (c.in_ok-add_done.ensures ∙ ap (λ id. c.loop-event.said ++ reply_text (reply.Done id)) c.stamp.ensures)
 
 pub returns : goal.returns
-returns c = done_all c.args.events.now c.loop-listed.listed-index c.loop-listed.said _ (omega arith)
-    c.loop-listed.invariant c.in_ok-add-2.ensures
+returns c = done_all c.args.events.now c.loop-event.event-index c.loop-event.said _ (omega arith)
+    c.loop-event.invariant c.in_ok-add_end.ensures

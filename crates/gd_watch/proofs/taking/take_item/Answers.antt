@@ -31,7 +31,7 @@ returns-in-Err-Fault-clause-does g c slow stands input journal link =
     let read = rw c.in-Err-Fault.field-0-is at c.in-Err-Fault.ensures.read in
     does_as (ap (of_item_read slow c.args.bytes.now) read.1
     ∙ ap (λ fault. says (reply.BadFrame fault) ∷ []) (sym read.2))
-    (c.say.ensures input journal link c.args.steps.now)
+    (rw c.in-Err-Fault.fault-is at (c.say.ensures input journal link c.args.steps.now))
 
 pub returns-in-Err-Fault-clause-stands : goal.returns-in-Err-Fault-clause-stands
 returns-in-Err-Fault-clause-stands g c =

@@ -8,7 +8,7 @@ pub returns-in_err-command : goal.returns-in_err-command
 returns-in_err-command c =
     let p = err_from_is_err_and c.from_residual.result c.from_residual.ensures.1 in
     rw (p.1, p.2) (
-    at_unasked c.args.count c.args.words.now c.word-name.result.now c.word-name.new.self c.asked.new.words _
+    at_unasked c.args.count c.args.words.now c.word-name.result.now c.word-name.new.self c.asked_of_site.new.words _
     (c.word-name.ensures.word ∙ ap word c.site-site.ensures.rest) c.in_err-command.ensures
     )
 
@@ -16,7 +16,7 @@ pub returns-in_err-site : goal.returns-in_err-site
 returns-in_err-site c =
     let p = err_from_is_err_and c.from_residual-in_err-site.result c.from_residual-in_err-site.ensures.1 in
     rw (p.1, p.2) (
-    at_no_site c.args.count c.args.words.now c.word-name.result.now c.word-name.new.self c.asked.new.words
+    at_no_site c.args.count c.args.words.now c.word-name.result.now c.word-name.new.self c.asked_of_site.new.words
     c.in_ok-command.command _
     (c.word-name.ensures.word ∙ ap word c.site-site.ensures.rest) c.in_ok-command.ensures c.in_err-site.ensures.read
     )
@@ -25,7 +25,7 @@ pub returns-in_err-command-2 : goal.returns-in_err-command-2
 returns-in_err-command-2 c =
     let p = err_from_is_err_and c.from_residual-in_err-command-2.result c.from_residual-in_err-command-2.ensures.1 in
     rw (p.1, p.2) (
-    at_fault c.args.count c.args.words.now c.word-name.result.now c.word-name.new.self c.asked.new.words
+    at_fault c.args.count c.args.words.now c.word-name.result.now c.word-name.new.self c.asked_of_site.new.words
     c.in_ok-command.command c.in_ok-site.field-0 _
     (c.word-name.ensures.word ∙ ap word c.site-site.ensures.rest)
     (c.word-name.ensures.rest ∙ ap behind c.site-site.ensures.rest)
@@ -36,7 +36,7 @@ returns-in_err-command-2 c =
 
 pub returns : goal.returns
 returns c =
-    at_done c.args.count c.args.words.now c.word-name.result.now c.word-name.new.self c.asked.new.words
+    at_done c.args.count c.args.words.now c.word-name.result.now c.word-name.new.self c.asked_of_site.new.words
     c.in_ok-command.command c.in_ok-site.field-0 c.in_ok-command-2.field-0
     (c.word-name.ensures.word ∙ ap word c.site-site.ensures.rest)
     (c.word-name.ensures.rest ∙ ap behind c.site-site.ensures.rest)

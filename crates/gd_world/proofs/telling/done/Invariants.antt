@@ -2,5 +2,5 @@ use Rattle.std.proofs.Common.{◌≡◌, map, take}
 use Rattle.gd_lines.specs.declared.reply.Reply.TheVariants as reply
 use Rattle.gd_world.proofs.telling.done.Given as goal
 
-abbrev pub invariant-loop-listed : goal.invariant-loop-listed
-invariant-loop-listed l = l.replies ≡ map (λ e. reply.Done e.stamp) (take l.listed-index l.events)
+abbrev pub invariant-loop-event : goal.invariant-loop-event
+invariant-loop-event l = l.replies ≡ map (λ e. reply.Done e.stamp) (take l.event-index l.events)

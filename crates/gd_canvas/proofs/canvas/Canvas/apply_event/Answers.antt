@@ -46,7 +46,7 @@ returns-in-Restore-clause-board c =
     let b = board_of c.args.self.now in
     let found = Restore k.is_made k.id k.object k.tied in
     let label = brought c.args.spare c.args.kept.now found k.is c.requires.spare in
-    let object = c.with.ensures ∙ (λ i. labelled (c.deref.ensures i) (label i)) in
+    let object = c.with.ensures ∙ (λ i. labelled (c.get.ensures i) (label i)) in
     let ties = ap (λ (t : TiedValue). t.ties) c.deref_mut-in-Restore.ensures.value in
     c.restore.ensures.board
     ∙ (λ i. board_with (Puts k.id (object i) (ties i)) b)
@@ -59,7 +59,7 @@ returns-in-Restore-clause-before c =
     let b = board_of c.args.self.now in
     let found = Restore k.is_made k.id k.object k.tied in
     let label = brought c.args.spare c.args.kept.now found k.is c.requires.spare in
-    let object = c.with.ensures ∙ (λ i. labelled (c.deref.ensures i) (label i)) in
+    let object = c.with.ensures ∙ (λ i. labelled (c.get.ensures i) (label i)) in
     let ties = ap (λ (t : TiedValue). t.ties) c.deref_mut-in-Restore.ensures.value in
     c.restore.ensures.before
     ∙ (λ i. before_by (Puts k.id (object i) (ties i)) (map_of.get b))

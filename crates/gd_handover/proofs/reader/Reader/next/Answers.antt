@@ -1,5 +1,6 @@
 use Rattle.std.proofs.lemmas.Result.{err_from_is_err_and}
-use Rattle.gd_handover.proofs.ReaderLemmas.{waiting-start, waiting-more, waiting-few, waiting-taken, waiting-stops}
+use Rattle.gd_handover.proofs.ReaderLemmas.{waiting-start, waiting-more, waiting-few, waiting-taken}
+use Rattle.gd_handover.proofs.ReaderLemmas.{waiting-memory, waiting-stops}
 use Rattle.gd_handover.proofs.reader.Reader.next.Goals as goal
 
 pub piece-init : goal.piece-init
@@ -17,12 +18,17 @@ returns-in-Ok-clause-few g c
 
 pub piece-preserved : goal.piece-preserved
 piece-preserved g c =
-    let on = rw c.in-Err.ensures.stays at c.in_ok-read_on-in-Err.ensures in
-    waiting-more g.P.Piece.read c.args.least c.in-Err.fault c.in-Err.ensures.fault c.piece.invariant on
+    let on = rw c.in-Err-Field.ensures.stays at c.in_ok-read_on-in-Err-Field.ensures in
+    let faulty = rw c.in-Err-Field.field-0-is at c.in-Err-Field.ensures.read in
+    waiting-more g.P.Piece.read c.args.least c.in-Err-Field.fault faulty c.piece.invariant on
 
-pub returns-in_err-read_on-in-Err-clause-part : goal.returns-in_err-read_on-in-Err-clause-part
-returns-in_err-read_on-in-Err-clause-part g c =
+pub returns-in_err-read_on-in-Err-Field-clause-part : goal.returns-in_err-read_on-in-Err-Field-clause-part
+returns-in_err-read_on-in-Err-Field-clause-part g c =
     let p = err_from_is_err_and c.from_residual.result c.from_residual.ensures.1 in
-    let on = rw c.in-Err.ensures.stays at c.in_err-read_on-in-Err.ensures in
-    rw (p.1, p.2) (waiting-stops c.args.least g.P.Piece.least c.in-Err.fault _ g.met.P.Piece.laws c.in-Err.ensures.fault
+    let on = rw c.in-Err-Field.ensures.stays at c.in_err-read_on-in-Err-Field.ensures in
+    let faulty = rw c.in-Err-Field.field-0-is at c.in-Err-Field.ensures.read in
+    rw (p.1, p.2) (waiting-stops c.args.least g.P.Piece.least c.in-Err-Field.fault _ g.met.P.Piece.laws faulty
     c.piece.invariant on)
+
+pub returns-in-Err-Memory-clause-part : goal.returns-in-Err-Memory-clause-part
+returns-in-Err-Memory-clause-part g c = rw c.in-Err-Memory.ensures.stays (waiting-memory c.piece.invariant)

@@ -1,12 +1,13 @@
-use Rattle.std.proofs.Common.{◌∙◌}
-use Rattle.gd_logs.proofs.GestureLemmas.{on_ok_where, records-more}
+use Rattle.std.proofs.Common.{ℕ, List, ◌∷◌, ◌++◌, ◌∙◌, ap, refl}
+use Rattle.gd_grammar.specs.LogBytes.{gate, record_bytes}
+use Rattle.gd_logs.proofs.GestureLemmas.{records-more}
 use Rattle.gd_logs.proofs.pieces.Records.add.Goals as goal
 
 pub returns : goal.returns
-returns g c =
-    on_ok_where c.extend_from_slice.result _ _ _ c.extend_from_slice.ensures.items (λ added seen events are.
+returns g c = λ seen events are.
     let before = rw (← c.self.view_is) at are in
-    records-more g.K.LogKind.kind seen events c.args.event.now _ _ _ before
-    (c.as_slice.ensures.value ∙ c.gated_of-record.ensures.bytes _ before.chained)
-    added
-    (c.gated_of-record.ensures.chains _ before.chained))
+    let kind = g.K.LogKind.kind in
+    let one = gate ∷ record_bytes kind kind.newest (seen ++ events) c.args.event.now in
+    records-more kind seen events c.args.event.now _ _ one before refl
+    (c.put_gated.ensures.bytes _ before.chained ∙ ap (λ (l : List ℕ). l ++ one) c.in_ok-reserve.ensures.items)
+    (c.put_gated.ensures.chains _ before.chained)

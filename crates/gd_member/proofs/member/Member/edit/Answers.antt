@@ -44,7 +44,7 @@ invariant_of-self-in-Err g c live =
 pub returns-in_ok-event-in-Ok-clause-answer : goal.returns-in_ok-event-in-Ok-clause-answer
 returns-in_ok-event-in-Ok-clause-answer g c slow written st =
     let s = rw (← c.self.view_is) at st in
-    (c.in_ok-event-in-Ok.event, c.in_ok-event-in-Ok.ensures.answer slow s.stands, c.stamp.ensures)
+    (c.in_ok-event-in-Ok.event, c.in_ok-event-in-Ok.ensures.answer slow s.stands, c.stamp-stamp.ensures)
 
 pub returns-in_ok-event-in-Ok-clause-stands : goal.returns-in_ok-event-in-Ok-clause-stands
 returns-in_ok-event-in-Ok-clause-stands g c slow written st =

@@ -35,3 +35,13 @@ pub returns-in-Ok-clause-said : goal.returns-in-Ok-clause-said
 returns-in-Ok-clause-said g c slow written st =
     let s = rw (← c.self.view_is) at st in
     c.in-Ok.ensures.said slow s.stands.site
+
+pub returns-in-Ok-clause-steps : goal.returns-in-Ok-clause-steps
+returns-in-Ok-clause-steps g c slow written st =
+    let s = rw (← c.self.view_is) at st in
+    c.in-Ok.ensures.steps slow s.stands.site
+
+pub returns-in-Err-clause-err_steps : goal.returns-in-Err-clause-err_steps
+returns-in-Err-clause-err_steps g c slow written st =
+    let s = rw (← c.self.view_is) at st in
+    c.in-Err.ensures.err_steps slow s.stands.site

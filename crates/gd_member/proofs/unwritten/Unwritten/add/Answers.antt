@@ -1,4 +1,7 @@
-use Rattle.std.proofs.Common.{ℕ, [], ◌∷◌, ◌++◌, ◌-◌, ap, take, ◌∙◌}
+use Rattle.std.proofs.Common.{ℕ, [], ◌∷◌, ◌++◌, ◌-◌, ap, refl, take, ◌∙◌}
+use Rattle.gd_base.specs.declared.version.Version.TheVariants.{Three}
+use Rattle.gd_grammar.specs.Drawings.{drawings}
+use Rattle.gd_grammar.specs.LogBytes.{gate, record_bytes}
 use Rattle.gd_member.proofs.Pieces.{one_added, opened}
 use Rattle.gd_member.specs.Unwritten.{UnwrittenValue}
 use Rattle.gd_member.proofs.unwritten.Unwritten.add.Goals as goal
@@ -9,10 +12,11 @@ returns c written others are =
     let popped =
     c.pop.ensures.rest ∙ ap (λ (n : ℕ). take (n - 1) old.items) old.ok.0
     ∙ ap (λ (u : UnwrittenValue). opened u.bytes) c.self.view_is in
-    let extended = rw c.unwrap.ensures at c.extend_from_slice.ensures.items in
-    one_added written others c.args.self.now are c.args.event.now _ c.gated_of-record.result.items
+    let chained = (rw (← c.self.view_is) at are).chained in
+    let one = gate ∷ record_bytes drawings Three (written ++ others) c.args.event.now in
+    one_added written others c.args.self.now are c.args.event.now _ one
     (ap (λ (u : UnwrittenValue). u.place) c.self.view_is)
     (c.push_reserved.ensures.items
-    ∙ (λ i. (extended ∙ (λ j. popped j ++ c.as_slice.ensures.value j)) i ++ 0 ∷ []))
-    (c.gated_of-record.ensures.bytes (written ++ others) (rw (← c.self.view_is) at are).chained)
-    (c.gated_of-record.ensures.chains (written ++ others) (rw (← c.self.view_is) at are).chained)
+    ∙ (λ i. (c.put_gated.ensures.bytes (written ++ others) chained ∙ (λ j. popped j ++ one)) i ++ 0 ∷ []))
+    refl
+    (c.put_gated.ensures.chains (written ++ others) chained)

@@ -3,7 +3,7 @@ use Rattle.gd_events.specs.Events.{Event}
 use Rattle.gd_member.specs.Unwritten.{AreUnwritten}
 use Rattle.gd_member.proofs.unwritten.Unwritten.add_all.Given as goal
 
-abbrev pub invariant-loop-listed : goal.invariant-loop-listed
-invariant-loop-listed l =
+abbrev pub invariant-loop-event : goal.invariant-loop-event
+invariant-loop-event l =
     (written others : List Event) → AreUnwritten written others l.fn.self
-    → AreUnwritten written (others ++ take l.listed-index l.events) l.self
+    → AreUnwritten written (others ++ take l.event-index l.events) l.self

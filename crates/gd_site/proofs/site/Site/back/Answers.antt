@@ -5,7 +5,6 @@ use Rattle.gd_site.proofs.site.Site.back.Goals as goal
 
 pub returns : goal.returns
 returns c =
-    let same = rw (c.stamp.ensures, c.op.ensures.op, c.document.ensures) at c.back-back.ensures in
+    let same = rw (c.stamp.ensures, c.op.ensures.op, c.document.ensures) at c.back.ensures in
     rw (← c.self.view_is)
-    (λ slow stands.
-    IfOk-weaker c.pack.result _ _ (λ packed is. is ∙ same ∙ back_is slow _ stands c.args.event.now) c.pack.ensures)
+    (λ slow stands. IfOk-weaker c.back.result _ _ (λ op is. is ∙ back_is slow _ stands c.args.event.now) same)

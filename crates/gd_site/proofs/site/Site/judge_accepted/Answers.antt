@@ -1,6 +1,7 @@
-use Rattle.std.proofs.Common.{◌∙◌, ap}
+use Rattle.std.proofs.Common.{◌∙◌, ap, refl}
 use Rattle.gd_stable.specs.Partings.{parted_at}
 use Rattle.gd_site.proofs.Parting.{judged_by, stored_other, stored_site}
+use Rattle.gd_site.specs.Foreseen.{foreseen}
 use Rattle.gd_site.specs.Sites.{SiteValue}
 use Rattle.gd_site.proofs.site.Site.judge_accepted.Goals as goal
 
@@ -21,5 +22,5 @@ returns c =
     c.at-before.ensures.count
     ∙ ap (λ (s : SiteValue). parted_at s.parted c.head-head.result.from) c.self.view_is in
     judged_by c.args.self.now c.args.frame.now c.head-head.result c.head-head.ensures.head c.held_of.result
-    c.held_of.ensures c.events.result.now c.events.ensures.events c.after_all.result c.after_all.ensures
-    c.differs-parts.result c.differs-parts.ensures c.at-before.result before _ c.accepted_verdict.ensures
+    c.held_of.ensures c.events.result.now c.events.ensures.events (foreseen c.held_of.result c.events.result.now) refl
+    c.parts-parts.result c.parts-parts.ensures c.at-before.result before _ c.accepted_verdict.ensures

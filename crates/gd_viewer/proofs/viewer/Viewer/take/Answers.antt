@@ -13,14 +13,14 @@ arrive-requires-clause-above g c =
     let i = c.self.invariant in
     let inside = rw (← c.self.view_is) at c.requires.inside in
     let next = rw (← c.self.view_is) at c.requires.next in
-    rw c.stamp-stamp.ensures (above_line _ c.args.event c.op.ensures.sound inside next i.slow i.stands)
+    rw c.stamp-stamp.ensures (above_line _ c.args.event.now c.op.ensures.sound inside next i.slow i.stands)
 
 pub arrive-requires-clause-fresh : goal.arrive-requires-clause-fresh
 arrive-requires-clause-fresh g c =
     let i = c.self.invariant in
     let inside = rw (← c.self.view_is) at c.requires.inside in
     let next = rw (← c.self.view_is) at c.requires.next in
-    rw c.stamp-stamp.ensures (is_fresh _ c.args.event c.op.ensures.sound inside next i.slow i.stands)
+    rw c.stamp-stamp.ensures (is_fresh _ c.args.event.now c.op.ensures.sound inside next i.slow i.stands)
 
 pub invariant_of-self : goal.invariant_of-self
 invariant_of-self g c =
@@ -36,12 +36,12 @@ took-requires-clause-site g c =
 pub took-requires-clause-rises : goal.took-requires-clause-rises
 took-requires-clause-rises g c =
     let next = rw (← c.self.view_is) at c.requires.next in
-    rw (c.site.ensures.value, c.clock.ensures.value, c.stamp-stamp.ensures) (is_later _ _ c.args.event next)
+    rw (c.site.ensures.value, c.clock.ensures.value, c.stamp-stamp.ensures) (is_later _ _ c.args.event.now next)
 
 pub took-requires-clause-room : goal.took-requires-clause-room
 took-requires-clause-room g c =
     let next = rw (← c.self.view_is) at c.requires.next in
-    rw (c.site.ensures.value, c.stamp-stamp.ensures) (has_room _ _ c.args.event c.op.ensures.sound next)
+    rw (c.site.ensures.value, c.stamp-stamp.ensures) (has_room _ _ c.args.event.now c.op.ensures.sound next)
 
 pub line_of-line-requires : goal.line_of-line-requires
 line_of-line-requires g c = some_taken _ _ _ c.took.new.self c.took.ensures c.self.invariant
@@ -54,7 +54,7 @@ trim-requires g c =
     let e = rw (c.stamp-stamp.ensures, c.in_ok-kept.ensures, c.op.ensures.op) at c.in_ok-arrival.ensures in
     let clock = c.clock.ensures.value ∙ ap (λ (x : Stamp). x.clock) c.stamp-stamp.ensures in
     let site = c.site.ensures.value ∙ ap (λ (x : Stamp). x.site) c.stamp-stamp.ensures in
-    taken_line _ c.args.event c.arrive.new.self c.took.new.self c.line_of-line.result
+    taken_line _ c.args.event.now c.arrive.new.self c.took.new.self c.line_of-line.result
     (record {
       sound = c.op.ensures.sound;
       inside = inside;
@@ -74,7 +74,7 @@ invariant_of-self-2 g c =
     let clock = c.clock.ensures.value ∙ ap (λ (x : Stamp). x.clock) c.stamp-stamp.ensures in
     let site = c.site.ensures.value ∙ ap (λ (x : Stamp). x.site) c.stamp-stamp.ensures in
     let m = c.trim.ensures in
-    taken_is_viewer _ c.args.event c.arrive.new.self c.took.new.self c.line_of-line.result
+    taken_is_viewer _ c.args.event.now c.arrive.new.self c.took.new.self c.line_of-line.result
     (record {
       sound = c.op.ensures.sound;
       inside = inside;
@@ -95,7 +95,7 @@ returns-clause-stands g c =
     let site = c.site.ensures.value ∙ ap (λ (x : Stamp). x.site) c.stamp-stamp.ensures in
     let m = c.trim.ensures in
     rw (← c.self.view_is)
-    (taken_stands _ c.args.event c.arrive.new.self c.took.new.self c.line_of-line.result
+    (taken_stands _ c.args.event.now c.arrive.new.self c.took.new.self c.line_of-line.result
     (record {
       sound = c.op.ensures.sound;
       inside = inside;
@@ -113,8 +113,8 @@ returns-clause-answer g c =
     let e = rw (c.stamp-stamp.ensures, c.in_ok-kept.ensures, c.op.ensures.op) at c.in_ok-arrival.ensures in
     rw (← c.self.view_is)
     (λ slow stands. e.outcome
-    ∙ ap arrival_of (outcome_is slow _ stands c.args.event
-    (taken_above _ c.args.event c.op.ensures.sound inside next slow stands)))
+    ∙ ap arrival_of (outcome_is slow _ stands c.args.event.now
+    (taken_above _ c.args.event.now c.op.ensures.sound inside next slow stands)))
 
 pub returns-clause-steps : goal.returns-clause-steps
 returns-clause-steps g c =
@@ -124,4 +124,5 @@ returns-clause-steps g c =
     rw (← c.self.view_is)
     (λ slow stands. e.steps
     ∙ ap (λ o. c.args.steps.now + cost o)
-    (outcome_is slow _ stands c.args.event (taken_above _ c.args.event c.op.ensures.sound inside next slow stands)))
+    (outcome_is slow _ stands c.args.event.now
+    (taken_above _ c.args.event.now c.op.ensures.sound inside next slow stands)))

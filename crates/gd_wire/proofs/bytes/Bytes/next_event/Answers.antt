@@ -6,4 +6,4 @@ pub returns-in_err-event : goal.returns-in_err-event
 returns-in_err-event c =
     let p = err_from_is_err_and c.from_residual.result c.from_residual.ensures.1 in
     let error = c.in_err-event.field-0.0 in
-    rw (p.1, p.2) (next-stops c.args.head.now c.args.last _ c.listed.new.self error c.in_err-event.ensures)
+    rw (p.1, p.2) (next-stops c.args.head.now c.args.last _ c.event.new.self error c.in_err-event.ensures)
