@@ -67,6 +67,20 @@ module _ (sets : List Pairs) (i : ℕ) (new : Pairs) (within : i < length sets) 
   spread_still spread j k s all h false is =
       spread j k s (subst (λ l. Has l k s) (get_or-set_other sets i j new [] (eqb-false j i is)) h)
 
+  pub kept-one : (x : Pairs) → x ≡ get_or sets i x → (k : ℕ) (s : Stamp) → (Has x k s → Has new k s)
+      → Has (joined sets) k s → Has (joined (set sets i new)) k s
+  kept-one x read k s kept h =
+      let found = from_joined sets k s h in
+      there_still k s (λ there. kept (subst (λ l. Has l k s) (sym (get_or_read sets i x within read [])) there)) found.0
+      found.1 (found.0 == i) refl
+
+  pub spread-one : IsSpread sets → (x : Pairs) → x ≡ get_or sets i x → ((k : ℕ) (s : Stamp) → Has new k s → Has x k s)
+      → IsSpread (set sets i new)
+  spread-one spread x read fewer j k s h =
+      spread_still spread j k s
+      (λ there. spread i k s (subst (λ l. Has l k s) (get_or_read sets i x within read []) (fewer k s there)))
+      h (j == i) refl
+
 -- ---- x is the set of the key
 
 module _ (sets : List Pairs) (spread : IsSpread sets) (key i : ℕ) (place : i ≡ set_of key) (within : i < length sets)
@@ -80,19 +94,6 @@ module _ (sets : List Pairs) (spread : IsSpread sets) (key i : ℕ) (place : i �
       (subst (λ n. Has (set_at sets n) k s) (same ∙ sym place) (in_its_set sets spread k s h))
 
   module _ (new : Pairs) where
-    pub kept-changed : (k : ℕ) (s : Stamp) → (Has x k s → Has new k s) → Has (joined sets) k s
-        → Has (joined (set sets i new)) k s
-    kept-changed k s kept h =
-        let found = from_joined sets k s h in
-        there_still sets i new within k s
-        (λ there. kept (subst (λ l. Has l k s) (sym (get_or_read sets i x within read [])) there)) found.0 found.1
-        (found.0 == i) refl
-
-    pub spread-fewer : ((k : ℕ) (s : Stamp) → Has new k s → Has x k s) → IsSpread (set sets i new)
-    spread-fewer fewer j k s h =
-        spread_still sets i new within spread j k s (λ there. spread i k s (there_in k s (fewer k s there))) h (j == i)
-        refl
-
     of_one : (k : ℕ) (s : Stamp) → (k ≢ key → Has new k s → Has x k s) → Has new k s → (b : Bool) → (k == key) ≡ b
         → set_of k ≡ i
     of_one k s others h true is = ap set_of (eqb-true k key is) ∙ sym place

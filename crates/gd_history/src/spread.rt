@@ -61,14 +61,15 @@ impl Spread {
         self.sets[set_of(key)].put(key, stamp)
     }
 
-    /// Takes the stamp away from the key. What else stands there stays.
-    pub(crate) fn take(&mut self, key: u64, stamp: Stamp)
-        ensures { (k : ℕ) (s : StampValue) → s ≢ stamp → Has self.old k s → Has self.new k s }
+    /// Takes the pairs away whose clocks are at most the line. The others stay. Returns how many are left.
+    pub(crate) fn shed(&mut self, line: u64) -> usize
+        ensures { (k : ℕ) (s : StampValue) → line < s.clock → Has self.old k s → Has self.new k s }
     {
-        if self.sets.is_empty() {
-            return;
+        let mut left: usize = 0;
+        for at in 0..self.sets.len() {
+            left = left.saturating_add(shed_set(&mut self.sets, at, line));
         }
-        self.sets[set_of(key)].take(key, stamp);
+        left
     }
 
     /// The first stamp behind the floor that stands under the key, and a bound: none behind the floor stands under a
@@ -101,6 +102,18 @@ fn block_end(key: u64) -> u64
     ensures { result ≡ block_end key }
 {
     key / BLOCK * BLOCK + (BLOCK - 1)
+}
+
+/// Takes the pairs of a set away whose clocks are at most the line. Returns how many are left of it.
+fn shed_set(sets: &mut Vec<Sorted>, at: usize, line: u64) -> usize
+    requires { at < length sets.old.items }
+    ensures kept { (k : ℕ) (s : StampValue) → line < s.clock
+        → Has (joined sets.old.items) k s → Has (joined sets.new.items) k s }
+    ensures len { length sets.new.items ≡ length sets.old.items }
+    ensures spread { IsSpread sets.old.items → IsSpread sets.new.items }
+{
+    sets[at].shed(line);
+    sets[at].len()
 }
 
 /// Makes the sets where there are none yet. `AllocError` where memory ran out, and there are none.

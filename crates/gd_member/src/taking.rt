@@ -3,7 +3,7 @@
 ghost use Rattle.std.specs.List.{flat_map};
 ghost use Rattle.std.specs.Prelude.{◌≡◌, ◌+◌, ◌∷◌, ◌++◌, [], true, List, None, IfOk, OnErr, OnOk};
 ghost use Rattle.std.specs.Prelude.{if◌then◌else◌};
-ghost use Rattle.gd_answers.specs.Arriving.{replies_of, reply_list, taken_of};
+ghost use Rattle.gd_answers.specs.Arriving.{replies_of, taken_of};
 ghost use Rattle.gd_answers.specs.Paying.{PaysFront, frame_works};
 ghost use Rattle.gd_effects.specs.Effects.{cost};
 ghost use Rattle.gd_events.specs.Events.{Event as EventValue};
@@ -166,7 +166,7 @@ fn take_into<L: Ledger>(
     let from = frame.head().from;
     match take_frame(alloc, site, frame, steps)? {
         Came::Taken { heard } => {
-            hear_all(alloc, unwritten, said, frame.events(), heard.as_slice())?;
+            hear_all(unwritten, said, frame.events(), heard.as_slice())?;
             Ok(Some(from))
         }
         Came::Refused { fault } => {
@@ -197,7 +197,6 @@ fn say_parted(site: u8, count: u16, said: &mut Said) -> Result<(), AllocError>
 
 /// Puts the events that were taken last, and says what came of all of them. `AllocError` where memory ran out.
 fn hear_all(
-    alloc: Global,
     unwritten: &mut Unwritten,
     said: &mut Said,
     events: &[Event],
@@ -211,7 +210,7 @@ fn hear_all(
 {
     'events: for (event, arrived) in events.iter().zip(heard) {
         add_taken(arrived.is_taken(), event, unwritten)?;
-        add_reply(arrived.reply(alloc, event)?, said)?;
+        said.add_arrived(*arrived, event)?;
     }
     Ok(())
 }
@@ -228,14 +227,4 @@ fn add_taken(taken: bool, event: &Event, unwritten: &mut Unwritten) -> Result<()
     unwritten.reserve()?;
     unwritten.add(event);
     Ok(())
-}
-
-/// Puts a reply last, if there is one. `AllocError` where memory ran out.
-fn add_reply(reply: Option<Reply>, said: &mut Said) -> Result<(), AllocError>
-    ensures { OnOk result (said.new ≡ said.old ++ flat_map reply_text (reply_list reply)) }
-{
-    match reply {
-        Some(reply) => said.add(&reply),
-        None => Ok(()),
-    }
 }

@@ -28,7 +28,8 @@ pub(crate) fn edit(
     count: usize,
     command: &mut Command,
 ) -> Asked<()>
-    ensures { Asks (λ u. (command.new, words.new)) result (by_name edit_rows name.now count) words.old }
+    ensures { Asks (λ u. (command.new, words.new)) result
+        (by_name edit_rows name.now count) words.old }
 {
     by_name! { name;
         b"create", count >= 5 => create(words, command),
@@ -42,7 +43,8 @@ pub(crate) fn edit(
 /// Of looks, and then the others.
 #[tactic(auto, unfolding(gd_lines::specs::Rows::by_name, gd_lines::specs::Edits::look_rows))]
 fn look_edit(words: &mut Words<'_>, name: &[u8], count: usize, command: &mut Command) -> Asked<()>
-    ensures { Asks (λ u. (command.new, words.new)) result (by_name look_rows name.now count) words.old }
+    ensures { Asks (λ u. (command.new, words.new)) result
+        (by_name look_rows name.now count) words.old }
 {
     by_name! { name;
         b"stroke", count == 2 => set_look(words, LookName::Stroke, command),
@@ -62,7 +64,8 @@ fn look_edit(words: &mut Words<'_>, name: &[u8], count: usize, command: &mut Com
 /// Of texts, connectors, groups and the stack.
 #[tactic(auto, unfolding(gd_lines::specs::Rows::by_name, gd_lines::specs::Edits::other_rows))]
 fn other_edit(words: &mut Words<'_>, name: &[u8], count: usize, command: &mut Command) -> Asked<()>
-    ensures { Asks (λ u. (command.new, words.new)) result (by_name other_rows name.now count) words.old }
+    ensures { Asks (λ u. (command.new, words.new)) result
+        (by_name other_rows name.now count) words.old }
 {
     by_name! { name;
         b"text", count >= 1 => set_text(words, command),
@@ -168,7 +171,8 @@ fn set_look(words: &mut Words<'_>, name: LookName, command: &mut Command) -> Res
 
 /// So many parts of a look.
 fn set_style(words: &mut Words<'_>, count: usize, command: &mut Command) -> Result<(), LineFault>
-    ensures { Gives (λ u. (command.new, words.new)) result (set_words (style_words count) words.old) }
+    ensures { Gives (λ u. (command.new, words.new)) result
+        (set_words (style_words count) words.old) }
 {
     let id = words.id()?;
     let looks = looks(words, count)?;

@@ -24,7 +24,7 @@ events-preserved c =
     rw (length_push c.events.yielded (event, arrived))
     (heard_more c.args.events.now c.args.heard.now c.events.invariant event.now arrived.now t.0 t.1 (t.2 event.now)
     (t.3 arrived.now) (rw c.is_taken.ensures at c.in_ok-add_taken.ensures)
-    (rw c.in_ok-reply.ensures at c.in_ok-add_reply.ensures))
+    c.in_ok-add_arrived.ensures)
 
 pub returns-clause-unwritten : goal.returns-clause-unwritten
 returns-clause-unwritten c =

@@ -24,7 +24,7 @@ events-preserved c =
     (heard_more c.args.events.now c.args.heard.now c.events.invariant event.now arrived.now t.0 t.1 (t.2 event.now)
     (t.3 arrived.now)
     (rw c.is_taken.ensures at c.in_ok-add_record.ensures)
-    (rw c.in_ok-reply.ensures at c.in_ok-add_reply.ensures))
+    c.in_ok-add_arrived.ensures)
 
 pub returns-clause-records : goal.returns-clause-records
 returns-clause-records c =

@@ -2,7 +2,7 @@ use Rattle.std.proofs.Common.{◌≡◌, ◌<◌, ◌∙◌, length, sym, subst,
 use Rattle.std.proofs.lemmas.List.{length-set}
 use Rattle.std.proofs.lemmas.Result.{on_ok_weaker}
 use Rattle.gd_history.specs.Indexes.{Has}
-use Rattle.gd_history.proofs.Spreads.{there_new, kept-changed, spread-more}
+use Rattle.gd_history.proofs.Spreads.{there_new, kept-one, spread-more}
 use Rattle.gd_history.proofs.spread.Spread.put.Goals as goal
 
 pub invariant_of-self-2 : goal.invariant_of-self-2
@@ -27,7 +27,6 @@ returns c =
     record {
       put = on_ok_weaker c.put.result (there_new sets at new within c.args.key c.args.stamp) c.put.ensures.put;
       kept = λ k s h.
-          kept-changed sets (c.open.ensures.spread c.self.invariant.0) c.args.key at c.set_of.ensures.value within
-          c.index_mut.result.now c.index_mut.ensures.value new k s (c.put.ensures.kept k s)
+          kept-one sets at new within c.index_mut.result.now c.index_mut.ensures.value k s (c.put.ensures.kept k s)
           (subst (λ l. Has l k s) (sym (c.open.ensures.same ∙ c.self.view_is)) h);
     }
