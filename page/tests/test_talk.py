@@ -153,7 +153,8 @@ class Sockets(WithServer):
     async def test_a_server_that_stops_closes_the_sockets(self):
         page = await self.open()
         await page.kind("history")
-        # A slow machine has the time that it needs. The code is what is read: the socket's own `close_code` goes by its reply, too.
+        # A slow machine has the time that it needs. The code is what is read, since the socket's own `close_code` goes by its
+        # reply too.
         with mock.patch("page.server.FAREWELL", 120):
             stopping = asyncio.create_task(self.server.stop())
             with self.assertRaisesRegex(AssertionError, "CLOSE: 8>, data=4001"):
