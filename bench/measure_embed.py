@@ -4,9 +4,9 @@
     bench/measure_embed.py [--library FOLDER] [--edits 20000] [--events 100000] [--rounds 5]
 
 Edits are typed lines, each with its record for the journal and its frame; of Yjs each is an update. Remote events are these frames and
-updates, one after another. Catching up is that of one that was away, with all events of two others: in frames, of Yjs in updates or in
-one state of each. All times are a processor's, and each number is the median of the rounds, which are of both in turn. It needs a C
-compiler, Node, and Debian's node-yjs.
+updates, one after another. Catching up is that of one that was away, with all events of two others: in frames of both in turn, of Yjs in
+updates of both in turn or in one state of each. All times are a processor's, and each number is the median of the rounds, in which both
+are timed one after the other. It needs a C compiler, Node, and Debian's node-yjs.
 """
 
 import argparse

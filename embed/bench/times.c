@@ -182,6 +182,22 @@ static long frames_of(int site, long edits, frames *made)
     return count;
 }
 
+/* Takes the frames of two sites in turn, and keeps what the journal lacks after each. Returns the bytes of all frames. */
+static long take_in_turn(gd_member *away, const frames made[2], const long counts[2], uint8_t *journal, uint64_t *length)
+{
+    const uint8_t *next[] = {made[0].bytes, made[1].bytes};
+    for (long at = 0; at < counts[0] || at < counts[1]; at++) {
+        for (int site = 0; site < 2; site++) {
+            if (at >= counts[site])
+                continue;
+            done(gd_take(away, next[site], (size_t)made[site].lengths[at]));
+            keep(away, journal, length);
+            next[site] += made[site].lengths[at];
+        }
+    }
+    return (next[0] - made[0].bytes) + (next[1] - made[1].bytes);
+}
+
 /* A member that was away takes all events of two others, in frames, and one that goes on from the journal of all. */
 static void measure_catching_up(long events)
 {
@@ -190,22 +206,13 @@ static void measure_catching_up(long events)
     frames made[] = {no_frames(events / 2), no_frames(events / 2)};
     long counts[] = {frames_of(1, events / 2, &made[0]), frames_of(2, events / 2, &made[1])};
     uint8_t *journal = malloc((size_t)events * 64 + (1 << 20));
-    long framed = 0;
     /* What the senders had is given back, so that it isn't used again unseen. */
     malloc_trim(0);
     long before = memory_kb("VmRSS:");
     done(gd_new(&away, 3, 3, 7));
     uint64_t length = (uint64_t)done(gd_journal_head(&away, journal, 64, &needed));
     double start = seconds();
-    for (int site = 0; site < 2; site++) {
-        const uint8_t *frame = made[site].bytes;
-        for (long at = 0; at < counts[site]; at++) {
-            done(gd_take(&away, frame, (size_t)made[site].lengths[at]));
-            keep(&away, journal, &length);
-            frame += made[site].lengths[at];
-        }
-        framed += frame - made[site].bytes;
-    }
+    long framed = take_in_turn(&away, made, counts, journal, &length);
     double taking = seconds() - start;
     long behind_kb = memory_kb("VmRSS:");
     start = seconds();

@@ -19,7 +19,7 @@ module _ {O B : Type 0} (s : Stamp) (xs run : List (EntryValue O B)) (near : ℕ
   run_within j inside =
       omega (arith, inside, ap length is, length-drop near xs, length-append run (drop (near + length run) xs))
 
-  run_read : (j : ℕ) → j < length run → (x : EntryValue O B) → get_or xs (near + j) x ≡ get_or run j x
+  pub run_read : (j : ℕ) → j < length run → (x : EntryValue O B) → get_or xs (near + j) x ≡ get_or run j x
   run_read j inside x =
       sym (get_or-drop near xs j x)
       ∙ ap (λ l. get_or l j x) is
