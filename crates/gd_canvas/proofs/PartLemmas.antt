@@ -1,10 +1,10 @@
 -- The parts of looks, and of what swaps set.
-use Rattle.std.proofs.Common.{◌≡◌, ℕ, ◌+◌, ◌<◌, ◌≤◌, ◌==◌, Bool, true, false, List, [], ◌∷◌, ◌++◌, length, Option, None}
+use Rattle.std.proofs.Common.{◌≡◌, ℕ, ◌<◌, ◌==◌, true, false, List, [], ◌∷◌, length, Option, None}
 use Rattle.std.proofs.Common.{Some, refl, subst, sym, arith, lit<}
 use Rattle.std.specs.Prelude.{All}
 use Rattle.std.proofs.lemmas.Bool.{eqb-true}
 use Rattle.std.proofs.lemmas.List.Elements.{All-nil, All-cons, All-append}
-use Rattle.gd_base.specs.declared.content.Content.TheVariants.{ToPlace, ToLooks}
+use Rattle.gd_base.specs.declared.content.Content.TheVariants as content
 use Rattle.gd_base.specs.declared.look.Looks.{Looks}
 use Rattle.gd_model.specs.declared.content.TheConstants.{PARTS}
 use Rattle.gd_model.specs.declared.form.Form.{Form}
@@ -34,8 +34,7 @@ some_parts [] = lit< tt
 some_parts (p ∷ ps) = omega arith
 
 content_parts : (c : Content) → 0 < length (parts_of c)
-content_parts (ToLooks looks) = some_parts (look_parts looks)
-content_parts (ToPlace x y) = lit< tt
+content_parts (content.ToLooks looks) = some_parts (look_parts looks)
 content_parts c = lit< tt
 
 pub form_parts : (f : Form) → 0 < length (own_parts f)

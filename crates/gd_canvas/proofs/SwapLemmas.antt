@@ -1,11 +1,14 @@
 -- What swaps keep of what is found, and what two of them pass on.
-use Rattle.std.proofs.Common.{◌≡◌, ℕ, Bool, true, false, cond, Option, None, Some, refl, sym, ap, subst, ◌∙◌}
+use Rattle.std.proofs.Common.{◌≡◌, ℕ, List, Bool, true, false, cond, Option, None, Some, refl, sym, ap, subst, ◌∙◌}
 use Rattle.std.specs.Prelude.{◌||◌, is_some, unwrap_or}
 use Rattle.gd_base.specs.Contents.{content_map}
 use Rattle.gd_base.specs.Looks.{has_mark, instead, kept, laid, only_fill, only_stroke, only_width, put_over, taken}
 use Rattle.gd_base.specs.Looks.{within}
 use Rattle.gd_base.specs.Stamps.{Stamp}
-use Rattle.gd_base.specs.declared.content.Content.TheVariants.{ToPlace, ToSize, ToLooks, ToText, ToFlag, ToEnds, ToRank}
+use Rattle.gd_base.specs.declared.content.Content as over
+use Rattle.gd_base.specs.declared.content.Content.TheVariants as content
+use Rattle.gd_base.specs.declared.content.Height.{Height}
+use Rattle.gd_base.specs.declared.op.Nothing.{Nothing}
 use Rattle.gd_base.specs.declared.look.Look.{Look}
 use Rattle.gd_base.specs.declared.look.Looks.{Looks}
 use Rattle.gd_base.specs.Whole.{Object}
@@ -18,9 +21,11 @@ use Rattle.gd_drawing.proofs.ContentLaws.{AreSetBy, IsOver}
 use Rattle.gd_drawing.proofs.Fields.{is_over}
 use Rattle.gd_canvas.specs.declared.looks_swap.LooksSwap.{LooksSwap}
 use Rattle.gd_canvas.specs.declared.looks_swap.LooksSwap.TheVariants as looks
+use Rattle.gd_canvas.specs.declared.pair.Pair.{Pair}
 use Rattle.gd_canvas.specs.declared.swap.Swap.{Swap}
 use Rattle.gd_canvas.specs.declared.swap.Swap.TheVariants as swap
 use Rattle.gd_canvas.specs.Swaps.{found_in, new_looks, of_swap, old_looks, old_of, put_looks, sets, stored, stored_one}
+use Rattle.gd_canvas.specs.Swaps.{pair_new, pair_old, pair_stored}
 
 -- ---- a lone part
 
@@ -147,17 +152,31 @@ put_same (looks.Many pair) l h k =
       align = over_same l.align new.align h.align k.align i;
     }
 
+-- a pair
+abbrev New : Type 0
+New = over.Content (List ℕ) Nothing Height
+
+abbrev with_found : New → Content → Pair
+with_found new found = record { new = new; old = found }
+
+-- what it sets at that stamp
+abbrev pair_sets : Stamp → New → Content
+pair_sets stamp new =
+    content_map (λ label. label) (λ looks. looks) (rank_at stamp) (pair_new (with_found new (content.ToFlag false)))
+
 -- so is any content of the parts that are set
+pair_same : (stamp : Stamp) (new : New) (found v : Content) → IsOver (pair_sets stamp new) v
+    → pair_stored (with_found new found) v ≡ Some v
+pair_same stamp (content.ToLooks none) found v h = elim none [ ]
+pair_same stamp new found (content.ToLooks l) h = cc
+pair_same stamp new found v h = cc
+
 pub stored_same : (stamp : Stamp) (w : Swap) (v : Content) → IsOver (sets stamp w) v → IsOver v (sets stamp w)
     → stored_one w v ≡ Some v
-stored_same stamp (swap.ToLooks w) (ToLooks l) h k = ap (λ m. Some (ToLooks m)) (put_same w l h k)
-stored_same stamp (swap.ToPlace new old) (ToPlace x y) h k = refl
-stored_same stamp (swap.ToSize new old) (ToSize x y) h k = refl
-stored_same stamp (swap.ToText texts) (ToText label) h k = refl
-stored_same stamp (swap.ToFlag new old) (ToFlag flag) h k = refl
-stored_same stamp (swap.ToEnds pair) (ToEnds ends) h k = refl
-stored_same stamp (swap.ToRank new old) (ToRank rank) h k = refl
-stored_same stamp w v h k = elim h [ ]
+stored_same stamp (swap.ToLooks w) (content.ToLooks l) h k = ap (λ m. Some (content.ToLooks m)) (put_same w l h k)
+stored_same stamp (swap.Other pair) v h k = pair_same stamp pair.value.new pair.value.old v h
+stored_same stamp w (content.ToLooks l) h k = cc
+stored_same stamp w v h k = cc
 
 -- ---- what is found in an object is of the parts that are set
 
@@ -196,14 +215,12 @@ taken_from l k = record {
 }
 
 found_from : (c : Content) (o : Object) → IsOver c (old c o)
-found_from (ToLooks l) o = taken_from l o.look
-found_from (ToPlace x y) o = tt
-found_from c o = tt
+found_from (content.ToLooks l) o = taken_from l o.look
+found_from c o = cc
 
 found_there : (c : Content) (o : Object) → IsOver (old c o) c
-found_there (ToLooks l) o = taken_there l o.look
-found_there (ToPlace x y) o = tt
-found_there c o = tt
+found_there (content.ToLooks l) o = taken_there l o.look
+found_there c o = cc
 
 -- so what an operation finds is kept as it is
 pub stored_found : (stamp : Stamp) (w : Swap) (x : Option Object)
@@ -364,35 +381,42 @@ laid_own c d found k = record {
   align = λ e. k.align (over_from c.align found.align e);
 }
 
+pair_within : (t : Stamp) (new : New) (c found : Content) → IsOver (pair_sets t new) c
+    → IsOver c (part_within c (pair_old (with_found new found)))
+    × IsOver (part_within c (pair_old (with_found new found))) c
+pair_within t (content.ToLooks none) c found h = elim none [ ]
+pair_within t new (content.ToLooks l) found h = (cc, cc)
+pair_within t new c (content.ToLooks l) h = (cc, cc)
+pair_within t new c found h = (cc, cc)
+
 within_alike : (t : Stamp) (later : Swap) (c : Content) → IsOver (sets t later) c
     → IsOver c (part_within c (old_of later)) × IsOver (part_within c (old_of later)) c
-within_alike t (swap.ToLooks w) (ToLooks c) h
+within_alike t (swap.ToLooks w) (content.ToLooks c) h
     = (within_own c (old_looks w), within_parts c (new_looks w) (old_looks w) h (old_there w))
-within_alike t (swap.ToPlace new old) (ToPlace x y) h = (tt, tt)
-within_alike t (swap.ToSize new old) (ToSize x y) h = (tt, tt)
-within_alike t (swap.ToText texts) (ToText label) h = (tt, tt)
-within_alike t (swap.ToFlag new old) (ToFlag flag) h = (tt, tt)
-within_alike t (swap.ToEnds pair) (ToEnds ends) h = (tt, tt)
-within_alike t (swap.ToRank new old) (ToRank rank) h = (tt, tt)
-within_alike t later c h = elim h [ ]
+within_alike t (swap.Other pair) c h = pair_within t pair.value.new c pair.value.old h
+within_alike t later (content.ToLooks c) h = (cc, cc)
+within_alike t later c h = (cc, cc)
+
+pair_laid : (t : Stamp) (new : New) (c found : Content) → IsOver (pair_sets t new) c
+    → IsOver (pair_sets t new) (laid_over c (pair_old (with_found new found)))
+    × IsOver (laid_over c (pair_old (with_found new found))) (pair_sets t new)
+pair_laid t (content.ToLooks none) c found h = elim none [ ]
+pair_laid t new (content.ToLooks l) found h = (cc, cc)
+pair_laid t new c found h = (cc, cc)
 
 laid_alike : (t : Stamp) (later : Swap) (c : Content) → IsOver (sets t later) c
     → IsOver (sets t later) (laid_over c (old_of later)) × IsOver (laid_over c (old_of later)) (sets t later)
-laid_alike t (swap.ToLooks w) (ToLooks c) h
+laid_alike t (swap.ToLooks w) (content.ToLooks c) h
     = (laid_own c (new_looks w) (old_looks w) (old_from w), laid_parts c (new_looks w) (old_looks w) (old_there w))
-laid_alike t (swap.ToPlace new old) (ToPlace x y) h = (tt, tt)
-laid_alike t (swap.ToSize new old) (ToSize x y) h = (tt, tt)
-laid_alike t (swap.ToText texts) (ToText label) h = (tt, tt)
-laid_alike t (swap.ToFlag new old) (ToFlag flag) h = (tt, tt)
-laid_alike t (swap.ToEnds pair) (ToEnds ends) h = (tt, tt)
-laid_alike t (swap.ToRank new old) (ToRank rank) h = (tt, tt)
-laid_alike t later c h = elim h [ ]
+laid_alike t (swap.Other pair) c h = pair_laid t pair.value.new c pair.value.old h
+laid_alike t later (content.ToLooks c) h = (cc, cc)
+laid_alike t later c h = (cc, cc)
 
 -- ---- the parts at a stamp are those that the operation says
 
 parts_map : (stamp : Stamp) (c : Done)
     → parts_of (content_map (λ label. label) (λ looks. looks) (rank_at stamp) c) ≡ parts_of c
-parts_map stamp (ToPlace x y) = refl
+parts_map stamp (content.ToPlace x y) = refl
 parts_map stamp c = refl
 
 pub part_sets : (stamp : Stamp) (w : Swap) → parts_of (sets stamp w) ≡ parts_of (of_swap w)

@@ -15,7 +15,7 @@ ghost use Rattle.gd_model.specs.declared.form.Form.TheVariants.{Sets, Puts, Take
 ghost use Rattle.gd_slots.specs.Slots.{board_of};
 
 use crate::canvas::Canvas;
-use crate::contents::fits;
+use crate::contents::{exchange, fits};
 use crate::grouping::member_ties;
 use crate::kept::NewShape;
 use crate::new_objects;
@@ -180,21 +180,7 @@ fn old_in(object: &Object, content: Held) -> Result<Held, AllocError>
     if !fits(&content, object.kind) {
         return Ok(content);
     }
-    Ok(match content {
-        Content::ToPlace { .. } => Content::ToPlace {
-            x: object.x,
-            y: object.y,
-        },
-        Content::ToSize { .. } => Content::ToSize {
-            w: object.w,
-            h: object.h,
-        },
-        Content::ToLooks(looks) => Content::ToLooks(object.look.taken(&looks)),
-        Content::ToText(_) => Content::ToText(object.label.share()?),
-        Content::ToFlag(_) => Content::ToFlag(object.dissolved),
-        Content::ToEnds(_) => Content::ToEnds(object.ends),
-        Content::ToRank(_) => Content::ToRank(object.rank),
-    })
+    Ok(exchange(&mut object.share()?, content))
 }
 
 /// What puts an object back and ties others. `AllocError` where memory ran out.

@@ -1,32 +1,24 @@
 //! The content that an operation sets, with room for the old one beside it.
 ghost use Rattle.std.specs.Prelude.{◌≡◌, ◌<◌, IfOk, IsTrue, length};
 ghost use Rattle.gd_base.specs.Stamps.{Stamp as StampValue};
-ghost use Rattle.gd_base.specs.declared.content.Content.TheVariants.{ToPlace, ToSize, ToLooks, ToText, ToFlag, ToEnds};
-ghost use Rattle.gd_base.specs.declared.content.Content.TheVariants.{ToRank};
 ghost use Rattle.gd_model.specs.Forms.{rank_at};
 ghost use Rattle.gd_model.specs.Objects.{have_parts, laid_over, part_within, parts_of};
 ghost use Rattle.gd_canvas.specs.Swaps.{found_in, of_swap, old_of, sets, stored, stored_one, text_in};
 
-use crate::contents::{LookParts, one_part, passed};
+use crate::contents::{FLAG, LABEL, LookParts, PLACE, RANK, SIZE, one_part, part, passed};
 use crate::looks_swap::LooksSwap;
-use gd_base::{Content, Ends, Height, Looks, Rank, Side, Stamp, Text};
+use crate::pair::Pair;
+use gd_base::{Content, Height, Rank, Side, Stamp, Text, map_content};
 use gd_events::PackedLooks;
 use gd_model::Held;
 use std::alloc::{AllocError, Global};
-use std::mem;
+use std::mem::{self, size_of};
 
 /// A new label, and an old one.
 #[derive(Drop)]
 pub struct Texts {
     pub new: Text,
     pub old: Text,
-}
-
-/// New ends, and old ones.
-#[derive(Drop)]
-pub struct EndsPair {
-    pub new: Option<Ends>,
-    pub old: Option<Ends>,
 }
 
 /// A place, or a size.
@@ -46,8 +38,11 @@ pub enum Swap {
     ToRank { new: Height, old: Rank },
     ToLooks(LooksSwap),
     ToText(Box<Texts>),
-    ToEnds(Box<EndsPair>),
+    /// Any other content.
+    Other(Box<Pair>),
 }
+
+const _: () = prove!(size_of::<Swap>() <= 32);
 
 impl Default for Swap {
     /// Some content that takes no memory.
@@ -77,7 +72,6 @@ impl Swap {
                 new: Two { x: w, y: h },
                 old: Two { x: w, y: h },
             },
-            Content::ToLooks(looks) => Swap::ToLooks(LooksSwap::new(alloc, &looks)?),
             Content::ToText(label) => {
                 let texts = Texts {
                     new: label,
@@ -89,18 +83,27 @@ impl Swap {
                 new: flag,
                 old: flag,
             },
-            Content::ToEnds(ends) => {
-                let pair = EndsPair {
-                    new: ends,
-                    old: ends,
-                };
-                Swap::ToEnds(Box::new(alloc, pair)?)
-            }
             Content::ToRank(height) => Swap::ToRank {
                 new: height,
                 old: Rank::Low(Stamp::default()),
             },
+            content => Swap::other(alloc, &content)?,
         })
+    }
+
+    /// The same of looks, or of a content that has no room of its own.
+    fn other(
+        alloc: Global,
+        content: &Content<Text, PackedLooks, Height>,
+    ) -> Result<Swap, AllocError>
+        ensures { IfOk result (λ swap. of_swap swap ≡ content.now) }
+    {
+        let new = map_content!(content,
+            label => label.share()?,
+            looks => return Ok(Swap::ToLooks(LooksSwap::new(alloc, looks)?)),
+            height => *height);
+        let old = Content::ToFlag(false);
+        Ok(Swap::Other(Box::new(alloc, Pair { new, old })?))
     }
 
     /// A copy in memory of its own. `AllocError` where that ran out.
@@ -127,17 +130,11 @@ impl Swap {
                 new: *new,
                 old: *old,
             },
-            Swap::ToEnds(ends) => {
-                let pair = EndsPair {
-                    new: ends.new,
-                    old: ends.old,
-                };
-                Swap::ToEnds(Box::new(alloc, pair)?)
-            }
             Swap::ToRank { new, old } => Swap::ToRank {
                 new: *new,
                 old: *old,
             },
+            Swap::Other(pair) => Swap::Other(Box::new(alloc, pair.copied()?)?),
         })
     }
 
@@ -153,8 +150,8 @@ impl Swap {
             }
             Swap::ToText(texts) => Content::ToText(texts.new.share()?),
             Swap::ToFlag { new, .. } => Content::ToFlag(*new),
-            Swap::ToEnds(ends) => Content::ToEnds(ends.new),
             Swap::ToRank { new, .. } => Content::ToRank(*new),
+            Swap::Other(pair) => pair.said()?,
         })
     }
 
@@ -164,6 +161,7 @@ impl Swap {
     {
         match self {
             Swap::ToText(texts) => texts.new.share(),
+            Swap::Other(pair) => pair.spare(),
             _ => Ok(Text::default()),
         }
     }
@@ -179,8 +177,8 @@ impl Swap {
             Swap::ToLooks(looks) => Content::ToLooks(looks.new_looks()),
             Swap::ToText(_) => Content::ToText(spare),
             Swap::ToFlag { new, .. } => Content::ToFlag(*new),
-            Swap::ToEnds(ends) => Content::ToEnds(ends.new),
             Swap::ToRank { new, .. } => Content::ToRank(rank_at(stamp, *new)),
+            Swap::Other(pair) => pair.stored(stamp, spare),
         }
     }
 
@@ -194,8 +192,8 @@ impl Swap {
             Swap::ToLooks(looks) => Content::ToLooks(looks.old_looks()),
             Swap::ToText(texts) => Content::ToText(texts.old.share()?),
             Swap::ToFlag { old, .. } => Content::ToFlag(*old),
-            Swap::ToEnds(ends) => Content::ToEnds(ends.old),
             Swap::ToRank { old, .. } => Content::ToRank(*old),
+            Swap::Other(pair) => pair.old()?,
         })
     }
 
@@ -212,8 +210,8 @@ impl Swap {
                 Content::ToText(mem::replace(&mut texts.old, Text::default()))
             }
             Swap::ToFlag { old, .. } => Content::ToFlag(*old),
-            Swap::ToEnds(ends) => Content::ToEnds(ends.old),
             Swap::ToRank { old, .. } => Content::ToRank(*old),
+            Swap::Other(pair) => pair.take_old(),
         }
     }
 
@@ -244,105 +242,50 @@ impl Swap {
         ensures found { found_in result self.new ≡ stored_one self.old found }
         ensures op { of_swap self.new ≡ of_swap self.old }
     {
-        match found {
-            Content::ToPlace { x, y } => self.keep_place(Two { x, y }),
-            Content::ToSize { w, h } => self.keep_size(Two { x: w, y: h }),
-            Content::ToLooks(looks) => self.keep_looks(&looks),
-            Content::ToText(label) => self.keep_text(label),
-            Content::ToFlag(flag) => self.keep_flag(flag),
-            Content::ToEnds(ends) => self.keep_ends(ends),
-            Content::ToRank(rank) => self.keep_rank(rank),
-        }
-    }
-
-    fn keep_place(&mut self, place: Two) -> bool
-        ensures found { found_in result self.new ≡ stored_one self.old (ToPlace place.x place.y) }
-        ensures op { of_swap self.new ≡ of_swap self.old }
-    {
         match self {
-            Swap::ToPlace { old, .. } => {
-                *old = place;
-                true
-            }
-            _ => false,
-        }
-    }
-
-    fn keep_size(&mut self, size: Two) -> bool
-        ensures found { found_in result self.new ≡ stored_one self.old (ToSize size.x size.y) }
-        ensures op { of_swap self.new ≡ of_swap self.old }
-    {
-        match self {
-            Swap::ToSize { old, .. } => {
-                *old = size;
-                true
-            }
-            _ => false,
-        }
-    }
-
-    fn keep_looks(&mut self, looks: &Looks) -> bool
-        ensures found { found_in result self.new ≡ stored_one self.old (ToLooks looks.now) }
-        ensures op { of_swap self.new ≡ of_swap self.old }
-    {
-        match self {
-            Swap::ToLooks(kept) => {
-                kept.put(looks);
-                true
-            }
-            _ => false,
-        }
-    }
-
-    fn keep_text(&mut self, label: Text) -> bool
-        ensures found { found_in result self.new ≡ stored_one self.old (ToText label) }
-        ensures op { of_swap self.new ≡ of_swap self.old }
-    {
-        match self {
-            Swap::ToText(texts) => {
-                texts.old = label;
-                true
-            }
-            _ => false,
-        }
-    }
-
-    fn keep_flag(&mut self, flag: bool) -> bool
-        ensures found { found_in result self.new ≡ stored_one self.old (ToFlag flag) }
-        ensures op { of_swap self.new ≡ of_swap self.old }
-    {
-        match self {
-            Swap::ToFlag { old, .. } => {
-                *old = flag;
-                true
-            }
-            _ => false,
-        }
-    }
-
-    fn keep_ends(&mut self, ends: Option<Ends>) -> bool
-        ensures found { found_in result self.new ≡ stored_one self.old (ToEnds ends) }
-        ensures op { of_swap self.new ≡ of_swap self.old }
-    {
-        match self {
-            Swap::ToEnds(pair) => {
-                pair.old = ends;
-                true
-            }
-            _ => false,
-        }
-    }
-
-    fn keep_rank(&mut self, rank: Rank) -> bool
-        ensures found { found_in result self.new ≡ stored_one self.old (ToRank rank) }
-        ensures op { of_swap self.new ≡ of_swap self.old }
-    {
-        match self {
-            Swap::ToRank { old, .. } => {
-                *old = rank;
-                true
-            }
-            _ => false,
+            Swap::ToPlace { old, .. } => match found {
+                Content::ToPlace { x, y } => {
+                    *old = Two { x, y };
+                    true
+                }
+                _ => false,
+            },
+            Swap::ToSize { old, .. } => match found {
+                Content::ToSize { w, h } => {
+                    *old = Two { x: w, y: h };
+                    true
+                }
+                _ => false,
+            },
+            Swap::ToLooks(kept) => match found {
+                Content::ToLooks(looks) => {
+                    kept.put(&looks);
+                    true
+                }
+                _ => false,
+            },
+            Swap::ToText(texts) => match found {
+                Content::ToText(label) => {
+                    texts.old = label;
+                    true
+                }
+                _ => false,
+            },
+            Swap::ToFlag { old, .. } => match found {
+                Content::ToFlag(flag) => {
+                    *old = flag;
+                    true
+                }
+                _ => false,
+            },
+            Swap::ToRank { old, .. } => match &found {
+                Content::ToRank(rank) => {
+                    *old = *rank;
+                    true
+                }
+                _ => false,
+            },
+            Swap::Other(pair) => pair.keep(found),
         }
     }
 
@@ -352,13 +295,13 @@ impl Swap {
         ensures some { 0 < length result.items }
     {
         match self {
-            Swap::ToPlace { .. } => one_part(1),
-            Swap::ToSize { .. } => one_part(2),
+            Swap::ToPlace { .. } => one_part(PLACE),
+            Swap::ToSize { .. } => one_part(SIZE),
             Swap::ToLooks(looks) => looks.parts(),
-            Swap::ToText(_) => one_part(6),
-            Swap::ToFlag { .. } => one_part(8),
-            Swap::ToRank { .. } => one_part(9),
-            Swap::ToEnds(_) => one_part(16),
+            Swap::ToText(_) => one_part(LABEL),
+            Swap::ToFlag { .. } => one_part(FLAG),
+            Swap::ToRank { .. } => one_part(RANK),
+            Swap::Other(pair) => one_part(part(&pair.new)),
         }
     }
 }

@@ -2,7 +2,7 @@
 use Rattle.std.proofs.Common.{◌≡◌, pos, true, false, [], Option, Some, None, refl}
 use Rattle.std.specs.Prelude.{is_some, unwrap_or}
 use Rattle.gd_base.specs.Looks.{given, instead, kept, laid, put_over, taken, within}
-use Rattle.gd_base.specs.declared.content.Content.TheVariants.{ToPlace, ToSize, ToLooks, ToText, ToFlag, ToEnds, ToRank}
+use Rattle.gd_base.specs.declared.content.Content.TheVariants as content
 use Rattle.gd_base.specs.declared.look.Dash.TheVariants.{Solid}
 use Rattle.gd_base.specs.declared.look.Heads.TheVariants.{Bare}
 use Rattle.gd_base.specs.declared.look.Look.{Look}
@@ -12,22 +12,22 @@ use Rattle.gd_base.specs.declared.object.Link.{Link}
 use Rattle.gd_base.specs.Whole.{Object}
 use Rattle.gd_base.specs.declared.rank.Rank.TheVariants.{High}
 use Rattle.gd_model.specs.Contents.{Content}
-use Rattle.gd_model.specs.Objects.{fits, laid_over, old, part_within, put, with_link}
+use Rattle.gd_model.specs.Objects.{fits, have_parts, laid_over, old, part_within, parts_of, put, with_link}
 
 pub put_kind : (c : Content) (o : Object) → (put c o).kind ≡ o.kind
-put_kind (ToPlace x y) o = refl
+put_kind (content.ToPlace x y) o = refl
 put_kind c o = refl
 
 pub put_link : (c : Content) (o : Object) → (put c o).link ≡ o.link
-put_link (ToPlace x y) o = refl
+put_link (content.ToPlace x y) o = refl
 put_link c o = refl
 
 pub old_tied : (c : Content) (link : Option Link) (o : Object) → old c (with_link link o) ≡ old c o
-old_tied (ToPlace x y) link o = refl
+old_tied (content.ToPlace x y) link o = refl
 old_tied c link o = refl
 
 pub old_fits : (c : Content) (o : Object) (k : Kind) → fits (old c o) k ≡ fits c k
-old_fits (ToPlace x y) o k = refl
+old_fits (content.ToPlace x y) o k = refl
 old_fits c o k = refl
 
 -- ---- one part of a look
@@ -122,64 +122,40 @@ taken_over d c k = λ i. record {
 }
 
 pub put_old : (c : Content) (o : Object) → put (old c o) (put c o) ≡ o
-put_old (ToPlace x y) o = refl
-put_old (ToLooks looks) o = λ i. record o { look = given_back looks o.look i }
+put_old (content.ToPlace x y) o = refl
+put_old (content.ToLooks looks) o = λ i. record o { look = given_back looks o.look i }
 put_old c o = refl
 
 -- ---- of the parts of another one
 
--- contents of one kind, of which the first has all parts of the second
+-- the first has all parts of the second; a look and another content have none in common
 abbrev pub IsOver : Content → Content → Type 0
-IsOver (ToPlace a b) (ToPlace x y) = Unit {0}
-IsOver (ToSize a b) (ToSize x y) = Unit {0}
-IsOver (ToLooks d) (ToLooks c) = AreSetBy d c
-IsOver (ToText a) (ToText b) = Unit {0}
-IsOver (ToFlag a) (ToFlag b) = Unit {0}
-IsOver (ToEnds a) (ToEnds b) = Unit {0}
-IsOver (ToRank a) (ToRank b) = Unit {0}
-IsOver d c = ⊥
+IsOver (content.ToLooks d) (content.ToLooks c) = AreSetBy d c
+IsOver (content.ToLooks d) c = false ≡ true
+IsOver d (content.ToLooks c) = false ≡ true
+IsOver d c = have_parts (parts_of d) (parts_of c) ≡ true
 
 pub put_put : (d c : Content) (o : Object) → IsOver d c → put d (put c o) ≡ put d o
-put_put (ToLooks d) (ToLooks c) o h = λ i. record o { look = given_over d c o.look h i }
-put_put (ToPlace a b) (ToPlace x y) o h = refl
-put_put (ToSize a b) (ToSize x y) o h = refl
-put_put (ToText a) (ToText b) o h = refl
-put_put (ToFlag a) (ToFlag b) o h = refl
-put_put (ToEnds a) (ToEnds b) o h = refl
-put_put (ToRank a) (ToRank b) o h = refl
-put_put d c o h = elim h [ ]
+put_put (content.ToLooks d) (content.ToLooks c) o h = λ i. record o { look = given_over d c o.look h i }
+put_put d (content.ToLooks c) o h = cc
+put_put d c o h = cc
 
 -- the second one finds of its parts what the first one does
 pub old_within : (d c : Content) (o : Object) → IsOver d c → part_within c (old d o) ≡ old c o
-old_within (ToLooks d) (ToLooks c) o h = λ i. ToLooks (taken_within d c o.look h i)
-old_within (ToPlace a b) (ToPlace x y) o h = refl
-old_within (ToSize a b) (ToSize x y) o h = refl
-old_within (ToText a) (ToText b) o h = refl
-old_within (ToFlag a) (ToFlag b) o h = refl
-old_within (ToEnds a) (ToEnds b) o h = refl
-old_within (ToRank a) (ToRank b) o h = refl
-old_within d c o h = elim h [ ]
+old_within (content.ToLooks d) (content.ToLooks c) o h = λ i. content.ToLooks (taken_within d c o.look h i)
+old_within d (content.ToLooks c) o h = cc
+old_within d c o h = cc
 
 -- and behind it the first one finds what it leaves
 pub old_over : (d c : Content) (o : Object) → IsOver d c → old d (put c o) ≡ laid_over c (old d o)
-old_over (ToLooks d) (ToLooks c) o h = λ i. ToLooks (taken_over d c o.look i)
-old_over (ToPlace a b) (ToPlace x y) o h = refl
-old_over (ToSize a b) (ToSize x y) o h = refl
-old_over (ToText a) (ToText b) o h = refl
-old_over (ToFlag a) (ToFlag b) o h = refl
-old_over (ToEnds a) (ToEnds b) o h = refl
-old_over (ToRank a) (ToRank b) o h = refl
-old_over d c o h = elim h [ ]
+old_over (content.ToLooks d) (content.ToLooks c) o h = λ i. content.ToLooks (taken_over d c o.look i)
+old_over d (content.ToLooks c) o h = cc
+old_over d c o h = cc
 
 pub fits_alike : (d c : Content) (k : Kind) → IsOver d c → fits d k ≡ fits c k
-fits_alike (ToLooks d) (ToLooks c) k h = refl
-fits_alike (ToPlace a b) (ToPlace x y) k h = refl
-fits_alike (ToSize a b) (ToSize x y) k h = refl
-fits_alike (ToText a) (ToText b) k h = refl
-fits_alike (ToFlag a) (ToFlag b) k h = refl
-fits_alike (ToEnds a) (ToEnds b) k h = refl
-fits_alike (ToRank a) (ToRank b) k h = refl
-fits_alike d c k h = elim h [ ]
+fits_alike (content.ToLooks d) (content.ToLooks c) k h = refl
+fits_alike d (content.ToLooks c) k h = cc
+fits_alike d c k h = cc
 
 -- ---- of all
 
@@ -200,11 +176,11 @@ every = record {
 -- an object is its kind, its link and what stands in its parts
 pub same_object : (x y : Object) → x.kind ≡ y.kind → x.link ≡ y.link → ((c : Content) → old c x ≡ old c y) → x ≡ y
 same_object x y kind link olds =
-    λ i. put (olds (ToPlace (pos 0) (pos 0)) i)
-    (put (olds (ToSize (pos 0) (pos 0)) i)
-    (put (olds (ToLooks every) i)
-    (put (olds (ToText []) i)
-    (put (olds (ToFlag false) i)
-    (put (olds (ToEnds None) i)
-    (put (olds (ToRank (High record { clock = 0; site = 0 })) i)
+    λ i. put (olds (content.ToPlace (pos 0) (pos 0)) i)
+    (put (olds (content.ToSize (pos 0) (pos 0)) i)
+    (put (olds (content.ToLooks every) i)
+    (put (olds (content.ToText []) i)
+    (put (olds (content.ToFlag false) i)
+    (put (olds (content.ToEnds None) i)
+    (put (olds (content.ToRank (High record { clock = 0; site = 0 })) i)
     (record x { kind = kind i; link = link i })))))))

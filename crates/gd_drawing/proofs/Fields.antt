@@ -5,7 +5,7 @@ use Rattle.std.proofs.Common.{sym, ap, ◌∙◌, eqb-true, eq-eqb}
 use Rattle.std.specs.Prelude.{is_some, unwrap_or, ◌==◌}
 use Rattle.std.proofs.lemmas.Bool.{and_parts}
 use Rattle.gd_base.specs.Looks.{instead, no_looks}
-use Rattle.gd_base.specs.declared.content.Content.TheVariants.{ToPlace, ToSize, ToLooks, ToText, ToFlag, ToEnds, ToRank}
+use Rattle.gd_base.specs.declared.content.Content.TheVariants as content
 use Rattle.gd_base.specs.declared.look.Dash.TheVariants.{Solid}
 use Rattle.gd_base.specs.declared.look.Heads.TheVariants.{Bare}
 use Rattle.gd_base.specs.declared.look.Looks.{Looks}
@@ -35,63 +35,54 @@ pub data Field : Type 0 where
   Side : Field
   Ends : Field
 
-abbrev pub number : Field → ℕ
-number Place = 1
-number Size = 2
-number Stroke = 3
-number Fill = 4
-number Width = 5
-number Words = 6
-number Flag = 8
-number Height = 9
-number Dashes = 10
-number Tips = 11
-number Corners = 12
-number Opacity = 13
-number Letters = 14
-number Side = 15
-number Ends = 16
-
 -- a content that sets that part alone
 abbrev pub alone : Field → Content
-alone Place = ToPlace (pos 0) (pos 0)
-alone Size = ToSize (pos 0) (pos 0)
-alone Stroke = ToLooks (record no_looks { stroke = Some 0 })
-alone Fill = ToLooks (record no_looks { fill = Some None })
-alone Width = ToLooks (record no_looks { width = Some 0 })
-alone Words = ToText []
-alone Flag = ToFlag false
-alone Height = ToRank (High record { clock = 0; site = 0 })
-alone Dashes = ToLooks (record no_looks { dash = Some Solid })
-alone Tips = ToLooks (record no_looks { heads = Some Bare })
-alone Corners = ToLooks (record no_looks { round = Some None })
-alone Opacity = ToLooks (record no_looks { opacity = Some 0 })
-alone Letters = ToLooks (record no_looks { letters = Some None })
-alone Side = ToLooks (record no_looks { align = Some None })
-alone Ends = ToEnds None
+alone Place = content.ToPlace (pos 0) (pos 0)
+alone Size = content.ToSize (pos 0) (pos 0)
+alone Stroke = content.ToLooks (record no_looks { stroke = Some 0 })
+alone Fill = content.ToLooks (record no_looks { fill = Some None })
+alone Width = content.ToLooks (record no_looks { width = Some 0 })
+alone Words = content.ToText []
+alone Flag = content.ToFlag false
+alone Height = content.ToRank (High record { clock = 0; site = 0 })
+alone Dashes = content.ToLooks (record no_looks { dash = Some Solid })
+alone Tips = content.ToLooks (record no_looks { heads = Some Bare })
+alone Corners = content.ToLooks (record no_looks { round = Some None })
+alone Opacity = content.ToLooks (record no_looks { opacity = Some 0 })
+alone Letters = content.ToLooks (record no_looks { letters = Some None })
+alone Side = content.ToLooks (record no_looks { align = Some None })
+alone Ends = content.ToEnds None
 
 -- what stands in that part
 abbrev pub at : Field → Object → Content
 at f o = old (alone f) o
 
--- whether the content sets it
+abbrev first : List ℕ → ℕ
+first [] = 0
+first (p ∷ ps) = p
+
+-- the number of the part that a content of one part is for
+abbrev part_of : Content → ℕ
+part_of c = first (parts_of c)
+
+abbrev pub number : Field → ℕ
+number f = part_of (alone f)
+
+-- a part that is there where it is set, behind other ones
+abbrev behind : Bool → Bool → ℕ → ℕ → Bool
+behind front set p q = cond (q == p) (front || set) front
+
+-- whether that part of the look is set
+abbrev has_part : Looks → ℕ → Bool
+has_part l q =
+    behind (behind (behind (behind (behind (behind (behind (behind (behind false (is_some l.stroke) 3 q)
+    (is_some l.fill) 4 q) (is_some l.width) 5 q) (is_some l.dash) 10 q) (is_some l.heads) 11 q) (is_some l.round) 12 q)
+    (is_some l.opacity) 13 q) (is_some l.letters) 14 q) (is_some l.align) 15 q
+
+-- whether the content sets that part
 abbrev pub sets : Field → Content → Bool
-sets Place (ToPlace x y) = true
-sets Size (ToSize w h) = true
-sets Stroke (ToLooks l) = is_some l.stroke
-sets Fill (ToLooks l) = is_some l.fill
-sets Width (ToLooks l) = is_some l.width
-sets Words (ToText label) = true
-sets Flag (ToFlag flag) = true
-sets Height (ToRank rank) = true
-sets Dashes (ToLooks l) = is_some l.dash
-sets Tips (ToLooks l) = is_some l.heads
-sets Corners (ToLooks l) = is_some l.round
-sets Opacity (ToLooks l) = is_some l.opacity
-sets Letters (ToLooks l) = is_some l.letters
-sets Side (ToLooks l) = is_some l.align
-sets Ends (ToEnds ends) = true
-sets f c = false
+sets f (content.ToLooks l) = has_part l (number f)
+sets f c = is_among (parts_of c) (number f)
 
 -- ---- one part of a look
 
@@ -111,42 +102,48 @@ found_alike (Some z) x y h = ap Some (h refl)
 
 -- what is set doesn't hang on the object
 pub at_set : (f : Field) (c : Content) (x y : Object) → sets f c ≡ true → at f (put c x) ≡ at f (put c y)
-at_set Stroke (ToLooks l) x y e =
-    λ i. ToLooks (record no_looks { stroke = Some (new_alike l.stroke x.look.stroke y.look.stroke e i) })
-at_set Fill (ToLooks l) x y e =
-    λ i. ToLooks (record no_looks { fill = Some (new_alike l.fill x.look.fill y.look.fill e i) })
-at_set Width (ToLooks l) x y e =
-    λ i. ToLooks (record no_looks { width = Some (new_alike l.width x.look.width y.look.width e i) })
-at_set Dashes (ToLooks l) x y e =
-    λ i. ToLooks (record no_looks { dash = Some (new_alike l.dash x.look.dash y.look.dash e i) })
-at_set Tips (ToLooks l) x y e =
-    λ i. ToLooks (record no_looks { heads = Some (new_alike l.heads x.look.heads y.look.heads e i) })
-at_set Corners (ToLooks l) x y e =
-    λ i. ToLooks (record no_looks { round = Some (new_alike l.round x.look.round y.look.round e i) })
-at_set Opacity (ToLooks l) x y e =
-    λ i. ToLooks (record no_looks { opacity = Some (new_alike l.opacity x.look.opacity y.look.opacity e i) })
-at_set Letters (ToLooks l) x y e =
-    λ i. ToLooks (record no_looks { letters = Some (new_alike l.letters x.look.letters y.look.letters e i) })
-at_set Side (ToLooks l) x y e =
-    λ i. ToLooks (record no_looks { align = Some (new_alike l.align x.look.align y.look.align e i) })
-at_set f (ToPlace a b) x y e = cc
+at_set Stroke (content.ToLooks l) x y e =
+    λ i. content.ToLooks (record no_looks { stroke = Some (new_alike l.stroke x.look.stroke y.look.stroke e i) })
+at_set Fill (content.ToLooks l) x y e =
+    λ i. content.ToLooks (record no_looks { fill = Some (new_alike l.fill x.look.fill y.look.fill e i) })
+at_set Width (content.ToLooks l) x y e =
+    λ i. content.ToLooks (record no_looks { width = Some (new_alike l.width x.look.width y.look.width e i) })
+at_set Dashes (content.ToLooks l) x y e =
+    λ i. content.ToLooks (record no_looks { dash = Some (new_alike l.dash x.look.dash y.look.dash e i) })
+at_set Tips (content.ToLooks l) x y e =
+    λ i. content.ToLooks (record no_looks { heads = Some (new_alike l.heads x.look.heads y.look.heads e i) })
+at_set Corners (content.ToLooks l) x y e =
+    λ i. content.ToLooks (record no_looks { round = Some (new_alike l.round x.look.round y.look.round e i) })
+at_set Opacity (content.ToLooks l) x y e =
+    λ i. content.ToLooks (record no_looks { opacity = Some (new_alike l.opacity x.look.opacity y.look.opacity e i) })
+at_set Letters (content.ToLooks l) x y e =
+    λ i. content.ToLooks (record no_looks { letters = Some (new_alike l.letters x.look.letters y.look.letters e i) })
+at_set Side (content.ToLooks l) x y e =
+    λ i. content.ToLooks (record no_looks { align = Some (new_alike l.align x.look.align y.look.align e i) })
+at_set f (content.ToPlace a b) x y e = cc
 at_set f c x y e = cc
 
 -- and what isn't stays
 pub at_kept : (f : Field) (c : Content) (o : Object) → sets f c ≡ false → at f (put c o) ≡ at f o
-at_kept Stroke (ToLooks l) o e =
-    λ i. ToLooks (record no_looks { stroke = Some (new_kept l.stroke o.look.stroke e i) })
-at_kept Fill (ToLooks l) o e = λ i. ToLooks (record no_looks { fill = Some (new_kept l.fill o.look.fill e i) })
-at_kept Width (ToLooks l) o e = λ i. ToLooks (record no_looks { width = Some (new_kept l.width o.look.width e i) })
-at_kept Dashes (ToLooks l) o e = λ i. ToLooks (record no_looks { dash = Some (new_kept l.dash o.look.dash e i) })
-at_kept Tips (ToLooks l) o e = λ i. ToLooks (record no_looks { heads = Some (new_kept l.heads o.look.heads e i) })
-at_kept Corners (ToLooks l) o e = λ i. ToLooks (record no_looks { round = Some (new_kept l.round o.look.round e i) })
-at_kept Opacity (ToLooks l) o e =
-    λ i. ToLooks (record no_looks { opacity = Some (new_kept l.opacity o.look.opacity e i) })
-at_kept Letters (ToLooks l) o e =
-    λ i. ToLooks (record no_looks { letters = Some (new_kept l.letters o.look.letters e i) })
-at_kept Side (ToLooks l) o e = λ i. ToLooks (record no_looks { align = Some (new_kept l.align o.look.align e i) })
-at_kept f (ToPlace a b) o e = cc
+at_kept Stroke (content.ToLooks l) o e =
+    λ i. content.ToLooks (record no_looks { stroke = Some (new_kept l.stroke o.look.stroke e i) })
+at_kept Fill (content.ToLooks l) o e =
+    λ i. content.ToLooks (record no_looks { fill = Some (new_kept l.fill o.look.fill e i) })
+at_kept Width (content.ToLooks l) o e =
+    λ i. content.ToLooks (record no_looks { width = Some (new_kept l.width o.look.width e i) })
+at_kept Dashes (content.ToLooks l) o e =
+    λ i. content.ToLooks (record no_looks { dash = Some (new_kept l.dash o.look.dash e i) })
+at_kept Tips (content.ToLooks l) o e =
+    λ i. content.ToLooks (record no_looks { heads = Some (new_kept l.heads o.look.heads e i) })
+at_kept Corners (content.ToLooks l) o e =
+    λ i. content.ToLooks (record no_looks { round = Some (new_kept l.round o.look.round e i) })
+at_kept Opacity (content.ToLooks l) o e =
+    λ i. content.ToLooks (record no_looks { opacity = Some (new_kept l.opacity o.look.opacity e i) })
+at_kept Letters (content.ToLooks l) o e =
+    λ i. content.ToLooks (record no_looks { letters = Some (new_kept l.letters o.look.letters e i) })
+at_kept Side (content.ToLooks l) o e =
+    λ i. content.ToLooks (record no_looks { align = Some (new_kept l.align o.look.align e i) })
+at_kept f (content.ToPlace a b) o e = cc
 at_kept f c o e = cc
 
 pub at_tied : (f : Field) (link : Option Link) (o : Object) → at f (with_link link o) ≡ at f o
@@ -155,13 +152,13 @@ at_tied f link o = old_tied (alone f) link o
 -- ---- what a content finds follows from the parts that it sets
 
 abbrev looks_in : Content → Looks
-looks_in (ToLooks l) = l
+looks_in (content.ToLooks l) = l
 looks_in c = no_looks
 
 pub old_by : (c : Content) (x y : Object) → ((f : Field) → sets f c ≡ true → at f x ≡ at f y) → old c x ≡ old c y
-old_by (ToLooks l) x y h =
-    let seen = λ (f : Field) (e : sets f (ToLooks l) ≡ true). ap looks_in (h f e) in
-    λ i. ToLooks (record {
+old_by (content.ToLooks l) x y h =
+    let seen = λ (f : Field) (e : sets f (content.ToLooks l) ≡ true). ap looks_in (h f e) in
+    λ i. content.ToLooks (record {
       stroke = found_alike l.stroke x.look.stroke y.look.stroke
           (λ e. ap (λ (k : Looks). unwrap_or k.stroke x.look.stroke) (seen Stroke e)) i;
       fill = found_alike l.fill x.look.fill y.look.fill
@@ -181,12 +178,12 @@ old_by (ToLooks l) x y h =
       align = found_alike l.align x.look.align y.look.align
           (λ e. ap (λ (k : Looks). unwrap_or k.align x.look.align) (seen Side e)) i;
     })
-old_by (ToPlace a b) x y h = h Place refl
-old_by (ToSize a b) x y h = h Size refl
-old_by (ToText label) x y h = h Words refl
-old_by (ToFlag flag) x y h = h Flag refl
-old_by (ToEnds ends) x y h = h Ends refl
-old_by (ToRank rank) x y h = h Height refl
+old_by (content.ToPlace a b) x y h = h Place refl
+old_by (content.ToSize a b) x y h = h Size refl
+old_by (content.ToText label) x y h = h Words refl
+old_by (content.ToFlag flag) x y h = h Flag refl
+old_by (content.ToEnds ends) x y h = h Ends refl
+old_by (content.ToRank rank) x y h = h Height refl
 
 -- an object is its kind, its link and what stands in its parts
 pub same_fields : (x y : Object) → x.kind ≡ y.kind → x.link ≡ y.link → ((f : Field) → at f x ≡ at f y) → x ≡ y
@@ -199,8 +196,7 @@ not_whole Place = refl
 not_whole f = refl
 
 pub is_itself : (f : Field) → is_same_part (number f) (number f) ≡ true
-is_itself Place = refl
-is_itself f = refl
+is_itself f = eq-eqb (number f) (number f) refl
 
 or_none : (b : Bool) → (b || false) ≡ b
 or_none true = refl
@@ -213,10 +209,6 @@ among-append (p ∷ ps) qs q = ap (λ b. is_same_part q p || b) (among-append ps
     by : (b : Bool) → (b || (is_among ps q || is_among qs q)) ≡ ((b || is_among ps q) || is_among qs q)
     by true = refl
     by false = refl
-
--- a part that is there where it is set, behind other ones
-abbrev behind : Bool → Bool → ℕ → ℕ → Bool
-behind front set p q = cond (q == p) (front || set) front
 
 among_first : {A : Type 0} (set : Option A) (p q : ℕ) → is_among (part_if set p) q ≡ behind false (is_some set) p q
 among_first None p q = sym (cond_same (q == p) false)
@@ -235,49 +227,32 @@ among_behind ps set p q front e =
     by f s true = refl
     by f s false = or_none f
 
--- whether that part of the look is set
-abbrev has_part : Looks → ℕ → Bool
-has_part l q =
-    behind (behind (behind (behind (behind (behind (behind (behind (behind false (is_some l.stroke) 3 q)
-    (is_some l.fill) 4 q) (is_some l.width) 5 q) (is_some l.dash) 10 q) (is_some l.heads) 11 q) (is_some l.round) 12 q)
-    (is_some l.opacity) 13 q) (is_some l.letters) 14 q) (is_some l.align) 15 q
-
-among_looks : (l : Looks) (q : ℕ) → is_among (look_parts l) q ≡ has_part l q
-among_looks l q =
-    among_behind _ l.align 15 q _ (among_behind _ l.letters 14 q _ (among_behind _ l.opacity 13 q _
-    (among_behind _ l.round 12 q _ (among_behind _ l.heads 11 q _ (among_behind _ l.dash 10 q _
-    (among_behind _ l.width 5 q _ (among_behind _ l.fill 4 q _ (among_first l.stroke 3 q))))))))
-
-has_set : (f : Field) (l : Looks) → has_part l (number f) ≡ sets f (ToLooks l)
-has_set Place l = refl
-has_set f l = refl
-
 among_whole : (ps : List ℕ) (q : ℕ) → is_same_part q 0 ≡ false → is_among (or_whole ps) q ≡ is_among ps q
 among_whole [] q e = or_none (q == 0) ∙ e
 among_whole (p ∷ ps) q e = refl
 
+among_looks : (l : Looks) (q : ℕ) → is_same_part q 0 ≡ false → is_among (or_whole (look_parts l)) q ≡ has_part l q
+among_looks l q e =
+    among_whole (look_parts l) q e
+    ∙ among_behind _ l.align 15 q _ (among_behind _ l.letters 14 q _ (among_behind _ l.opacity 13 q _
+    (among_behind _ l.round 12 q _ (among_behind _ l.heads 11 q _ (among_behind _ l.dash 10 q _
+    (among_behind _ l.width 5 q _ (among_behind _ l.fill 4 q _ (among_first l.stroke 3 q))))))))
+
 -- the parts of a content are those that it sets
 pub among : (f : Field) (c : Content) → is_among (parts_of c) (number f) ≡ sets f c
-among Place (ToPlace x y) = refl
-among f (ToLooks l) =
-    among_whole (look_parts l) (number f) (not_whole f) ∙ among_looks l (number f) ∙ has_set f l
+among f (content.ToLooks l) = among_looks l (number f) (not_whole f)
 among f c = refl
 
 -- ---- the parts of two contents
 
 -- one part at least
 pub some_part : (c : Content) → (p : ℕ) × (is_among (parts_of c) p ≡ true)
-some_part (ToLooks l) = by (look_parts l)
+some_part (content.ToLooks l) = by (look_parts l)
   where
     by : (ps : List ℕ) → (p : ℕ) × (is_among (or_whole ps) p ≡ true)
     by [] = (0, refl)
     by (p ∷ ps) = (p, ap (λ b. b || is_among ps p) (eq-eqb p p refl))
-some_part (ToPlace x y) = (1, refl)
-some_part (ToSize w h) = (2, refl)
-some_part (ToText label) = (6, refl)
-some_part (ToFlag flag) = (8, refl)
-some_part (ToEnds ends) = (16, refl)
-some_part (ToRank rank) = (9, refl)
+some_part c = (part_of c, refl)
 
 have_one : (ps qs : List ℕ) (q : ℕ) → have_parts ps qs ≡ true → is_among qs q ≡ true → is_among ps q ≡ true
 have_one ps [] q h e = cc
@@ -288,29 +263,26 @@ have_one ps (r ∷ rs) q h e =
       | false ↦ λ other k. have_one ps rs q both.1 k
     ] refl e
 
--- a part that the one sets and the other doesn't
-unset : (f : Field) (d c : Content) → have_parts (parts_of d) (parts_of c) ≡ true → sets f c ≡ true → sets f d ≡ true
-unset f d c h e = sym (among f d) ∙ have_one (parts_of d) (parts_of c) (number f) h (among f c ∙ e)
+-- what has all parts of another content sets what that one sets
+sets_too : (f : Field) (d c : Content) → have_parts (parts_of d) (parts_of c) ≡ true → sets f c ≡ true
+    → sets f d ≡ true
+sets_too f d c h e = sym (among f d) ∙ have_one (parts_of d) (parts_of c) (number f) h (among f c ∙ e)
 
--- of one part alone, no look is set
-one_part : (f : Field) (l : Looks) → sets f (ToLooks l) ≡ false
-    → have_parts (number f ∷ []) (or_whole (look_parts l)) ≡ true → ⊥
-one_part f l none h =
-    let parts = or_whole (look_parts l) in
-    let some = some_part (ToLooks l) in
-    let here = have_one (number f ∷ []) parts some.0 h some.1 in
-    let same : some.0 ≡ number f = eqb-true some.0 (number f) (sym (or_none (some.0 == number f)) ∙ here) in
-    let there : is_among parts (number f) ≡ true = ap (is_among parts) (sym same) ∙ some.1 in
-    let not_there : is_among parts (number f) ≡ false = among f (ToLooks l) ∙ none in
-    cc
+-- a part that the look doesn't set: the look lacks it, and it lacks the look
+module _ (l : Looks) (p : ℕ) (whole : is_same_part p 0 ≡ false) (none : has_part l p ≡ false) where
+  look_lacks : have_parts (or_whole (look_parts l)) (p ∷ []) ≡ true → false ≡ true
+  look_lacks h = sym (among_looks l p whole ∙ none) ∙ (and_parts (is_among (or_whole (look_parts l)) p) true h).0
 
-no_look : (f : Field) (c : Content) (l : Looks) → have_parts (or_whole (look_parts l)) (parts_of c) ≡ true
-    → sets f c ≡ true → sets f (ToLooks l) ≡ false → ⊥
-no_look f c l h e none = let set = unset f (ToLooks l) c h e in cc
+  part_lacks : have_parts (p ∷ []) (or_whole (look_parts l)) ≡ true → false ≡ true
+  part_lacks h =
+      let some = some_part (content.ToLooks l) in
+      let here = have_one (p ∷ []) (or_whole (look_parts l)) some.0 h some.1 in
+      let same : some.0 ≡ p = eqb-true some.0 p (sym (or_none (some.0 == p)) ∙ here) in
+      sym (among_looks l p whole ∙ none) ∙ ap (is_among (or_whole (look_parts l))) (sym same) ∙ some.1
 
 pub is_over : (d c : Content) → have_parts (parts_of d) (parts_of c) ≡ true → IsOver d c
-is_over (ToLooks d) (ToLooks c) h =
-    let set = λ (f : Field). unset f (ToLooks d) (ToLooks c) h in
+is_over (content.ToLooks d) (content.ToLooks c) h =
+    let set = λ (f : Field). sets_too f (content.ToLooks d) (content.ToLooks c) h in
     record {
       stroke = set Stroke;
       fill = set Fill;
@@ -322,22 +294,6 @@ is_over (ToLooks d) (ToLooks c) h =
       letters = set Letters;
       align = set Side;
     }
-is_over (ToLooks d) (ToPlace x y) h = no_look Place (ToPlace x y) d h refl refl
-is_over (ToLooks d) (ToSize x y) h = no_look Size (ToSize x y) d h refl refl
-is_over (ToLooks d) (ToText label) h = no_look Words (ToText label) d h refl refl
-is_over (ToLooks d) (ToFlag flag) h = no_look Flag (ToFlag flag) d h refl refl
-is_over (ToLooks d) (ToEnds ends) h = no_look Ends (ToEnds ends) d h refl refl
-is_over (ToLooks d) (ToRank rank) h = no_look Height (ToRank rank) d h refl refl
-is_over (ToPlace a b) (ToLooks l) h = one_part Place l refl h
-is_over (ToSize a b) (ToLooks l) h = one_part Size l refl h
-is_over (ToText label) (ToLooks l) h = one_part Words l refl h
-is_over (ToFlag flag) (ToLooks l) h = one_part Flag l refl h
-is_over (ToEnds ends) (ToLooks l) h = one_part Ends l refl h
-is_over (ToRank rank) (ToLooks l) h = one_part Height l refl h
-is_over (ToPlace a b) (ToPlace x y) h = tt
-is_over (ToSize a b) (ToSize x y) h = tt
-is_over (ToText a) (ToText b) h = tt
-is_over (ToFlag a) (ToFlag b) h = tt
-is_over (ToEnds a) (ToEnds b) h = tt
-is_over (ToRank a) (ToRank b) h = tt
-is_over d c h = cc
+is_over (content.ToLooks d) c h = look_lacks d (part_of c) refl refl h
+is_over d (content.ToLooks c) h = part_lacks c (part_of d) refl refl h
+is_over d c h = h

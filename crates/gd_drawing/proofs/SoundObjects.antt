@@ -18,7 +18,7 @@ use Rattle.gd_base.specs.Ranges.{is_round, is_width}
 use Rattle.gd_base.specs.Ranks.{given_at}
 use Rattle.gd_base.specs.Stamps.{Stamp, IsStamp, stamp_cmp, is_same, is_before}
 use Rattle.gd_base.specs.Typed.{AreEnds, IsLinked, IsObject}
-use Rattle.gd_base.specs.declared.content.Content.TheVariants.{ToPlace, ToSize, ToLooks, ToText, ToFlag, ToEnds, ToRank}
+use Rattle.gd_base.specs.declared.content.Content.TheVariants as content
 use Rattle.gd_base.specs.declared.content.Height.TheVariants.{To, At}
 use Rattle.gd_base.specs.declared.content.Side.TheVariants.{Bottom, Top}
 use Rattle.gd_base.specs.declared.member.Member.{Member}
@@ -75,10 +75,10 @@ pub record AreEndsBefore (t : Stamp) (ends : Option Ends) : Type 0 where
   pub before : are_ends_before t ends ≡ true
 
 abbrev pub IsContentBefore : Stamp → Content → Type 0
-IsContentBefore t (ToText label) = IsLabel label
-IsContentBefore t (ToEnds ends) = (is_some ends ≡ true) × AreEndsBefore t ends
-IsContentBefore t (ToRank rank) = IsIdBefore t (given_at rank)
-IsContentBefore t content = is_content content ≡ true
+IsContentBefore t (content.ToText label) = IsLabel label
+IsContentBefore t (content.ToEnds ends) = (is_some ends ≡ true) × AreEndsBefore t ends
+IsContentBefore t (content.ToRank rank) = IsIdBefore t (given_at rank)
+IsContentBefore t c = is_content c ≡ true
 
 -- the fields of the object of that id
 pub record AreFieldsBefore (t id : Stamp) (o : Object) : Type 0 where
@@ -192,13 +192,13 @@ other_ends kinds.Connector label new e h = h
 -- what stands in each part of an object that has it
 pub each_before : (t id : Stamp) (o : Object) → AreFieldsBefore t id o → (c : Content) → fits c o.kind ≡ true
     → IsContentBefore t c → IsContentBefore t (old c o)
-each_before t id o h (ToPlace x y) has new = h.place
-each_before t id o h (ToSize a b) has new = h.size
-each_before t id o h (ToLooks looks) has new = taken_in_range looks o.look new h.look
-each_before t id o h (ToText label) has new = h.label
-each_before t id o h (ToFlag flag) has new = refl
-each_before t id o h (ToEnds ends) has new = (ends_there o.kind o.label o.ends has h.kind, h.ends)
-each_before t id o h (ToRank rank) has new = h.rank
+each_before t id o h (content.ToPlace x y) has new = h.place
+each_before t id o h (content.ToSize a b) has new = h.size
+each_before t id o h (content.ToLooks looks) has new = taken_in_range looks o.look new h.look
+each_before t id o h (content.ToText label) has new = h.label
+each_before t id o h (content.ToFlag flag) has new = refl
+each_before t id o h (content.ToEnds ends) has new = (ends_there o.kind o.label o.ends has h.kind, h.ends)
+each_before t id o h (content.ToRank rank) has new = h.rank
 
 abbrev pub IsTieBefore : Stamp → Tie → Type 0
 IsTieBefore t tie = IsIdBefore t tie.id × IsLinkBefore t tie.id tie.link
@@ -331,13 +331,14 @@ no_ties t = record { few = omega arith; each = tt; rising = refl }
 content_before : (s t : Stamp) (c : Done) → IsStamp s → is_before s t ≡ true → IsTypedBy IsHeight c
     → is_content c ≡ true → is_content_before s c ≡ true
     → IsContentBefore t (content_map (λ label. label) (λ looks. looks) (rank_at s) c)
-content_before s t (ToText label) is l typed range before = typed
-content_before s t (ToEnds ends) is l typed range before =
+content_before s t (content.ToText label) is l typed range before = typed
+content_before s t (content.ToEnds ends) is l typed range before =
     (range, record { typed = typed; before = ends_later s t ends l before })
-content_before s t (ToRank (To Bottom)) is l typed range before = (is, l)
-content_before s t (ToRank (To Top)) is l typed range before = (is, l)
-content_before s t (ToRank (At rank)) is l typed range before = (typed, is_before-trans (given_at rank) s t before l)
-content_before s t content is l typed range before = range
+content_before s t (content.ToRank (To Bottom)) is l typed range before = (is, l)
+content_before s t (content.ToRank (To Top)) is l typed range before = (is, l)
+content_before s t (content.ToRank (At rank)) is l typed range before =
+    (typed, is_before-trans (given_at rank) s t before l)
+content_before s t c is l typed range before = range
 
 each_tie : (s t : Stamp) (ties : List Tie) → is_before s t ≡ true → Every (λ x. IsStamp x.id × IsLinked x.link) ties
     → are_ties_in_range ties ≡ true → are_ties_before s ties ≡ true → Every (IsTieBefore t) ties
@@ -468,22 +469,22 @@ IsBoardBefore t b = IsLookupBefore t (map_of.get b)
 
 put_before : (t id : Stamp) (c : Content) (o : Object) → fits c o.kind ≡ true → IsContentBefore t c
     → AreFieldsBefore t id o → AreFieldsBefore t id (put c o)
-put_before t id (ToPlace x y) o has new h =
+put_before t id (content.ToPlace x y) o has new h =
     all_fields t id _ new h.size h.look h.label h.kind h.ends h.rank h.link
-put_before t id (ToSize a b) o has new h =
+put_before t id (content.ToSize a b) o has new h =
     all_fields t id _ h.place new h.look h.label h.kind h.ends h.rank h.link
-put_before t id (ToLooks looks) o has new h =
+put_before t id (content.ToLooks looks) o has new h =
     let look = given_in_range looks o.look new h.look in
     all_fields t id _ h.place h.size look h.label h.kind h.ends h.rank h.link
-put_before t id (ToText label) o has new h =
+put_before t id (content.ToText label) o has new h =
     let kind = other_label o.kind o.label label o.ends has h.kind in
     all_fields t id _ h.place h.size h.look new kind h.ends h.rank h.link
-put_before t id (ToFlag flag) o has new h =
+put_before t id (content.ToFlag flag) o has new h =
     all_fields t id _ h.place h.size h.look h.label h.kind h.ends h.rank h.link
-put_before t id (ToEnds ends) o has new h =
+put_before t id (content.ToEnds ends) o has new h =
     let kind = other_ends o.kind o.label ends has new.0 in
     all_fields t id _ h.place h.size h.look h.label kind new.1 h.rank h.link
-put_before t id (ToRank rank) o has new h =
+put_before t id (content.ToRank rank) o has new h =
     all_fields t id _ h.place h.size h.look h.label h.kind h.ends new h.link
 
 tied_before : (t id : Stamp) (given : Option (Option Link)) (o : Object) → IfSome given (IsLinkBefore t id)
