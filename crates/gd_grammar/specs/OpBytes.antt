@@ -4,11 +4,11 @@
 -- behind the id. In version One a label has at most 64 bytes, and in version Two at most 200, in neither with a line
 -- feed. Only a group is restored with ties. Since version Two an object is put at the bottom, and since version Three
 -- there are connectors, looks of several parts, and what an undo does.
-use Rattle.std.specs.Prelude.{ℕ, true, false, List, [], ◌∷◌, Option, Some, None}
+use Rattle.std.specs.Prelude.{ℕ, ℤ, true, false, List, [], ◌∷◌, Option, Some, None}
 use Rattle.gd_base.specs.Kinds.{most_ties}
 use Rattle.gd_base.specs.Ranges.{place_limit, size_limit}
 use Rattle.gd_base.specs.Stamps.{Stamp}
-use Rattle.gd_base.specs.declared.content.Content.TheVariants.{ToPlace, ToSize, ToLooks, ToText, ToFlag, ToEnds, ToRank}
+use Rattle.gd_base.specs.declared.content.Content.TheVariants as content
 use Rattle.gd_base.specs.declared.content.Height.TheVariants.{To, At}
 use Rattle.gd_base.specs.declared.content.Side.TheVariants.{Bottom, Top}
 use Rattle.gd_base.specs.declared.member.Member.{Member}
@@ -29,24 +29,19 @@ use Rattle.gd_grammar.specs.Readers.{◌>>=◌, into, by_tag, by_tag_within}
 
 -- ---- contents
 
-unfoldable pub place_at : Reader Done
-place_at = do
-  x ← signed_at place_limit
-  y ← signed_at place_limit
-  pure (ToPlace x y)
-
-unfoldable pub size_at : Reader Done
-size_at = do
-  w ← signed_at size_limit
-  h ← signed_at size_limit
-  pure (ToSize w h)
+-- what two numbers within the limit make
+unfoldable pub two_at : ℕ → (ℤ → ℤ → Done) → Reader Done
+two_at limit make = do
+  x ← signed_at limit
+  y ← signed_at limit
+  pure (make x y)
 
 -- a stroke, a fill or a width
 abbrev pub look_rows : List (ℕ × Reader Done)
 look_rows =
-    (1, into (λ stroke. ToLooks (only_stroke stroke)) colour_at)
-    ∷ (2, into (λ fill. ToLooks (only_fill fill)) fill_at)
-    ∷ (3, into (λ width. ToLooks (only_width width)) width_at)
+    (1, into (λ stroke. content.ToLooks (only_stroke stroke)) colour_at)
+    ∷ (2, into (λ fill. content.ToLooks (only_fill fill)) fill_at)
+    ∷ (3, into (λ width. content.ToLooks (only_width width)) width_at)
     ∷ []
 
 -- which of them, and its value
@@ -55,14 +50,14 @@ lone_at = by_tag look_rows
 
 -- any other looks
 unfoldable pub style_at : Reader Done
-style_at bytes = then_at all_looks_at (λ looks. ranged (is_style looks) (ToLooks looks) bytes) bytes
+style_at bytes = then_at all_looks_at (λ looks. ranged (is_style looks) (content.ToLooks looks) bytes) bytes
 
 abbrev pub text_at : Version → Reader Done
-text_at version = into ToText (label_at version)
+text_at version = into content.ToText (label_at version)
 
 -- a rank that it had
 abbrev pub level_at : Stamp → Reader Done
-level_at stamp = into (λ rank. ToRank (At rank)) (rank_at (Some stamp))
+level_at stamp = into (λ rank. content.ToRank (At rank)) (rank_at (Some stamp))
 
 -- the ends of a connector, which are before the event's stamp
 unfoldable pub ends_at : Stamp → Reader Ends
@@ -72,7 +67,7 @@ ends_at stamp = do
   pure (record { from = from; to = to })
 
 abbrev pub reconnect_at : Stamp → Reader Done
-reconnect_at stamp = into (λ ends. ToEnds (Some ends)) (ends_at stamp)
+reconnect_at stamp = into (λ ends. content.ToEnds (Some ends)) (ends_at stamp)
 
 -- ---- operations
 
@@ -148,14 +143,14 @@ disband_at stamp = do
 -- those that set something other than a label
 abbrev pub small_rows : Stamp → List (ℕ × Reader Op)
 small_rows stamp =
-    (3, set_at stamp place_at)
-    ∷ (4, set_at stamp size_at)
+    (3, set_at stamp (two_at place_limit content.ToPlace))
+    ∷ (4, set_at stamp (two_at size_limit content.ToSize))
     ∷ (5, set_at stamp lone_at)
-    ∷ (8, set_at stamp (pure (ToFlag true)))
-    ∷ (9, set_at stamp (pure (ToRank (To Top))))
-    ∷ (10, set_at stamp (pure (ToRank (To Bottom))))
+    ∷ (8, set_at stamp (pure (content.ToFlag true)))
+    ∷ (9, set_at stamp (pure (content.ToRank (To Top))))
+    ∷ (10, set_at stamp (pure (content.ToRank (To Bottom))))
     ∷ (13, set_at stamp (level_at stamp))
-    ∷ (14, set_at stamp (pure (ToFlag false)))
+    ∷ (14, set_at stamp (pure (content.ToFlag false)))
     ∷ (15, set_at stamp style_at)
     ∷ (17, set_at stamp (reconnect_at stamp))
     ∷ []

@@ -4,7 +4,7 @@
 use Rattle.std.specs.Prelude.{ℕ, ℤ, true, false, Option, Some, None, List, [], ◌∷◌, ◌++◌, map, codes, decimal}
 use Rattle.std.specs.Fmt.{signed_decimal}
 use Rattle.gd_base.specs.Stamps.{Stamp}
-use Rattle.gd_base.specs.declared.content.Content.TheVariants.{ToPlace, ToSize, ToLooks, ToText, ToFlag, ToEnds, ToRank}
+use Rattle.gd_base.specs.declared.content.Content.TheVariants as content
 use Rattle.gd_base.specs.declared.look.Looks.{Looks}
 use Rattle.gd_base.specs.declared.object.Ends.{Ends}
 use Rattle.gd_base.specs.declared.content.Height.TheVariants.{To, At}
@@ -116,16 +116,18 @@ looks_fields l =
 
 -- what sets a content
 abbrev pub content_fields : Done → List Field
-content_fields (ToPlace x y) = named (codes "move") (number_field (codes "x") x ∷ number_field (codes "y") y ∷ [])
-content_fields (ToSize w h) = named (codes "resize") (number_field (codes "w") w ∷ number_field (codes "h") h ∷ [])
-content_fields (ToLooks looks) = named (codes "restyle") (looks_fields looks)
-content_fields (ToText label) = named (codes "retext") ((codes "label", quoted label) ∷ [])
-content_fields (ToFlag true) = named (codes "ungroup") []
-content_fields (ToFlag false) = named (codes "reopen") []
-content_fields (ToEnds ends) = named (codes "reconnect") (ends_fields ends)
-content_fields (ToRank (To Top)) = named (codes "raise") []
-content_fields (ToRank (To Bottom)) = named (codes "lower") []
-content_fields (ToRank (At rank)) = named (codes "rerank") ((codes "rank", rank_json rank) ∷ [])
+content_fields (content.ToPlace x y) =
+    named (codes "move") (number_field (codes "x") x ∷ number_field (codes "y") y ∷ [])
+content_fields (content.ToSize w h) =
+    named (codes "resize") (number_field (codes "w") w ∷ number_field (codes "h") h ∷ [])
+content_fields (content.ToLooks looks) = named (codes "restyle") (looks_fields looks)
+content_fields (content.ToText label) = named (codes "retext") ((codes "label", quoted label) ∷ [])
+content_fields (content.ToFlag true) = named (codes "ungroup") []
+content_fields (content.ToFlag false) = named (codes "reopen") []
+content_fields (content.ToEnds ends) = named (codes "reconnect") (ends_fields ends)
+content_fields (content.ToRank (To Top)) = named (codes "raise") []
+content_fields (content.ToRank (To Bottom)) = named (codes "lower") []
+content_fields (content.ToRank (At rank)) = named (codes "rerank") ((codes "rank", rank_json rank) ∷ [])
 
 abbrev pub op_fields : Op → List Field
 op_fields (Create kind x y w h label) =

@@ -9,7 +9,7 @@ use Rattle.gd_base.specs.declared.look.Dash.TheVariants.{Dashed, Dotted}
 use Rattle.gd_base.specs.declared.look.Heads.TheVariants.{Bare, AtEnd, AtBoth}
 use Rattle.gd_base.specs.declared.member.Member.{Member}
 use Rattle.gd_base.specs.declared.shape.Shape.TheVariants.{Rect, Ellipse, Line, Text}
-use Rattle.gd_base.specs.declared.content.Content.TheVariants.{ToPlace, ToSize, ToLooks, ToText, ToFlag, ToEnds, ToRank}
+use Rattle.gd_base.specs.declared.content.Content.TheVariants as content
 use Rattle.gd_base.specs.declared.content.Height.TheVariants.{To, At}
 use Rattle.gd_base.specs.declared.content.Side.TheVariants.{Bottom, Top}
 use Rattle.gd_base.specs.declared.op.Op.TheVariants.{Create, Delete, Set, Group as Grouped, Connect, Restore, Disband}
@@ -187,37 +187,37 @@ events_of_json = (
           "{\"clock\":8,\"id\":\"7.16\",\"op\":\"delete\",\"seq\":2,\"site\":3}",
     )
     ∷ (
-      event 9 3 3 (Set (at_stamp 7 3) (ToPlace (pos 2147483647) (negsuc 2147483646))),
+      event 9 3 3 (Set (at_stamp 7 3) (content.ToPlace (pos 2147483647) (negsuc 2147483646))),
       codes
           "{\"clock\":9,\"id\":\"7.3\",\"op\":\"move\",\"seq\":3,\"site\":3,\"x\":2147483647,\"y\":-2147483647}",
     )
     ∷ (
-      event 10 3 4 (Set (at_stamp 7 3) (ToSize (pos 11) (pos 12))),
+      event 10 3 4 (Set (at_stamp 7 3) (content.ToSize (pos 11) (pos 12))),
       codes
           "{\"clock\":10,\"h\":12,\"id\":\"7.3\",\"op\":\"resize\",\"seq\":4,\"site\":3,\"w\":11}",
     )
     ∷ (
-      event 11 3 5 (Set (at_stamp 7 3) (ToLooks (only_stroke 0x00AB0C))),
+      event 11 3 5 (Set (at_stamp 7 3) (content.ToLooks (only_stroke 0x00AB0C))),
       codes
           "{\"clock\":11,\"id\":\"7.3\",\"op\":\"restyle\",\"seq\":5,\"site\":3,\"stroke\":\"00AB0C\"}",
     )
     ∷ (
-      event 12 3 6 (Set (at_stamp 7 3) (ToLooks (only_fill (Some 0)))),
+      event 12 3 6 (Set (at_stamp 7 3) (content.ToLooks (only_fill (Some 0)))),
       codes
           "{\"clock\":12,\"fill\":\"000000\",\"id\":\"7.3\",\"op\":\"restyle\",\"seq\":6,\"site\":3}",
     )
     ∷ (
-      event 13 3 7 (Set (at_stamp 7 3) (ToLooks (only_fill None))),
+      event 13 3 7 (Set (at_stamp 7 3) (content.ToLooks (only_fill None))),
       codes
           "{\"clock\":13,\"fill\":null,\"id\":\"7.3\",\"op\":\"restyle\",\"seq\":7,\"site\":3}",
     )
     ∷ (
-      event 14 3 8 (Set (at_stamp 7 3) (ToLooks (only_width 64))),
+      event 14 3 8 (Set (at_stamp 7 3) (content.ToLooks (only_width 64))),
       codes
           "{\"clock\":14,\"id\":\"7.3\",\"op\":\"restyle\",\"seq\":8,\"site\":3,\"width\":64}",
     )
     ∷ (
-      event 15 3 9 (Set (at_stamp 7 3) (ToText odd_label)),
+      event 15 3 9 (Set (at_stamp 7 3) (content.ToText odd_label)),
       codes "{\"clock\":15,\"id\":\"7.3\",\"label\":"
           ++ odd_label_json ++ codes ",\"op\":\"retext\",\"seq\":9,\"site\":3}",
     )
@@ -226,12 +226,12 @@ events_of_json = (
       codes "{\"clock\":16,\"members\":[{\"dx\":0,\"dy\":-9,\"id\":\"2.1\"},{\"dx\":10,\"dy\":0,\"id\":\"7.3\"}],\"op\":\"group\",\"seq\":10,\"site\":3}",
     )
     ∷ (
-      event 17 3 11 (Set (at_stamp 16 3) (ToFlag true)),
+      event 17 3 11 (Set (at_stamp 16 3) (content.ToFlag true)),
       codes
           "{\"clock\":17,\"id\":\"16.3\",\"op\":\"ungroup\",\"seq\":11,\"site\":3}",
     )
     ∷ (
-      event 18 3 12 (Set (at_stamp 7 3) (ToRank (To Top))),
+      event 18 3 12 (Set (at_stamp 7 3) (content.ToRank (To Top))),
       codes
           "{\"clock\":18,\"id\":\"7.3\",\"op\":\"raise\",\"seq\":12,\"site\":3}",
     )
@@ -258,13 +258,14 @@ events_of_json = (
           "{\"clock\":20,\"from\":\"3.1\",\"label\":\"a\\nb\",\"op\":\"connect\",\"seq\":14,\"site\":3,\"to\":\"9.2\"}",
     )
     ∷ (
-      event 20 3 14 (Set (at_stamp 5 1) (ToEnds (Some arrow_ends))),
+      event 20 3 14 (Set (at_stamp 5 1) (content.ToEnds (Some arrow_ends))),
       codes
           "{\"clock\":20,\"from\":\"3.1\",\"id\":\"5.1\",\"op\":\"reconnect\",\"seq\":14,\"site\":3,\"to\":\"9.2\"}",
     )
     ∷ (
       event 20 3 14 (Set (at_stamp 5 1)
-          (ToLooks (record no_looks { stroke = Some 1; round = Some None; letters = Some None; align = Some None }))),
+          (content.ToLooks
+          (record no_looks { stroke = Some 1; round = Some None; letters = Some None; align = Some None }))),
       codes "{\"align\":null,\"clock\":20,\"id\":\"5.1\",\"letters\":null,\"op\":\"restyle\",\"round\":null,\"seq\":14,\"site\":3,\"stroke\":\"000001\"}",
     )
     ∷ (
@@ -273,17 +274,17 @@ events_of_json = (
           "{\"clock\":21,\"id\":\"9.2\",\"op\":\"disband\",\"seq\":15,\"site\":3," ++ old_ties_json ++ codes "}",
     )
     ∷ (
-      event 22 3 16 (Set (at_stamp 7 3) (ToRank (At (High (at_stamp 7 3))))),
+      event 22 3 16 (Set (at_stamp 7 3) (content.ToRank (At (High (at_stamp 7 3))))),
       codes
           "{\"clock\":22,\"id\":\"7.3\",\"op\":\"rerank\",\"rank\":{\"high\":\"7.3\"},\"seq\":16,\"site\":3}",
     )
     ∷ (
-      event 23 3 17 (Set (at_stamp 9 2) (ToFlag false)),
+      event 23 3 17 (Set (at_stamp 9 2) (content.ToFlag false)),
       codes
           "{\"clock\":23,\"id\":\"9.2\",\"op\":\"reopen\",\"seq\":17,\"site\":3}",
     )
     ∷ (
-      event 281474976710655 16 65535 (Set (at_stamp 7 3) (ToRank (To Bottom))),
+      event 281474976710655 16 65535 (Set (at_stamp 7 3) (content.ToRank (To Bottom))),
       codes
           "{\"clock\":281474976710655,\"id\":\"7.3\",\"op\":\"lower\",\"seq\":65535,\"site\":16}",
     )

@@ -1,18 +1,20 @@
 //! What becomes of an edit, and of one that names a single object.
 
-ghost use Rattle.std.specs.Prelude.{◌≡◌, ◌≤◌, ◌-ℤ◌, Some, None, MatchResult, option_map, if◌then◌else◌};
+ghost use Rattle.std.specs.Prelude.{◌≡◌, ◌≤◌, ◌-ℤ◌, Some, None, IfOk, MatchResult, option_map, if◌then◌else◌};
 ghost use Rattle.std.specs.FinMap as map_of;
+ghost use Rattle.gd_base.specs.Contents.{content_map};
 ghost use Rattle.gd_base.specs.Ranges.{place_limit, is_within};
 ghost use Rattle.gd_base.specs.Stamps.{Stamp as StampValue};
 ghost use Rattle.gd_base.specs.declared.content.Content.TheVariants.{ToEnds};
+ghost use Rattle.gd_base.specs.declared.content.Height.TheVariants.{To};
 ghost use Rattle.gd_base.specs.declared.op.Op.TheVariants.{Set};
 ghost use Rattle.gd_base.specs.declared.ranges.TheConstants.{SESSION_EVENTS};
 ghost use Rattle.gd_base.specs.declared.refusal.EditRefusal.TheVariants.{NoObject};
 ghost use Rattle.gd_events.specs.Ops.{Op as OpValue};
 ghost use Rattle.gd_model.specs.Board.{listed};
 ghost use Rattle.gd_slots.specs.Slots.{board_of};
-ghost use Rattle.gd_reference.specs.Judging.{between, judged_over, moved_of, moved_to, of_drawn, of_group, of_shape};
-ghost use Rattle.gd_reference.specs.Judging.{reconnect, reconnected, set_in, target};
+ghost use Rattle.gd_reference.specs.Judging.{between, if_had, judged_over, moved_of, moved_to, of_drawn, of_group};
+ghost use Rattle.gd_reference.specs.Judging.{of_shape, reconnect, reconnected, set_in, target};
 ghost use Rattle.gd_model.specs.Objects.{is_connector, is_placed};
 ghost use Rattle.gd_judging.specs.Faults.{EditIs};
 ghost use Rattle.gd_judging.specs.Targets.{told, if_allowed, in_range};
@@ -21,11 +23,12 @@ use crate::faults::EditFault;
 use crate::groups::group;
 use gd_base::{
     Content, Edit, EditRefusal, Ends, Height, Label, Looks, PLACE_LIMIT, Place, Side, Stamp, Text,
+    map_content,
 };
 use gd_canvas::{Canvas, Kind};
 use gd_events::{Op, PackedLooks};
 use gd_view::{Shown, shown};
-use std::alloc::Global;
+use std::alloc::{AllocError, Global};
 
 /// The operation that the edit becomes over this drawing, or the first of these refusals that applies, in this order:
 /// `NoObject` where an object that it names isn't shown; `NotShape` where it wants a shape and the object is a group,
@@ -112,31 +115,39 @@ fn set_in(
     ensures { EditIs
         (set_in (target (listed (board_of canvas.now))) id content.now (told shown.now)) result }
 {
-    let content = match content {
+    match content {
         Content::ToPlace { x, y } => return Ok(moved_of(shown, id, *x, *y)?),
-        Content::ToSize { w, h } => {
-            of_shape(shown.kind)?;
-            Content::ToSize { w: *w, h: *h }
-        }
-        Content::ToLooks(looks) => {
-            of_drawn(shown.kind)?;
-            Content::ToLooks(PackedLooks::new(alloc, looks)?)
-        }
-        Content::ToText(label) => {
-            of_drawn(shown.kind)?;
-            Content::ToText(Text::new(alloc, label)?)
-        }
-        Content::ToFlag(flag) => {
-            of_group(shown.kind)?;
-            Content::ToFlag(*flag)
-        }
-        Content::ToEnds(ends) => {
-            reconnect(canvas, shown, *ends)?;
-            Content::ToEnds(*ends)
-        }
-        Content::ToRank(side) => Content::ToRank(Height::To(*side)),
-    };
+        Content::ToEnds(ends) => reconnect(canvas, shown, *ends)?,
+        part => if_had(part, shown.kind)?,
+    }
+    let content = packed(alloc, content)?;
     Ok(Op::Set { id, content })
+}
+
+/// The content in the memory that it needs. `AllocError` where memory ran out.
+fn packed(
+    alloc: Global,
+    content: &Content<Label, Looks, Side>,
+) -> Result<Content<Text, PackedLooks, Height>, AllocError>
+    ensures { IfOk result (λ packed. packed
+        ≡ content_map (λ label. label) (λ looks. looks) To content.now) }
+{
+    Ok(map_content!(content,
+        label => Text::new(alloc, label)?,
+        looks => PackedLooks::new(alloc, looks)?,
+        side => Height::To(*side)))
+}
+
+/// Whether an object of that kind has the part that is set, which is neither a place nor ends.
+fn if_had(content: &Content<Label, Looks, Side>, kind: Kind) -> Result<(), EditRefusal>
+    ensures { (change : OpValue) → if_allowed result change ≡ if_had content.now change kind }
+{
+    match content {
+        Content::ToSize { .. } => of_shape(kind),
+        Content::ToFlag(_) => of_group(kind),
+        Content::ToRank(_) => Ok(()),
+        _ => of_drawn(kind),
+    }
 }
 
 /// Whether an object may have these ends: it is a connector, and both are shown, have a place, and aren't the same.

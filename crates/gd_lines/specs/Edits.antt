@@ -5,7 +5,7 @@ use Rattle.std.specs.Prelude.{◌++◌, drop, Option, Some, codes}
 use Rattle.gd_base.specs.Contents.{Said}
 use Rattle.gd_base.specs.Ranges.{place_limit, size_limit}
 use Rattle.gd_base.specs.Stamps.{Stamp}
-use Rattle.gd_base.specs.declared.content.Content.TheVariants.{ToPlace, ToSize, ToLooks, ToText, ToFlag, ToEnds, ToRank}
+use Rattle.gd_base.specs.declared.content.Content.TheVariants as content
 use Rattle.gd_base.specs.declared.content.Side.{Side}
 use Rattle.gd_base.specs.declared.content.Side.TheVariants.{Bottom, Top}
 use Rattle.gd_base.specs.declared.op.Nothing.{Nothing}
@@ -38,11 +38,9 @@ Edit = sum.Op (List ℕ) Looks (List Stamp) Side Nothing Nothing
 unfoldable pub kind_at : Reader Shape
 kind_at line = next BadKind kind line
 
-unfoldable pub place_at : Reader ℤ
-place_at line = next BadNumber (number_in (neg_ℤ (pos place_limit)) (pos place_limit)) line
-
-unfoldable pub size_at : Reader ℤ
-size_at line = next BadNumber (number_in (neg_ℤ (pos size_limit)) (pos size_limit)) line
+-- a number within the limit
+unfoldable pub within_at : ℕ → Reader ℤ
+within_at limit line = next BadNumber (number_in (neg_ℤ (pos limit)) (pos limit)) line
 
 unfoldable pub natural_at : ℕ → ℕ → Reader ℕ
 natural_at low high line = next BadNumber (natural_in low high) line
@@ -75,10 +73,10 @@ ids_at (suc count) ids = do
 unfoldable pub create_words : Reader Command
 create_words = do
   kind ← kind_at
-  x ← place_at
-  y ← place_at
-  w ← size_at
-  h ← size_at
+  x ← within_at place_limit
+  y ← within_at place_limit
+  w ← within_at size_limit
+  h ← within_at size_limit
   label ← label_at
   pure (command.Edit (Create kind x y w h label))
 
@@ -108,17 +106,12 @@ set_words content = do
 
 -- ---- contents
 
-unfoldable pub place_words : Reader Said
-place_words = do
-  x ← place_at
-  y ← place_at
-  pure (ToPlace x y)
-
-unfoldable pub size_words : Reader Said
-size_words = do
-  w ← size_at
-  h ← size_at
-  pure (ToSize w h)
+-- what two numbers within the limit make
+unfoldable pub two_words : ℕ → (ℤ → ℤ → Said) → Reader Said
+two_words limit make = do
+  x ← within_at limit
+  y ← within_at limit
+  pure (make x y)
 
 -- the value of a part of a look, with those that were read
 unfoldable pub value_at : LookName → Looks → Reader Looks
@@ -154,7 +147,7 @@ value_at look.Align l = do
 unfoldable pub look_words : LookName → Reader Said
 look_words name = do
   looks ← value_at name no_looks
-  pure (ToLooks looks)
+  pure (content.ToLooks looks)
 
 -- the name of a part that wasn't named yet, and its value
 unfoldable pub named_at : Looks → Reader Looks
@@ -172,7 +165,7 @@ looks_at (suc count) looks = do
 unfoldable pub style_words : ℕ → Reader Said
 style_words count = do
   looks ← looks_at count no_looks
-  pure (ToLooks looks)
+  pure (content.ToLooks looks)
 
 unfoldable pub ends_at : Reader Ends
 ends_at = do
@@ -183,12 +176,12 @@ ends_at = do
 unfoldable pub ends_words : Reader Said
 ends_words = do
   ends ← ends_at
-  pure (ToEnds (Some ends))
+  pure (content.ToEnds (Some ends))
 
 unfoldable pub text_words : Reader Said
 text_words = do
   label ← label_at
-  pure (ToText label)
+  pure (content.ToText label)
 
 -- ---- rows
 
@@ -207,9 +200,9 @@ other_rows =
     ∷ row (codes "connect") (at_least 2) (λ n. connect_words)
     ∷ sets (codes "reconnect") 3 ends_words
     ∷ row (codes "group") (from_to 2 MOST_MEMBERS) group_words
-    ∷ sets (codes "ungroup") 1 (pure (ToFlag true))
-    ∷ sets (codes "raise") 1 (pure (ToRank Top))
-    ∷ sets (codes "lower") 1 (pure (ToRank Bottom))
+    ∷ sets (codes "ungroup") 1 (pure (content.ToFlag true))
+    ∷ sets (codes "raise") 1 (pure (content.ToRank Top))
+    ∷ sets (codes "lower") 1 (pure (content.ToRank Bottom))
     ∷ []
 
 -- of looks, and then the others
@@ -231,6 +224,6 @@ unfoldable pub edit_rows : List (Row Command)
 edit_rows =
     row (codes "create") (at_least 5) (λ n. create_words)
     ∷ row (codes "delete") (exactly 1) (λ n. delete_words)
-    ∷ sets (codes "move") 3 place_words
-    ∷ sets (codes "resize") 3 size_words
+    ∷ sets (codes "move") 3 (two_words place_limit content.ToPlace)
+    ∷ sets (codes "resize") 3 (two_words size_limit content.ToSize)
     ∷ look_rows

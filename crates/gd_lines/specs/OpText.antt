@@ -5,7 +5,7 @@ use Rattle.std.specs.Prelude.{◌==◌, if◌then◌else◌}
 use Rattle.std.specs.Fmt.{signed_decimal}
 use Rattle.std.specs.List.{flat_map}
 use Rattle.gd_base.specs.Stamps.{Stamp}
-use Rattle.gd_base.specs.declared.content.Content.TheVariants.{ToPlace, ToSize, ToLooks, ToText, ToFlag, ToEnds, ToRank}
+use Rattle.gd_base.specs.declared.content.Content.TheVariants as content
 use Rattle.gd_base.specs.declared.content.Height.TheVariants.{To, At}
 use Rattle.gd_base.specs.declared.content.Side.TheVariants.{Bottom, Top}
 use Rattle.gd_base.specs.declared.look.Align.{Align}
@@ -135,16 +135,16 @@ state_text o = link_text o.link ++ dissolved_text o.dissolved ++ rank_text o.ran
 
 -- what sets a content
 abbrev pub content_text : Stamp → Done → List ℕ
-content_text id (ToPlace x y) = command_text (codes "move") id ++ two_text x y
-content_text id (ToSize w h) = command_text (codes "resize") id ++ two_text w h
-content_text id (ToLooks looks) = looks_text id (parts_of looks)
-content_text id (ToText label) = command_text (codes "text") id ++ behind_text label
-content_text id (ToFlag true) = command_text (codes "ungroup") id
-content_text id (ToFlag false) = command_text (codes "reopen") id
-content_text id (ToRank (To Top)) = command_text (codes "raise") id
-content_text id (ToRank (To Bottom)) = command_text (codes "lower") id
-content_text id (ToEnds ends) = command_text (codes "reconnect") id ++ ends_text ends
-content_text id (ToRank (At rank)) = command_text (codes "rerank") id ++ rank_text rank
+content_text id (content.ToPlace x y) = command_text (codes "move") id ++ two_text x y
+content_text id (content.ToSize w h) = command_text (codes "resize") id ++ two_text w h
+content_text id (content.ToLooks looks) = looks_text id (parts_of looks)
+content_text id (content.ToText label) = command_text (codes "text") id ++ behind_text label
+content_text id (content.ToFlag true) = command_text (codes "ungroup") id
+content_text id (content.ToFlag false) = command_text (codes "reopen") id
+content_text id (content.ToRank (To Top)) = command_text (codes "raise") id
+content_text id (content.ToRank (To Bottom)) = command_text (codes "lower") id
+content_text id (content.ToEnds ends) = command_text (codes "reconnect") id ++ ends_text ends
+content_text id (content.ToRank (At rank)) = command_text (codes "rerank") id ++ rank_text rank
 
 abbrev pub op_text : Op → List ℕ
 op_text (Create kind x y w h label) =

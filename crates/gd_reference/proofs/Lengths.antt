@@ -3,7 +3,7 @@ use Rattle.std.proofs.Common.{◌≡◌, ℕ, suc, ◌+◌, ◌*◌, ◌≤◌, 
 use Rattle.std.proofs.Common.{length-append, arith}
 use Rattle.std.proofs.lemmas.Bool.{cond_both}
 use Rattle.gd_base.specs.Contents.{IsTypedBy}
-use Rattle.gd_base.specs.declared.content.Content.TheVariants.{ToPlace, ToSize, ToLooks, ToText, ToFlag, ToEnds, ToRank}
+use Rattle.gd_base.specs.declared.content.Content.TheVariants as content
 use Rattle.gd_base.specs.declared.content.Height.TheVariants.{To, At}
 use Rattle.gd_base.specs.declared.member.Member.{Member}
 use Rattle.gd_base.specs.declared.op.Op.TheVariants.{Connect, Create, Delete, Set, Group, Restore, Disband}
@@ -97,16 +97,14 @@ style-short l =
 -- ---- operations
 
 content-short : (content : Done) → IsTypedBy IsHeight content → length (content_bytes content) ≤ 502
-content-short (ToPlace x y) typed = omega arith
-content-short (ToSize w h) typed = omega arith
-content-short (ToLooks looks) typed = omega (arith, style-short looks)
-content-short (ToText label) typed = text-short label typed.fits
-content-short (ToFlag flag) typed = omega arith
-content-short (ToEnds None) typed = omega arith
-content-short (ToEnds (Some ends)) typed = omega arith
-content-short (ToRank (To side)) typed = omega arith
-content-short (ToRank (At (Low stamp))) typed = omega arith
-content-short (ToRank (At (High stamp))) typed = omega arith
+content-short (content.ToLooks looks) typed = omega (arith, style-short looks)
+content-short (content.ToText label) typed = text-short label typed.fits
+content-short (content.ToEnds None) typed = omega arith
+content-short (content.ToEnds (Some ends)) typed = omega arith
+content-short (content.ToRank (To side)) typed = omega arith
+content-short (content.ToRank (At (Low stamp))) typed = omega arith
+content-short (content.ToRank (At (High stamp))) typed = omega arith
+content-short content typed = omega arith
 
 op-short : (op : Op) → IsWellTyped op → HasNoTies op → length (op_bytes op) ≤ 520
 op-short (Create kind x y w h label) typed free = omega (arith, text-short label typed.fits)

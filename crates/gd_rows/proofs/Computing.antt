@@ -80,8 +80,8 @@ unfolding chars is_utf8 fields.byte_at fields.byte_within fields.check_word_at f
     operations.all_ties_at operations.create_at operations.disband_at operations.restore_at operations.tie_at
     kinds.event_at bytes.fill_at operations.group_at bytes.label_at fields.id_at fields.label_within fields.length_at
     fields.long_label_at operations.member_at bytes.count_at bytes.member_id_at bytes.parent_id_at fields.number_at
-    operations.connect_at operations.ends_at operations.lone_at operations.style_at operations.op_at operations.place_at
-    operations.set_at operations.size_at bytes.shape_at fields.signed_at fields.site_at fields.stamp_at bytes.width_at
+    operations.connect_at operations.ends_at operations.lone_at operations.style_at operations.op_at
+    operations.set_at operations.two_at bytes.shape_at fields.signed_at fields.site_at fields.stamp_at bytes.width_at
     fields.word_at checks.next checks.nexts checks.with_bytes chained of_site body_at event_count_at each_bytes focus_at
     frame frame_at many_at steps frame_magic_at frame_version_at half_at head_at name_at name_text_at next_event_at
     note_at six_at events_at gated_bytes header_at log magic_at record_at sites_at step_at turn_fault version_at
@@ -99,8 +99,8 @@ unfolding chars is_utf8 encode_utf8 digits ops.command_text ops.member_text ops.
     ops.whole_text behind count_from without_cr word then_at by_name edits.colour_at edits.create_words
     edits.delete_words edits.edit_rows edits.look_rows edits.other_rows edits.connect_words edits.ends_at
     edits.ends_words edits.fill_at edits.group_words edits.id_at edits.ids_at edits.kind_at edits.label_at
-    edits.look_words edits.looks_at edits.named_at edits.natural_at edits.place_at edits.place_words edits.set_words
-    edits.size_at edits.size_words edits.style_words edits.text_words edits.value_at edits.width_at lines.asked_rows
+    edits.look_words edits.looks_at edits.named_at edits.natural_at edits.within_at edits.two_words edits.set_words
+    edits.style_words edits.text_words edits.value_at edits.width_at lines.asked_rows
     lines.command_rows lines.focus_at lines.focus_words lines.name_at lines.name_words lines.read event_json link_json
     rank_json tie_json item_json member_json put_field at_words deliver_words mail_at read_script script_rows send_words
     site_at applied_line arrivals_line backdated_line bad_frame_line done_line dropped_line link_fault_line noted_line

@@ -1,6 +1,6 @@
 -- Where the bytes of a field aren't all there, the fault is at their end: of each field of events, objects and
 -- snapshots.
-use Rattle.std.proofs.Common.{◌≡◌, ◌≢◌, ℕ, zero, suc, Bool, true, false, cond, ltb, List, [], ◌∷◌, length, take, drop}
+use Rattle.std.proofs.Common.{◌≡◌, ◌≢◌, ℕ, ℤ, zero, suc, Bool, true, false, cond, ltb, List, [], ◌∷◌, length, take, drop}
 use Rattle.std.proofs.Common.{Option, Some, None, Result, Ok, Err, refl, ap, ◌∙◌}
 use Rattle.std.specs.List.{AllByRecursion}
 use Rattle.std.specs.Prelude.{◌==◌}
@@ -34,7 +34,7 @@ use Rattle.gd_grammar.specs.ObjectBytes.{kind_rows, kind_at, flag_rows, flag_at,
 use Rattle.gd_grammar.specs.ObjectBytes.{link_at, given_at, some_ends_at, ends_rows, ends_or_none_at, joined_rows}
 use Rattle.gd_grammar.specs.ObjectBytes.{joined_at, own_ends_at, rank_rows, rank_at, own_label_at, of_kind_at}
 use Rattle.gd_grammar.specs.ObjectBytes.{object_at}
-use Rattle.gd_grammar.specs.OpBytes.{place_at, size_at, look_rows, lone_at, style_at, ends_at, create_at, set_at}
+use Rattle.gd_grammar.specs.OpBytes.{two_at, look_rows, lone_at, style_at, ends_at, create_at, set_at}
 use Rattle.gd_grammar.specs.OpBytes.{member_at, group_at, tie_at, all_ties_at, connect_at, restore_at, disband_at}
 use Rattle.gd_grammar.specs.OpBytes.{op_rows, op_at}
 use Rattle.gd_grammar.specs.Readers.{picked, by_tag, by_tag_within}
@@ -404,8 +404,12 @@ end-style : Ends style_at
 unfolding style_at then_at
 end-style bytes = end-then _ _ (end-looks bytes) (λ looks. end-ranged _ _ bytes looks.1)
 
+end-two : (limit : ℕ) (make : ℤ → ℤ → Done) → Ends (two_at limit make)
+unfolding two_at
+end-two limit make = end-next (end-signed limit) (λ x. end-next (end-signed limit) (λ y. end-pure _))
+
 end-op : (v : version.Version) (stamp : Stamp) → Ends (op_at v stamp)
-unfolding op_at place_at size_at
+unfolding op_at
 end-op v stamp = end-tags-within _ (op_rows v stamp) (
     end-create v
     & end-next (end-id stamp) (λ id. end-pure _)
@@ -414,8 +418,8 @@ end-op v stamp = end-tags-within _ (op_rows v stamp) (
     & end-restore stamp
     & end-disband stamp
     & end-connect v stamp
-    & end-set stamp _ (end-next (end-signed place_limit) (λ x. end-next (end-signed place_limit) (λ y. end-pure _)))
-    & end-set stamp _ (end-next (end-signed size_limit) (λ w. end-next (end-signed size_limit) (λ h. end-pure _)))
+    & end-set stamp _ (end-two _ _)
+    & end-set stamp _ (end-two _ _)
     & end-set stamp _ end-lone
     & end-set stamp _ (end-pure _)
     & end-set stamp _ (end-pure _)

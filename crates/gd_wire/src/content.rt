@@ -3,14 +3,13 @@ ghost use Rattle.std.specs.Prelude.{◌≡◌, IfOk};
 ghost use Rattle.gd_base.specs.Results.{Gives};
 ghost use Rattle.gd_base.specs.declared.content.Content.TheVariants.{ToLooks};
 ghost use Rattle.gd_grammar.specs.EventBytes.{colour_at, fill_at, width_at};
-ghost use Rattle.gd_grammar.specs.OpBytes.{ends_at, level_at, lone_at, place_at, reconnect_at, size_at};
+ghost use Rattle.gd_grammar.specs.OpBytes.{ends_at, level_at, lone_at, reconnect_at};
 ghost use Rattle.gd_wire.specs.Packed.{GivesPacked};
 
 use crate::bytes::Bytes;
 use crate::pack_error::PackError;
 use gd_base::{
-    COLOUR_LIMIT, Content, Ends, FieldFault, FieldWhy, Height, Looks, PLACE_LIMIT, SIZE_LIMIT,
-    Stamp, Text, WIDTH_LIMIT,
+    COLOUR_LIMIT, Content, Ends, FieldFault, FieldWhy, Height, Looks, Stamp, Text, WIDTH_LIMIT,
 };
 use gd_events::PackedLooks;
 use std::alloc::{AllocError, Global};
@@ -29,24 +28,6 @@ pub(crate) fn looks_of(alloc: Global, looks: &Looks) -> Result<Done, AllocError>
 pub(crate) const NO_FILL: u32 = 0xFFFF_FFFF;
 
 impl<'a> Bytes<'a> {
-    #[tactic(auto, unfolding(gd_grammar::specs::OpBytes::place_at, gd_grammar::specs::Readers::steps))]
-    pub(crate) fn place(&mut self) -> Result<Done, FieldFault>
-        ensures { Gives (λ c. (c, self.new)) result (place_at self.old) }
-    {
-        let x = self.signed(PLACE_LIMIT)?;
-        let y = self.signed(PLACE_LIMIT)?;
-        Ok(Content::ToPlace { x, y })
-    }
-
-    #[tactic(auto, unfolding(gd_grammar::specs::OpBytes::size_at, gd_grammar::specs::Readers::steps))]
-    pub(crate) fn size(&mut self) -> Result<Done, FieldFault>
-        ensures { Gives (λ c. (c, self.new)) result (size_at self.old) }
-    {
-        let w = self.signed(SIZE_LIMIT)?;
-        let h = self.signed(SIZE_LIMIT)?;
-        Ok(Content::ToSize { w, h })
-    }
-
     /// A rank that an object had.
     #[tactic(auto, unfolding(gd_grammar::specs::Readers::steps))]
     pub(crate) fn level(&mut self, stamp: Stamp) -> Result<Done, FieldFault>

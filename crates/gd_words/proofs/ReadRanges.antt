@@ -32,8 +32,8 @@ use Rattle.gd_lines.specs.declared.command.Command.{Command}
 use Rattle.gd_lines.specs.declared.command.Command.TheVariants as command
 use Rattle.gd_lines.specs.declared.command.ScriptLine.{ScriptLine}
 use Rattle.gd_lines.specs.declared.command.ScriptLine.TheVariants as script
-use Rattle.gd_lines.specs.Edits.{kind_at, place_at, size_at, natural_at, width_at, id_at, colour_at, fill_at, label_at}
-use Rattle.gd_lines.specs.Edits.{ids_at, create_words, delete_words, group_words, set_words, place_words, size_words}
+use Rattle.gd_lines.specs.Edits.{kind_at, within_at, natural_at, width_at, id_at, colour_at, fill_at, label_at}
+use Rattle.gd_lines.specs.Edits.{ids_at, create_words, delete_words, group_words, set_words, two_words}
 use Rattle.gd_lines.specs.Edits.{value_at, look_words, named_at, looks_at, style_words, ends_at, ends_words}
 use Rattle.gd_lines.specs.Edits.{connect_words, text_words, pairs, other_rows, look_rows, edit_rows}
 use Rattle.gd_lines.specs.InRange.{IsCommand, IsAsked, IsScriptLine}
@@ -193,13 +193,9 @@ label_in line = by_spelling IsLabel _ _ _ (label_by (unescaped false (drop 1 lin
 natural_read : (low high : ℕ) → Reads (InRange low high) (natural_at low high)
 natural_read low high = record { at = natural_in_range low high }
 
-place_read : Reads (InLimit place_limit) place_at
-unfolding place_at
-place_read = record { at = within_in place_limit }
-
-size_read : Reads (InLimit size_limit) size_at
-unfolding size_at
-size_read = record { at = within_in size_limit }
+within_read : (limit : ℕ) → Reads (InLimit limit) (within_at limit)
+unfolding within_at
+within_read limit = record { at = within_in limit }
 
 width_read : Reads (λ n. is_width n ≡ true) width_at
 width_read = record { at = width_in }
@@ -235,14 +231,13 @@ ids_read (suc count) n ids total h =
 
 -- ---- contents
 
-place_said : Reads IsSaid place_words
-unfolding place_words
-place_said = then_reads place_read
-    (λ x in_x. then_reads place_read (λ y in_y. pure_reads _ (tt, and_from _ _ in_x in_y)))
-
-size_said : Reads IsSaid size_words
-unfolding size_words
-size_said = then_reads size_read (λ w in_w. then_reads size_read (λ h in_h. pure_reads _ (tt, and_from _ _ in_w in_h)))
+two_said : (limit : ℕ) (make : ℤ → ℤ → Said)
+    → ((x y : ℤ) → (is_within limit x && is_within limit y) ≡ true → IsSaid (make x y))
+    → Reads IsSaid (two_words limit make)
+unfolding two_words
+two_said limit make said =
+    then_reads (within_read limit)
+    (λ x in_x. then_reads (within_read limit) (λ y in_y. pure_reads _ (said x y (and_from _ _ in_x in_y))))
 
 text_said : Reads IsSaid text_words
 unfolding text_words
@@ -419,8 +414,8 @@ IsFit c = IsCommand c × IsAsked c
 create_read : Reads IsFit create_words
 unfolding create_words
 create_read =
-    then_reads (any kind_at) (λ kind a. then_reads place_read (λ x in_x. then_reads place_read (λ y in_y.
-    then_reads size_read (λ w in_w. then_reads size_read (λ h in_h. then_reads label_read (λ label is.
+    then_reads (any kind_at) (λ kind a. then_reads (within_read _) (λ x in_x. then_reads (within_read _) (λ y in_y.
+    then_reads (within_read _) (λ w in_w. then_reads (within_read _) (λ h in_h. then_reads label_read (λ label is.
     pure_reads _ ((and_from _ _ in_x (and_from _ _ in_y (and_from _ _ in_w in_h)), is), tt)))))))
 
 delete_read : Reads IsFit delete_words
@@ -511,9 +506,9 @@ edits_read = (
   (
     λ n fit. delete_read,
     (
-      λ n fit. set_read place_said,
+      λ n fit. set_read (two_said _ _ (λ x y is. (tt, is))),
       (
-        λ n fit. set_read size_said,
+        λ n fit. set_read (two_said _ _ (λ w h is. (tt, is))),
         styles_read,
       ),
     ),

@@ -3,11 +3,13 @@
 
 ghost use Rattle.std.specs.Prelude.{◌≡◌, ◌≤◌};
 ghost use Rattle.gd_base.specs.Looks.{no_looks};
+ghost use Rattle.gd_base.specs.Ranges.{place_limit, size_limit};
 ghost use Rattle.gd_base.specs.Results.{Gives};
+ghost use Rattle.gd_base.specs.declared.content.Content.TheVariants as content;
 ghost use Rattle.gd_base.specs.declared.ranges.TheConstants.{MOST_MEMBERS};
 ghost use Rattle.gd_lines.specs.Edits.{connect_words, create_words, delete_words, edit_rows, ends_at, ends_words};
 ghost use Rattle.gd_lines.specs.Edits.{group_words, look_rows, look_words, looks_at, named_at, other_rows, pairs};
-ghost use Rattle.gd_lines.specs.Edits.{place_words, set_words, size_words, style_words, text_words, value_at};
+ghost use Rattle.gd_lines.specs.Edits.{set_words, style_words, text_words, two_words, value_at};
 ghost use Rattle.gd_lines.specs.Reading.{pure};
 ghost use Rattle.gd_lines.specs.Rows.{by_name};
 ghost use Rattle.gd_words.specs.Asked.{Asks};
@@ -16,7 +18,7 @@ use crate::rows::{Asked, by_name};
 use crate::words::Words;
 use gd_base::{
     Content, Edit, Ends, LETTERS_LIMIT, Label, LineFault, Looks, MOST_MEMBERS, OPACITY_LIMIT,
-    ROUND_LIMIT, Side,
+    PLACE_LIMIT, ROUND_LIMIT, SIZE_LIMIT, Side,
 };
 use gd_lines::{Command, LookName};
 
@@ -84,10 +86,10 @@ fn create(words: &mut Words<'_>, command: &mut Command) -> Result<(), LineFault>
 {
     *command = Command::Edit(Edit::Create {
         kind: words.kind()?,
-        x: words.place()?,
-        y: words.place()?,
-        w: words.size()?,
-        h: words.size()?,
+        x: words.within(PLACE_LIMIT)?,
+        y: words.within(PLACE_LIMIT)?,
+        w: words.within(SIZE_LIMIT)?,
+        h: words.within(SIZE_LIMIT)?,
         label: words.label()?,
     });
     Ok(())
@@ -126,26 +128,28 @@ fn set(
 }
 
 fn set_place(words: &mut Words<'_>, command: &mut Command) -> Result<(), LineFault>
-    ensures { Gives (λ u. (command.new, words.new)) result (set_words place_words words.old) }
+    ensures { Gives (λ u. (command.new, words.new)) result
+        (set_words (two_words place_limit content.ToPlace) words.old) }
 {
     *command = Command::Edit(Edit::Set {
         id: words.id()?,
         content: Content::ToPlace {
-            x: words.place()?,
-            y: words.place()?,
+            x: words.within(PLACE_LIMIT)?,
+            y: words.within(PLACE_LIMIT)?,
         },
     });
     Ok(())
 }
 
 fn set_size(words: &mut Words<'_>, command: &mut Command) -> Result<(), LineFault>
-    ensures { Gives (λ u. (command.new, words.new)) result (set_words size_words words.old) }
+    ensures { Gives (λ u. (command.new, words.new)) result
+        (set_words (two_words size_limit content.ToSize) words.old) }
 {
     *command = Command::Edit(Edit::Set {
         id: words.id()?,
         content: Content::ToSize {
-            w: words.size()?,
-            h: words.size()?,
+            w: words.within(SIZE_LIMIT)?,
+            h: words.within(SIZE_LIMIT)?,
         },
     });
     Ok(())

@@ -19,7 +19,7 @@ use Rattle.rand_core.specs.Pcg32Seed.{pcg32_seed}
 use Rattle.rand_pcg.specs.Lcg.{Lcg}
 use Rattle.rand_pcg.specs.Pcg.{pcg32, pcg32_of_seed}
 use Rattle.gd_base.specs.Stamps.{Stamp}
-use Rattle.gd_base.specs.declared.content.Content.TheVariants.{ToPlace, ToLooks, ToText, ToFlag, ToEnds, ToRank}
+use Rattle.gd_base.specs.declared.content.Content.TheVariants as content
 use Rattle.gd_base.specs.Looks.{no_looks}
 use Rattle.gd_base.specs.declared.look.Dash.{Dash}
 use Rattle.gd_base.specs.declared.look.Dash.TheVariants.{Solid, Dashed, Dotted}
@@ -88,7 +88,7 @@ move picked = do
   id ← picked
   x ← below 1000
   y ← below 1000
-  known (Set id (ToPlace (pos x) (pos y)))
+  known (Set id (content.ToPlace (pos x) (pos y)))
 
 abbrev pub group : Draws Stamp → Draws Edit
 group picked = do
@@ -100,7 +100,7 @@ abbrev pub stroke : Draws Stamp → Draws Edit
 stroke picked = do
   id ← picked
   colour ← below 16777216
-  known (Set id (ToLooks (record no_looks { stroke = Some colour })))
+  known (Set id (content.ToLooks (record no_looks { stroke = Some colour })))
 
 -- the ends of a connector, perhaps the same
 abbrev pub ends : Draws Stamp → Draws Ends
@@ -118,7 +118,7 @@ abbrev pub reconnect : Draws Stamp → Draws Edit
 reconnect picked = do
   id ← picked
   between ← ends picked
-  known (Set id (ToEnds (Some between)))
+  known (Set id (content.ToEnds (Some between)))
 
 abbrev pub dash_of : ℕ → Dash
 dash_of n = if n == 0 then Solid else if n == 1 then Dashed else Dotted
@@ -130,7 +130,7 @@ style picked = do
   colour ← below 16777216
   dash ← below 3
   opacity ← below 100
-  known (Set id (ToLooks
+  known (Set id (content.ToLooks
       (record no_looks { stroke = Some colour; dash = Some (dash_of dash); opacity = Some (1 + opacity) })))
 
 -- a label of two lines, the second one of a letter
@@ -138,7 +138,7 @@ abbrev pub write : Draws Stamp → Draws Edit
 write picked = do
   id ← picked
   letter ← below 26
-  known (Set id (ToText (codes "churn\n" ++ (97 + letter) ∷ [])))
+  known (Set id (content.ToText (codes "churn\n" ++ (97 + letter) ∷ [])))
 
 -- a site is asked for an edit
 abbrev pub asks : ℕ → Draws Edit → Draws (Option ScriptLine)
@@ -175,9 +175,9 @@ line_for made mails site number =
     if nat_lt number 4 then asks site create
     else if nat_lt number 7 then asks_of made site move
     else if number == 7 then asks_of made site (change Delete)
-    else if number == 8 then asks_of made site (change (λ id. Set id (ToRank Top)))
+    else if number == 8 then asks_of made site (change (λ id. Set id (content.ToRank Top)))
     else if number == 9 then asks_of made site group
-    else if number == 10 then asks_of made site (change (λ id. Set id (ToFlag true)))
+    else if number == 10 then asks_of made site (change (λ id. Set id (content.ToFlag true)))
     else if number == 11 then asks_of made site stroke
     else if nat_lt number 14 then send site
     else if nat_lt number 16 then deliver mails
