@@ -111,7 +111,7 @@ class Connectors(WithBoard):
     def test_pictures_have_heads_and_dashes(self):
         _, name = self.connected()
         self.one.do("ed.edits.do('looks', [arguments[0]])", f"style {name} dash dashed heads both opacity 50")
-        wait_for(lambda: self.two.do("return ed.model.byId.get(arguments[0]).looks", name) == {"dash": "dashed", "heads": "both", "opacity": 50})
+        wait_for(lambda: self.two.do("return ed.model.byId.get(arguments[0])?.looks", name) == {"dash": "dashed", "heads": "both", "opacity": 50})
         self.settled(self.one)
         self.one.do("ed.selection.clear()")
         picture = self.one.ask("ed.exporting.svgText()")
