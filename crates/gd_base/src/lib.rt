@@ -33,7 +33,7 @@ pub use content::{Content, Height, Side, is_within};
 pub use fault::{FieldFault, FieldWhy, LogWhy, ViewWhy, WireFault, WireWhy};
 pub use ids::Ids;
 pub use item::{Body, Item, JoinedItem, ShapeItem};
-pub use label::{Label, LabelFault};
+pub use label::{Label, LabelFault, contains_strange};
 pub use look::{Align, Dash, Heads, LOOKS, Look, Looks};
 pub use member::{Member, Members};
 pub use name::Name;

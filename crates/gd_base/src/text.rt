@@ -41,7 +41,14 @@ impl Text {
     pub fn new(alloc: Global, label: &Label) -> Result<Self, AllocError>
         ensures { IfOk result (λ text. text ≡ label.now) }
     {
-        let text = label.as_str();
+        Text::from_str(alloc, label.as_str())
+    }
+
+    /// The same of a text that is a label.
+    pub fn from_str(alloc: Global, text: &str) -> Result<Self, AllocError>
+        requires { IsLabel text.now }
+        ensures { IfOk result (λ t. t ≡ text.now) }
+    {
         if text.is_empty() {
             return Ok(Text { shared: None });
         }
