@@ -4,7 +4,7 @@ ghost use Rattle.gd_base.specs.Results.{Gives};
 ghost use Rattle.gd_grammar.specs.FieldBytes.{signed_bytes};
 ghost use Rattle.gd_grammar.specs.ObjectBytes.{ends_or_none_at, joined_at, kind_at, flag_at, parent_at, some_ends_at};
 ghost use Rattle.gd_grammar.specs.ObjectBytes.{some_link_at, link_at};
-ghost use Rattle.gd_grammar.specs.ObjectBytes.{given_at, object_at, of_kind_at, own_ends_at, own_label_at, rank_at};
+ghost use Rattle.gd_grammar.specs.ObjectBytes.{given_at, object_at, of_kind_at, own_ends_at, rank_at};
 ghost use Rattle.gd_grammar.specs.Spelling.{ends_bytes, kind_byte, flag_byte, link_bytes, rank_bytes, object_bytes};
 ghost use Rattle.gd_grammar.specs.declared.sizes.TheConstants.{EVENT_BYTES, OBJECT_BYTES};
 ghost use Rattle.gd_wire.specs.Packed.{GivesPacked};
@@ -13,8 +13,7 @@ use crate::buffer::EventBytes;
 use crate::bytes::Bytes;
 use crate::pack_error::PackError;
 use gd_base::{
-    Ends, FieldFault, FieldWhy, Kind, Label, Link, Object, PLACE_LIMIT, Rank, SIZE_LIMIT, Shape,
-    Stamp,
+    Ends, FieldFault, FieldWhy, Kind, Link, Object, PLACE_LIMIT, Rank, SIZE_LIMIT, Shape, Stamp,
 };
 use gd_grammar::Naming;
 use std::alloc::Global;
@@ -74,17 +73,6 @@ impl<'a> Bytes<'a> {
             dissolved,
             rank,
         })
-    }
-
-    /// The label of an object of that kind: the one of a group is a title.
-    #[tactic(auto, unfolding(gd_grammar::specs::ObjectBytes::own_label_at))]
-    pub(crate) fn own_label(&mut self, kind: Kind) -> Result<Label, FieldFault>
-        ensures { Gives (λ x. (x, self.new)) result (own_label_at kind self.old) }
-    {
-        match kind {
-            Kind::Group => self.label_within(200),
-            Kind::Shape(_) | Kind::Connector => self.long_label(),
-        }
     }
 
     #[tactic(auto, unfolding(gd_grammar::specs::ObjectBytes::kind_at, gd_grammar::specs::Readers::steps))]
