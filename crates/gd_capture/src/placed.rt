@@ -14,10 +14,10 @@ use std::alloc::{AllocError, Global};
 pub(crate) fn placed_of(alloc: Global, canvas: &Canvas) -> Result<PlacedList, AllocError>
     ensures { IfOk result (λ placed. placed ≡ map_of.entries (board_of canvas.now)) }
 {
-    let mut ids = ids(alloc, canvas)?;
+    let ids = ids(alloc, canvas)?;
     let mut placed = PlacedList::new(alloc);
-    'ids: while let Some(id) = ids.pop_first() {
-        put_last(&mut placed, copy_of(canvas, id)?)?;
+    'ids: for id in &ids {
+        put_last(&mut placed, copy_of(canvas, *id)?)?;
     }
     Ok(placed)
 }

@@ -1,18 +1,17 @@
 -- The levels gathered from the slots are those of the stack.
-use Rattle.std.proofs.Common.{◌≡◌, ℕ, zero, suc, ◌<◌, true, false, cond, ◌&&◌, List, [], ◌∷◌, map, length, drop, Option}
-use Rattle.std.proofs.Common.{None, Some, refl, sym, ap, ◌∙◌, subst, T, arith, Ordering}
-use Rattle.std.specs.Prelude.{option_map}
-use Rattle.std.specs.Ordering.{eq_by_cmp, match_ordering}
-use Rattle.std.specs.declared.cmp.Ordering.TheVariants.{Less, Equal, Greater}
+use Rattle.std.proofs.Common.{◌≡◌, ℕ, zero, suc, ◌+◌, add-one, ◌<◌, true, false, cond, ◌&&◌, List, [], ◌∷◌, map}
+use Rattle.std.proofs.Common.{length, drop, Option, None, Some, refl, sym, ap, ◌∙◌, subst, T, arith, Ordering}
+use Rattle.std.specs.Prelude.{◌++◌, option_map, option_to_list}
+use Rattle.std.specs.Ordering.{eq_by_cmp}
 use Rattle.std.specs.List.{IsDistinct, AllByRecursion as Every, filter_map, cons_option}
 use Rattle.std.specs.FinMap as map_of
-use Rattle.std.specs.FinMap.Entries.{put, by_order, below_all}
-use Rattle.std.specs.BTreeSet.{insert_key}
-use Rattle.std.specs.Cmp.{IsTotalOrder}
-use Rattle.std.proofs.Math.Seq.{drop-length}
+use Rattle.std.specs.List.Sorted.{IsPermutation, IsSorted}
+use Rattle.std.specs.FinMap.Entries.{below_all}
+use Rattle.std.proofs.Math.Seq.{append_snoc, drop-length}
+use Rattle.std.proofs.lemmas.List.Sorted.{IsPermutation-refl, IsPermutation-trans, IsPermutation-cons}
 use Rattle.gd_base.specs.Stamps.{stamp_cmp, is_same}
 use Rattle.gd_base.proofs.StampLemmas.{is_same-true, is_same-refl}
-use Rattle.gd_base.specs.StampTotal.{stamp_cmp-total}
+use Rattle.gd_base.specs.StampTotal.{stamp_cmp-total, stamp_cmp-IsAntisymmetric}
 use Rattle.gd_base.specs.Stamps.{Stamp}
 use Rattle.gd_base.specs.Whole.{Object}
 use Rattle.gd_model.specs.Board.{Board, levels, stack}
@@ -28,12 +27,12 @@ use Rattle.gd_model.specs.Shown.{shown, shown_items}
 use Rattle.gd_base.specs.declared.item.Item.{Item}
 use Rattle.gd_drawing.proofs.Entries.{level_from_eq}
 use Rattle.gd_drawing.proofs.Listed.{some_ranked}
-use Rattle.std.proofs.lemmas.List.{nil_from_length}
+use Rattle.std.proofs.lemmas.List.{append-nil, nil_from_length}
 use Rattle.gd_base.specs.declared.rank.Level.{Level}
 use Rattle.gd_base.specs.Ranks.{level, level_cmp, is_same_rank}
 use Rattle.gd_drawing.proofs.RankLemmas.{is_same_rank-refl}
-use Rattle.gd_view.specs.Sums.{with_id}
-use Rattle.gd_view.specs.Levels.{level_of, with_level, item_of}
+use Rattle.gd_view.specs.Levels.{level_of, item_of}
+use Rattle.gd_view.proofs.SortLemmas.{keys_more, sorted_keys}
 
 -- the item of the object with that level, where it is shown
 abbrev pub item_at_level : Board → Level → Option Item
@@ -60,81 +59,93 @@ stack-insert b id o absent =
     ∙ (λ i. cond (sym (level_test q.rank q.id o.rank id) i) (Some o) (sym (get-stack b q.rank q.id) i))
     ∙ sym (map_of.get-insert level_cmp-total (stack b) (level o.rank id) o q))
 
--- ---- keys, put in one by one
+-- it has that object's level besides
+stack_more : (b : Board) (id : Stamp) (o : Object) → map_of.get b id ≡ None
+    → IsPermutation (level o.rank id ∷ map_of.keys (stack b)) (map_of.keys (stack (map_of.insert b id o)))
+stack_more b id o absent = subst (λ s. IsPermutation (level o.rank id ∷ map_of.keys (stack b)) (map_of.keys s))
+    (sym (stack-insert b id o absent))
+    (keys_more level_cmp-total (stack b) (level o.rank id) o
+    (get-stack b o.rank id ∙ ap (at_rank o.rank) absent))
 
--- a key that is put in among the keys of a sorted list
-put_key : {K X : Type 0} (cmp : K → K → Ordering) (k : K) (x : X) (es : List (K × X))
-    → insert_key cmp (map (λ e. e.0) es) k ≡ map (λ e. e.0) (put cmp k x es)
-put_key cmp k x [] = refl
-put_key cmp k x (e ∷ es) = by (cmp k e.0) (put_key cmp k x es)
-  where
-    by : (r : Ordering) → insert_key cmp (map (λ e. e.0) es) k ≡ map (λ e. e.0) (put cmp k x es)
-        → match_ordering r (k ∷ e.0 ∷ map (λ e. e.0) es) (e.0 ∷ map (λ e. e.0) es)
-        (e.0 ∷ insert_key cmp (map (λ e. e.0) es) k)
-        ≡ map (λ e. e.0) (by_order r ((k, x) ∷ e ∷ es) ((e.0, x) ∷ es) (e ∷ put cmp k x es))
-    by Less m = refl
-    by Equal m = refl
-    by Greater m = ap (λ l. e.0 ∷ l) m
+-- ---- what the slots hold, gathered from the first to the last
 
--- the keys of a map with one entry more
-keys-insert : {K X : Type 0} {R : K → K → Ordering} (o : IsTotalOrder R) (m : map_of.FinMap R X) (k : K) (v : X)
-    → insert_key R (map_of.keys m) k ≡ map_of.keys (map_of.insert m k v)
-keys-insert {R = R} o m k v = put_key R k v (map_of.entries m)
-    ∙ ap (map (λ e. e.0)) (sym (map_of.entries-insert o m k v))
+module _ {K : Type 0} where
+  -- what is put last, where there is something
+  put_option : (x : Option K) (ks rest : List K) → (ks ++ option_to_list x) ++ rest ≡ ks ++ cons_option x rest
+  put_option None ks rest = ap (λ l. l ++ rest) (append-nil ks)
+  put_option (Some y) ks rest = append_snoc ks y rest
 
--- ---- keys of boards, gathered from the last slot to the first: `more` puts in the key of a slot's object
+module _ {K : Type 0} (f : Stamp × Object → K) where
+  -- what f makes of the slots' objects
+  abbrev pub held : Slots → List K
+  held es = filter_map (λ e. option_map f (value_of (Some e))) es
 
-module _ {K : Type 0} (keys : Board → List K) (more : Option (Stamp × Object) → List K → List K)
-    (none : (ks : List K) → more None ks ≡ ks)
-    (some : (b : Board) (id : Stamp) (o : Object) → map_of.get b id ≡ None
-    → more (Some (id, o)) (keys b) ≡ keys (map_of.insert b id o)) where
+  read_next : (es : Slots) (k : ℕ) (ks next all : List K) → k < length es → ks ++ held (drop k es) ≡ all
+      → next ≡ ks ++ option_to_list (option_map f (value_at es k)) → next ++ held (drop (suc k) es) ≡ all
+  read_next [] k ks next all below so_far is = absurd (omega arith)
+  read_next (e ∷ es) zero ks next all below so_far is
+      = ap (λ l. l ++ held es) is ∙ put_option (option_map f (value_of (Some e))) ks (held es) ∙ so_far
+  read_next (e ∷ es) (suc k) ks next all below so_far is = read_next es k ks next all (omega arith) so_far is
+
+  -- the slot at the place k is read
+  pub held_next : (es : Slots) (k : ℕ) (ks next all : List K) → k < length es → ks ++ held (drop k es) ≡ all
+      → next ≡ ks ++ option_to_list (option_map f (value_at es k)) → next ++ held (drop (k + 1) es) ≡ all
+  held_next es k ks next all below so_far is = ap (λ n. next ++ held (drop n es)) (add-one k)
+      ∙ read_next es k ks next all below so_far is
+
+  -- all slots are read
+  held_all : (es : Slots) (k : ℕ) (ks : List K) → k ≡ length es → ks ++ held (drop k es) ≡ held es → ks ≡ held es
+  held_all es k ks end so_far = sym (append-nil ks)
+      ∙ ap (λ l. ks ++ held l) (sym (ap (λ n. drop n es) end ∙ drop-length es)) ∙ so_far
+
+-- ---- they are the keys of the board
+
+module _ {K : Type 0} (f : Stamp × Object → K) (keys : Board → List K) (none : keys map_of.empty ≡ [])
+    (more : (b : Board) (id : Stamp) (o : Object) → map_of.get b id ≡ None
+    → IsPermutation (f (id, o) ∷ keys b) (keys (map_of.insert b id o))) where
   -- one slot more
   one_more : (e : Stamp × Option Object) (es : Slots) → Every (λ y. is_same e.0 y ≡ false) (ids es)
-      → more (value_of (Some e)) (keys (board_of es)) ≡ keys (board_of (e ∷ es))
+      → IsPermutation (held f es) (keys (board_of es)) → IsPermutation (held f (e ∷ es)) (keys (board_of (e ∷ es)))
   unfolding board_of
-  one_more (id, None) es d = none _ ∙ ap keys (sym (put_at-kept (board_of es) id None (apart_none id es d)))
-  one_more (id, Some o) es d = some (board_of es) id o (apart_none id es d)
+  one_more (id, None) es apart are = subst (IsPermutation (held f es))
+      (ap keys (sym (put_at-kept (board_of es) id None (apart_none id es apart)))) are
+  one_more (id, Some o) es apart are = IsPermutation-trans _ _ _ (IsPermutation-cons (f (id, o)) _ _ are)
+      (more (board_of es) id o (apart_none id es apart))
 
-  -- the slot at the place k, put to those behind it
-  gathered : (es : Slots) (k : ℕ) (ks all : List K) → IsDistinct is_same (ids es) → k < length es
-      → ks ≡ keys (board_of (drop (suc k) es)) → all ≡ more (value_at es k) ks → all ≡ keys (board_of (drop k es))
-  unfolding IsDistinct
-  gathered [] k ks all d below h is = absurd (omega arith)
-  gathered (e ∷ es) zero ks all d below h is = is ∙ ap (more (value_of (Some e))) h ∙ one_more e es d.0
-  gathered (e ∷ es) (suc k) ks all d below h is = gathered es k ks all d.1 (omega arith) h is
-
--- the ids of the objects
-pub ids_gathered : (es : Slots) (k : ℕ) (ks all : List Stamp) → IsDistinct is_same (ids es) → k < length es
-    → ks ≡ map_of.keys (board_of (drop (suc k) es)) → all ≡ with_id (option_map (λ p. p.0) (value_at es k)) ks
-    → all ≡ map_of.keys (board_of (drop k es))
-ids_gathered = gathered (λ (b : Board). map_of.keys b) (λ x. with_id (option_map (λ p. p.0) x)) (λ ks. refl)
-    (λ b id o absent. keys-insert stamp_cmp-total b id o)
-
--- their levels
-pub levels_gathered : (es : Slots) (k : ℕ) (ls all : List Level) → IsDistinct is_same (ids es) → k < length es
-    → ls ≡ map_of.keys (stack (board_of (drop (suc k) es))) → all ≡ with_level (level_of (value_at es k)) ls
-    → all ≡ map_of.keys (stack (board_of (drop k es)))
-levels_gathered =
-    gathered (λ (b : Board). map_of.keys (stack b)) (λ x. with_level (level_of x)) (λ ls. refl)
-    (λ b id o absent. keys-insert level_cmp-total (stack b) (level o.rank id) o
-    ∙ ap map_of.keys (sym (stack-insert b id o absent)))
-
--- behind the last slot there is none
-pub slots_none : (es : Slots) (n : ℕ) → n ≡ length es → board_of (drop n es) ≡ map_of.empty
-unfolding board_of
-slots_none es n e = ap board_of (ap (λ m. drop m es) e ∙ drop-length es)
+  held_keys : (es : Slots) → IsDistinct is_same (ids es) → IsPermutation (held f es) (keys (board_of es))
+  unfolding IsDistinct board_of
+  held_keys [] d = subst (IsPermutation []) (sym none) (IsPermutation-refl [])
+  held_keys (e ∷ es) d = one_more e es d.0 (held_keys es d.1)
 
 -- no objects have no ids, and no levels
 no_entries : {K : Type 0} (X : Type 0) (R : K → K → Ordering) → map_of.entries (map_of.empty {X = X} {R = R}) ≡ []
 no_entries X R = nil_from_length _ (sym (map_of.len-entries (map_of.empty {X = X} {R = R})) ∙ map_of.len-empty R X)
 
-pub no_ids : map_of.keys (map_of.empty {X = Object} {R = stamp_cmp}) ≡ []
+no_ids : map_of.keys (map_of.empty {X = Object} {R = stamp_cmp}) ≡ []
 no_ids = ap (map (λ e. e.0)) (no_entries Object stamp_cmp)
 
-pub no_levels : map_of.keys (stack map_of.empty) ≡ []
+no_levels : map_of.keys (stack map_of.empty) ≡ []
 unfolding stack
 no_levels = ap (λ es. map_of.keys (map_of.from_entries {R = level_cmp} (levels es))) (no_entries Object stamp_cmp)
     ∙ ap (map (λ e. e.0)) (no_entries Object level_cmp)
+
+-- the ids that are gathered, and sorted
+pub ids_sorted : (es : Slots) (k : ℕ) (ks sorted : List Stamp) → IsDistinct is_same (ids es) → k ≡ length es
+    → ks ++ held (λ e. e.0) (drop k es) ≡ held (λ e. e.0) es → IsPermutation ks sorted → IsSorted stamp_cmp sorted
+    → sorted ≡ map_of.keys (board_of es)
+ids_sorted es k ks sorted apart end so_far =
+    sorted_keys stamp_cmp-total stamp_cmp-IsAntisymmetric (board_of es) ks sorted
+    (subst (λ l. IsPermutation l (map_of.keys (board_of es))) (sym (held_all (λ e. e.0) es k ks end so_far))
+    (held_keys (λ e. e.0) (λ (b : Board). map_of.keys b) no_ids (keys_more stamp_cmp-total) es apart))
+
+-- the levels
+pub levels_sorted : (es : Slots) (k : ℕ) (ks sorted : List Level) → IsDistinct is_same (ids es) → k ≡ length es
+    → ks ++ held level_of (drop k es) ≡ held level_of es → IsPermutation ks sorted → IsSorted level_cmp sorted
+    → sorted ≡ map_of.keys (stack (board_of es))
+levels_sorted es k ks sorted apart end so_far =
+    sorted_keys level_cmp-total level_cmp-IsAntisymmetric (stack (board_of es)) ks sorted
+    (subst (λ l. IsPermutation l (map_of.keys (stack (board_of es)))) (sym (held_all level_of es k ks end so_far))
+    (held_keys level_of (λ (b : Board). map_of.keys (stack b)) no_levels stack_more es apart))
 
 -- ---- the items, by level
 

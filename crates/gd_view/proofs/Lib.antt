@@ -1,5 +1,6 @@
 pub mod WalkLemmas
 pub mod ChainLemmas
+pub mod SortLemmas
 pub mod LevelLemmas
 pub mod SumLemmas
 pub mod WriteLemmas

@@ -1,8 +1,7 @@
 -- What stands above all objects, gathered from the greatest id to the least.
-use Rattle.std.specs.Prelude.{◌≡◌, List, Option, None, Some, IfSome}
+use Rattle.std.specs.Prelude.{◌≡◌, Option, None, Some, IfSome}
 use Rattle.std.specs.Option.{option_flatten}
 use Rattle.std.specs.FinMap as map_of
-use Rattle.std.specs.BTreeSet.{insert_key}
 use Rattle.indexmap.specs.IndexMap as index_map
 use Rattle.gd_base.specs.declared.ranges.TheConstants.{SESSION_EVENTS}
 use Rattle.gd_base.specs.Stamps.{stamp_cmp, is_same}
@@ -26,11 +25,6 @@ above_of d q (Some g) = above d q g.link
 -- what stands above the object of that id in the drawing, where it is there and not hidden
 abbrev pub above_at : Drawing → Stamp → Option Above
 above_at d q = above_of d q (map_of.find stamp_cmp q d)
-
--- one id more in its order, where there is one
-abbrev pub with_id : Option Stamp → List Stamp → List Stamp
-with_id None ks = ks
-with_id (Some id) ks = insert_key stamp_cmp ks id
 
 -- the sums of all objects are kept
 pub record AreKnown (d : Drawing) (k : Known) : Type 0 where

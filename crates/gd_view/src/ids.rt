@@ -1,24 +1,23 @@
 //! The ids of all objects, in their order.
 
-ghost use Rattle.std.specs.Prelude.{◌≡◌, IfOk, OnOk, option_map};
+ghost use Rattle.std.specs.Prelude.{◌≡◌, ◌++◌, IfOk, OnOk, option_map, option_to_list};
 ghost use Rattle.std.specs.FinMap as map_of;
 ghost use Rattle.gd_slots.specs.Slots.{board_of, value_at};
-ghost use Rattle.gd_view.specs.Sums.{with_id};
 
 use gd_base::Stamp;
 use gd_canvas::Canvas;
 use std::alloc::{AllocError, Global};
-use std::collections::BTreeSet;
 
 /// The ids of all objects. `AllocError` where memory ran out.
-#[tactic(auto, using(crate::proofs::LevelLemmas::slots_none, crate::proofs::LevelLemmas::no_ids))]
-pub fn ids(alloc: Global, canvas: &Canvas) -> Result<BTreeSet<Stamp>, AllocError>
-    ensures { IfOk result (λ ids. ids.keys ≡ map_of.keys (board_of canvas.now)) }
+#[tactic(auto, unfolding(gd_base::specs::Stamps::stamp_cmp))]
+pub fn ids(alloc: Global, canvas: &Canvas) -> Result<Vec<Stamp>, AllocError>
+    ensures { IfOk result (λ ids. ids.items ≡ map_of.keys (board_of canvas.now)) }
 {
-    let mut ids = BTreeSet::new(alloc);
-    for place in (0..canvas.slots()).rev() {
+    let mut ids = Vec::with_capacity(alloc, canvas.slots())?;
+    for place in 0..canvas.slots() {
         add(&mut ids, id_at(canvas, place))?;
     }
+    ids.sort_unstable();
     Ok(ids)
 }
 
@@ -31,12 +30,11 @@ fn id_at(canvas: &Canvas, place: usize) -> Option<Stamp>
     }
 }
 
-#[tactic(auto, unfolding(gd_base::specs::Stamps::stamp_cmp))]
-fn add(ids: &mut BTreeSet<Stamp>, id: Option<Stamp>) -> Result<(), AllocError>
-    ensures { OnOk result (ids.new.keys ≡ with_id id ids.old.keys) }
+fn add(ids: &mut Vec<Stamp>, id: Option<Stamp>) -> Result<(), AllocError>
+    ensures { OnOk result (ids.new.items ≡ ids.old.items ++ option_to_list id) }
 {
     if let Some(id) = id {
-        ids.insert(id)?;
+        ids.push(id)?;
     }
     Ok(())
 }

@@ -29,9 +29,9 @@ pub(crate) fn shown_items(alloc: Global, canvas: &Canvas) -> Result<Vec<Item>, A
     ensures { IfOk result (λ items. items.items ≡ shown_items (listed (board_of canvas.now))) }
 {
     let table = sums(alloc, canvas)?;
-    let mut levels = levels(alloc, canvas)?;
+    let levels = levels(alloc, canvas)?;
     let mut items = Vec::with_capacity(alloc, levels.len())?;
-    while let Some(level) = levels.pop_first() {
+    for level in &levels {
         put_last(&mut items, item_of(canvas, &table, level.id)?)?;
     }
     Ok(items)

@@ -28,7 +28,7 @@ pub(crate) fn sums(alloc: Global, canvas: &Canvas) -> Result<Known, AllocError>
     let mut ids = ids(alloc, canvas)?;
     let mut table = Known::with_room(alloc, ids.len())?;
     let mut turn: u32 = 0;
-    while let Some(id) = ids.pop_last() {
+    while let Some(id) = ids.pop() {
         let sum = sum_at(canvas, &table, id, turn);
         table.put(id, sum)?;
         turn += 1;

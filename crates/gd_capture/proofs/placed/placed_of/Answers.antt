@@ -8,4 +8,5 @@ use Rattle.gd_capture.proofs.placed.placed_of.Goals as goal
 pub ids-init : goal.ids-init
 ids-init c =
     let b = board_of c.args.canvas.now in
-    (λ i. c.new-placed.ensures i ++ filter_map (placed_in b) (c.in_ok-ids.ensures i)) ∙ placed_by_ids b
+    let ids = c.deref-id-items.ensures.value ∙ c.in_ok-ids.ensures in
+    (λ i. c.new-placed.ensures i ++ filter_map (placed_in b) (ids i)) ∙ placed_by_ids b

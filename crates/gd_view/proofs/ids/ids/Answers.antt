@@ -1,15 +1,20 @@
-use Rattle.std.proofs.Common.{◌≡◌, ◌-◌, suc, drop, ap, ◌∙◌, arith}
-use Rattle.std.specs.FinMap as map_of
-use Rattle.gd_slots.specs.Slots.{board_of}
-use Rattle.gd_view.specs.Sums.{with_id}
-use Rattle.gd_view.proofs.LevelLemmas.{ids_gathered}
+use Rattle.std.proofs.Common.{◌++◌, ap, ◌∙◌, arith}
+use Rattle.std.specs.Prelude.{option_to_list}
+use Rattle.gd_base.specs.Stamps.{stamp_cmp}
+use Rattle.gd_view.proofs.LevelLemmas.{held_next, ids_sorted}
 use Rattle.gd_view.proofs.ids.ids.Goals as goal
 
 pub loop-place-preserved : goal.loop-place-preserved
 loop-place-preserved c =
-    let next : c.loop-place.place ≡ suc (c.loop-place.place - 1) = omega (arith, c.loop-place-test.true) in
-    ids_gathered c.args.canvas.now (c.loop-place.place - 1) c.loop-place.ids.keys c.add.new.ids.keys
-    c.slots-place.ensures.distinct
-    (omega (arith, c.loop-place-test.true, c.loop-place.auto.place, c.slots-place.ensures.count))
-    (c.loop-place.invariant ∙ ap (λ n. map_of.keys (board_of (drop n c.args.canvas.now))) next)
-    (c.in_ok-add.ensures ∙ ap (λ l. with_id l c.loop-place.ids.keys) c.id_at.ensures)
+    held_next (λ e. e.0) c.args.canvas.now c.loop-place.place c.loop-place.ids.items c.add.new.ids.items _
+    (omega (arith, c.loop-place-test.true, c.slots-place-end.ensures.count))
+    c.loop-place.invariant
+    (c.in_ok-add.ensures ∙ ap (λ x. c.loop-place.ids.items ++ option_to_list x) c.id_at.ensures)
+
+pub returns : goal.returns
+unfolding stamp_cmp
+returns c =
+    ids_sorted c.args.canvas.now c.loop-place.place c.loop-place.ids.items c.sort_unstable.new.self.items
+    c.slots.ensures.distinct
+    (omega (arith, c.loop-place-test.false, c.slots-place-end.ensures.count))
+    c.loop-place.invariant c.sort_unstable.ensures.permutation c.sort_unstable.ensures.sorted

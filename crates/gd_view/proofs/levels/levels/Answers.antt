@@ -1,16 +1,22 @@
-use Rattle.std.proofs.Common.{◌≡◌, ◌-◌, suc, drop, ap, ◌∙◌, arith}
-use Rattle.std.specs.FinMap as map_of
-use Rattle.gd_view.specs.Levels.{with_level}
-use Rattle.gd_model.specs.Board.{stack}
-use Rattle.gd_slots.specs.Slots.{board_of}
-use Rattle.gd_view.proofs.LevelLemmas.{levels_gathered}
+use Rattle.std.proofs.Common.{◌++◌, ap, ◌∙◌, arith}
+use Rattle.std.specs.Prelude.{option_to_list}
+use Rattle.gd_base.specs.Stamps.{stamp_cmp}
+use Rattle.gd_base.specs.Ranks.{rank_cmp, level_cmp}
+use Rattle.gd_view.specs.Levels.{level_of}
+use Rattle.gd_view.proofs.LevelLemmas.{held_next, levels_sorted}
 use Rattle.gd_view.proofs.levels.levels.Goals as goal
 
 pub loop-place-preserved : goal.loop-place-preserved
 loop-place-preserved c =
-    let next : c.loop-place.place ≡ suc (c.loop-place.place - 1) = omega (arith, c.loop-place-test.true) in
-    levels_gathered c.args.canvas.now (c.loop-place.place - 1) c.loop-place.levels.keys c.add.new.levels.keys
-    c.slots-place.ensures.distinct
-    (omega (arith, c.loop-place-test.true, c.loop-place.auto.place, c.slots-place.ensures.count))
-    (c.loop-place.invariant ∙ ap (λ n. map_of.keys (stack (board_of (drop n c.args.canvas.now)))) next)
-    (c.in_ok-add.ensures ∙ ap (λ l. with_level l c.loop-place.levels.keys) c.level_at.ensures)
+    held_next level_of c.args.canvas.now c.loop-place.place c.loop-place.levels.items c.add.new.levels.items _
+    (omega (arith, c.loop-place-test.true, c.slots-place-end.ensures.count))
+    c.loop-place.invariant
+    (c.in_ok-add.ensures ∙ ap (λ x. c.loop-place.levels.items ++ option_to_list x) c.level_at.ensures)
+
+pub returns : goal.returns
+unfolding stamp_cmp rank_cmp level_cmp
+returns c =
+    levels_sorted c.args.canvas.now c.loop-place.place c.loop-place.levels.items c.sort_unstable.new.self.items
+    c.slots.ensures.distinct
+    (omega (arith, c.loop-place-test.false, c.slots-place-end.ensures.count))
+    c.loop-place.invariant c.sort_unstable.ensures.permutation c.sort_unstable.ensures.sorted

@@ -1,8 +1,7 @@
-use Rattle.std.proofs.Common.{◌≡◌, drop}
-use Rattle.std.specs.FinMap as map_of
-use Rattle.gd_model.specs.Board.{stack}
-use Rattle.gd_slots.specs.Slots.{board_of}
+use Rattle.std.proofs.Common.{◌≡◌, ◌++◌, drop}
+use Rattle.gd_view.specs.Levels.{level_of}
+use Rattle.gd_view.proofs.LevelLemmas.{held}
 use Rattle.gd_view.proofs.levels.levels.Given as goal
 
 abbrev pub invariant-loop-place : goal.invariant-loop-place
-invariant-loop-place l = l.levels.keys ≡ map_of.keys (stack (board_of (drop l.place l.canvas)))
+invariant-loop-place l = l.levels.items ++ held level_of (drop l.place l.canvas) ≡ held level_of l.canvas

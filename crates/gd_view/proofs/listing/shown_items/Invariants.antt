@@ -1,4 +1,4 @@
-use Rattle.std.proofs.Common.{◌≡◌, ◌++◌, length}
+use Rattle.std.proofs.Common.{◌≡◌, ◌++◌, drop}
 use Rattle.std.specs.List.{filter_map}
 use Rattle.gd_model.specs.Board.{listed}
 use Rattle.gd_model.specs.Shown.{shown_items}
@@ -8,8 +8,5 @@ use Rattle.gd_view.proofs.listing.shown_items.Given as goal
 
 abbrev pub invariant-loop-level : goal.invariant-loop-level
 invariant-loop-level l =
-    l.items.items ++ filter_map (item_at_level (board_of l.canvas)) l.levels.keys
+    l.items.items ++ filter_map (item_at_level (board_of l.canvas)) (drop l.level-index l.level-items)
     ≡ shown_items (listed (board_of l.canvas))
-
-abbrev pub decreases-loop-level : goal.decreases-loop-level
-decreases-loop-level l = length l.levels.keys
