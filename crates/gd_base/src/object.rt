@@ -85,7 +85,8 @@ pub struct Object<L = Text> {
 }
 
 impl Object {
-    /// A copy with a handle to the same label. It takes no memory; `AllocError` where there are as many handles as can be counted.
+    /// A copy with a handle to the same label. It takes no memory; `AllocError` where there are as many handles as can be
+    /// counted.
     pub fn share(&self) -> Result<Self, AllocError>
         ensures { IfOk result (λ object. object ≡ self.now) }
     {

@@ -8,8 +8,8 @@ use crate::tie_list::TieList;
 use gd_base::{Height, Text, map_content, map_op};
 use std::alloc::{AllocError, Global};
 
-/// An operation on a drawing, as an event has it, in the memory that it needs: labels are shared, objects and most looks lie
-/// in boxes, and members and ties take as much as there are.
+/// An operation on a drawing, as an event has it, in the memory that it needs: labels are shared, objects and most looks
+/// lie in boxes, and members and ties take as much as there are.
 pub type Op = gd_base::Op<Text, PackedLooks, MemberList, Height, BoxedObject, TieList>;
 
 impl Operation for Op {
