@@ -1,7 +1,7 @@
 use Rattle.std.proofs.Common.{◌≡◌, ◌∙◌, ap, ap₂, arith}
 use Rattle.std.specs.Int.RustNames.{bit_xor}
 use Rattle.gd_check.specs.Checks.{nexts}
-use Rattle.gd_check.proofs.Words.{by_rows, word, words_fall}
+use Rattle.gd_check.proofs.Words.{word, words_fall}
 use Rattle.gd_check.proofs.register.with_eight.Goals as goal
 
 pub returns : goal.returns
@@ -12,9 +12,7 @@ returns c =
     let first_is : first ≡ word c.args.a c.args.b c.args.c c.args.d = c.from_le_bytes-first.ensures ∙ omega arith in
     let second_is : second ≡ word c.args.e c.args.f c.args.g c.args.h = c.from_le_bytes-second.ensures ∙ omega arith in
     ap₂ bit_xor
-    (by_rows 32 (bit_xor r first) _ _ _ _ c.row_64.ensures c.row_56.ensures c.row_48.ensures c.row_40.ensures
-    ∙ ap (λ w. nexts 64 (bit_xor r w)) first_is)
-    (by_rows 0 second _ _ _ _ c.row_32.ensures c.row_24.ensures c.row_16.ensures c.row.ensures
-    ∙ ap (nexts 32) second_is)
+    (c.with_eight_zeros.ensures ∙ ap (λ w. nexts 64 (bit_xor r w)) first_is)
+    (c.with_four_zeros.ensures ∙ ap (nexts 32) second_is)
     ∙ words_fall r c.args.a c.args.b c.args.c c.args.d c.args.e c.args.f c.args.g c.args.h
     (omega arith) (omega arith) (omega arith) (omega arith) (omega arith) (omega arith)
