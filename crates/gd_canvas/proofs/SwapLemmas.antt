@@ -1,5 +1,6 @@
 -- What swaps keep of what is found, and what two of them pass on.
-use Rattle.std.proofs.Common.{◌≡◌, ℕ, List, Bool, true, false, cond, Option, None, Some, refl, sym, ap, subst, ◌∙◌}
+use Rattle.std.proofs.Common.{◌≡◌, ℕ, List, [], ◌∷◌, Bool, true, false, cond, Option, None, Some, refl, sym, ap}
+use Rattle.std.proofs.Common.{subst, ◌∙◌}
 use Rattle.std.specs.Prelude.{◌||◌, is_some, unwrap_or}
 use Rattle.gd_base.specs.Contents.{content_map}
 use Rattle.gd_base.specs.Looks.{has_mark, instead, kept, laid, only_fill, only_stroke, only_width, put_over, taken}
@@ -25,7 +26,7 @@ use Rattle.gd_canvas.specs.declared.pair.Pair.{Pair}
 use Rattle.gd_canvas.specs.declared.swap.Swap.{Swap}
 use Rattle.gd_canvas.specs.declared.swap.Swap.TheVariants as swap
 use Rattle.gd_canvas.specs.Swaps.{found_in, new_looks, of_swap, old_looks, old_of, put_looks, sets, stored, stored_one}
-use Rattle.gd_canvas.specs.Swaps.{pair_new, pair_old, pair_stored}
+use Rattle.gd_canvas.specs.Swaps.{first_part, pair_new, pair_old, pair_stored}
 
 -- ---- a lone part
 
@@ -421,6 +422,23 @@ parts_map stamp c = refl
 
 pub part_sets : (stamp : Stamp) (w : Swap) → parts_of (sets stamp w) ≡ parts_of (of_swap w)
 part_sets stamp w = parts_map stamp (of_swap w)
+
+abbrev sets_said : Stamp → over.Content (List ℕ) Nothing Height → Content
+sets_said stamp c =
+    content_map (λ label. label) (λ looks. looks) (rank_at stamp)
+    (content_map (λ label. label) (λ looks. elim looks [ ]) (λ height. height) c)
+
+lone_said : (stamp : Stamp) (c : over.Content (List ℕ) Nothing Height)
+    → parts_of (sets_said stamp c) ≡ first_part (parts_of (sets_said stamp c)) ∷ []
+lone_said stamp (content.ToLooks none) = elim none [ ]
+lone_said stamp c = refl
+
+-- what sets no look sets one part
+pub lone_part : (stamp : Stamp) (w : Swap) → ((l : LooksSwap) → w ≡ swap.ToLooks l → ⊥)
+    → parts_of (sets stamp w) ≡ first_part (parts_of (sets stamp w)) ∷ []
+lone_part stamp (swap.ToLooks l) not_looks = absurd (not_looks l refl)
+lone_part stamp (swap.Other pair) not_looks = lone_said stamp pair.value.new
+lone_part stamp w not_looks = refl
 
 over_parts : (s : Stamp) (earlier later : Swap)
     → have_parts (parts_of (of_swap later)) (parts_of (of_swap earlier)) ≡ true → IsOver (sets s later) (sets s earlier)

@@ -1,6 +1,6 @@
 -- Touches of an operation one by one, tests of all of them, and what a form covers.
-use Rattle.std.proofs.Common.{◌≡◌, ℕ, ◌+◌, ◌-◌, ◌<◌, ◌≤◌, ◌==◌, Bool, true, false, ◌&&◌, List, [], ◌∷◌, ◌++◌, map, drop}
-use Rattle.std.proofs.Common.{length, get_or, suc, zero, Some, refl, sym, ap, subst, ◌∙◌, append-nil, length-append}
+use Rattle.std.proofs.Common.{◌≡◌, ℕ, ◌+◌, ◌-◌, ◌≤◌, ◌==◌, Bool, true, false, ◌&&◌, List, [], ◌∷◌, ◌++◌, map, drop}
+use Rattle.std.proofs.Common.{length, suc, zero, Some, None, refl, sym, ap, ◌∙◌, append-nil, length-append}
 use Rattle.std.proofs.Common.{arith}
 use Rattle.std.specs.Prelude.{option_map, slice_get, unwrap_or}
 use Rattle.std.specs.List.{list_all}
@@ -52,11 +52,17 @@ touch_count stamp op =
       length-map (ties_of f) link_touch,
     )
 
-own_at : (i : Stamp) (ps : List ℕ) (us : List Touch) (place : ℕ) → place < length ps
-    → slice_get (own_touches i ps ++ us) place ≡ Some (i, get_or ps place 0)
-own_at i [] us place inside = absurd (omega (arith, inside))
-own_at i (p ∷ ps) us zero inside = refl
-own_at i (p ∷ ps) us (suc k) inside = own_at i ps us k (omega (arith, inside))
+own_at : (i : Stamp) (ps : List ℕ) (us : List Touch) (place p : ℕ) → Some p ≡ slice_get ps place
+    → Some (i, p) ≡ slice_get (own_touches i ps ++ us) place
+own_at i [] us zero p e = cc
+own_at i [] us (suc k) p e = cc
+own_at i (q ∷ ps) us zero p e = ap (option_map (λ (part : ℕ). (i, part))) e
+own_at i (q ∷ ps) us (suc k) p e = own_at i ps us k p e
+
+pub own_past : (ps : List ℕ) (place : ℕ) → None ≡ slice_get ps place → length ps ≤ place
+own_past [] place e = omega arith
+own_past (q ∷ ps) zero e = cc
+own_past (q ∷ ps) (suc k) e = omega (arith, own_past ps k e)
 
 link_at : (ts : List Tie) (j : ℕ)
     → slice_get (map link_touch ts) j ≡ option_map (λ (id : Stamp). (id, LINK)) (id_at ts j)
@@ -71,25 +77,22 @@ behind_own i (p ∷ ps) us zero n at = absurd (omega (arith, at))
 behind_own i (p ∷ ps) us (suc k) n at = behind_own i ps us k n (omega (arith, at))
 
 -- one of its own parts
-pub first_at : (stamp : Stamp) (op : Op) (parts : List ℕ) (place : ℕ) → parts ≡ own_parts (form stamp op)
-    → place < length parts
-    → Some (object_of (form stamp op), get_or parts place 0) ≡ slice_get (touches stamp op) place
-first_at stamp op parts place are inside =
+pub first_at : (stamp : Stamp) (op : Op) (place part : ℕ) → Some part ≡ slice_get (own_parts (form stamp op)) place
+    → Some (object_of (form stamp op), part) ≡ slice_get (touches stamp op) place
+first_at stamp op place part at =
     let f = form stamp op in
-    let own : place < length (own_parts f) = subst (λ ps. place < length ps) are inside in
-    ap (λ ps. Some (object_of f, get_or ps place 0)) are
-    ∙ sym (own_at (object_of f) (own_parts f) (map link_touch (ties_of f)) place own)
+    own_at (object_of f) (own_parts f) (map link_touch (ties_of f)) place part at
     ∙ ap (λ us. slice_get us place) (sym (touches-parts stamp op))
 
 -- or a link behind those
-pub later_at : (stamp : Stamp) (op : Op) (parts : List ℕ) (place : ℕ) → parts ≡ own_parts (form stamp op)
-    → length parts ≤ place
+pub later_at : (stamp : Stamp) (op : Op) (place count : ℕ) → count ≡ length (own_parts (form stamp op))
+    → None ≡ slice_get (own_parts (form stamp op)) place
     → slice_get (touches stamp op) place
-    ≡ option_map (λ (id : Stamp). (id, LINK)) (tied_at stamp op (place - length parts))
-later_at stamp op parts place are past =
+    ≡ option_map (λ (id : Stamp). (id, LINK)) (tied_at stamp op (place - count))
+later_at stamp op place count is none =
     let f = form stamp op in
-    let n = place - length parts in
-    let at : length (own_parts f) + n ≡ place = omega (arith, past, ap length are) in
+    let n = place - count in
+    let at : length (own_parts f) + n ≡ place = omega (arith, is, own_past (own_parts f) place none) in
     ap (λ us. slice_get us place) (touches-parts stamp op)
     ∙ behind_own (object_of f) (own_parts f) (map link_touch (ties_of f)) place n at
     ∙ link_at (ties_of f) n

@@ -1,5 +1,6 @@
 -- What an operation sets, and what it found there, in the memory of both.
-use Rattle.std.specs.Prelude.{ℕ, Bool, true, false, if◌then◌else◌, List, [], ◌∷◌, Option, None, Some, unwrap_or}
+use Rattle.std.specs.Prelude.{ℕ, Bool, true, false, if◌then◌else◌, List, [], Option, None, Some, slice_index}
+use Rattle.std.specs.Prelude.{unwrap_or}
 use Rattle.gd_base.specs.Contents.{content_map}
 use Rattle.gd_base.specs.Looks.{laid, no_looks, only_fill, only_stroke, only_width}
 use Rattle.gd_base.specs.Stamps.{Stamp}
@@ -40,8 +41,7 @@ put_looks (looks.Many pair) l = laid l pair.value.new
 -- ---- a pair of contents
 
 abbrev pub first_part : List ℕ → ℕ
-first_part [] = 0
-first_part (p ∷ ps) = p
+first_part ps = slice_index ps 0
 
 -- the part that a content is for, whatever it holds; of looks, which are for several, the whole
 abbrev pub part : {L K R : Type 0} → over.Content L K R → ℕ

@@ -1,9 +1,10 @@
 //! The content that an operation sets, with room for the old one beside it.
-ghost use Rattle.std.specs.Prelude.{◌≡◌, ◌<◌, IfOk, IsTrue, length};
+ghost use Rattle.std.specs.Prelude.{◌≡◌, ◌<◌, ◌≤◌, ◌∷◌, [], IfOk, IsTrue, length, slice_get};
 ghost use Rattle.gd_base.specs.Stamps.{Stamp as StampValue};
 ghost use Rattle.gd_model.specs.Forms.{rank_at};
 ghost use Rattle.gd_model.specs.Objects.{have_parts, laid_over, part_within, parts_of};
-ghost use Rattle.gd_canvas.specs.Swaps.{found_in, of_swap, old_of, sets, stored, stored_one, text_in};
+ghost use Rattle.gd_base.specs.declared.look.TheConstants.{LOOKS};
+ghost use Rattle.gd_canvas.specs.Swaps.{first_part, found_in, of_swap, old_of, sets, stored, stored_one, text_in};
 
 use crate::contents::{FLAG, LABEL, LookParts, PLACE, RANK, SIZE, one_part, part, passed};
 use crate::looks_swap::LooksSwap;
@@ -295,15 +296,55 @@ impl Swap {
         ensures some { 0 < length result.items }
     {
         match self {
-            Swap::ToPlace { .. } => one_part(PLACE),
-            Swap::ToSize { .. } => one_part(SIZE),
             Swap::ToLooks(looks) => looks.parts(),
-            Swap::ToText(_) => one_part(LABEL),
-            Swap::ToFlag { .. } => one_part(FLAG),
-            Swap::ToRank { .. } => one_part(RANK),
-            Swap::Other(pair) => one_part(part(&pair.new)),
+            _ => one_part(self.first_part()),
         }
     }
+
+    /// How many parts it sets.
+    pub fn part_count(&self) -> usize
+        ensures count { (stamp : StampValue) → result ≡ length (parts_of (sets stamp self.now)) }
+        ensures some { 0 < result }
+        ensures few { result ≤ LOOKS }
+    {
+        match self {
+            Swap::ToLooks(looks) => looks.parts().len(),
+            _ => 1,
+        }
+    }
+
+    /// The part at that place of those that it sets. None past the last one.
+    pub fn part_at(&self, place: usize) -> Option<u8>
+        ensures { (stamp : StampValue)
+            → result ≡ slice_get (parts_of (sets stamp self.now)) place }
+    {
+        match self {
+            Swap::ToLooks(looks) => looks.parts().get(place).copied(),
+            _ => first_alone(self.first_part(), place),
+        }
+    }
+
+    /// The first part that it sets. Only a look has more.
+    pub fn first_part(&self) -> u8
+        ensures { (stamp : StampValue) → result ≡ first_part (parts_of (sets stamp self.now)) }
+    {
+        match self {
+            Swap::ToPlace { .. } => PLACE,
+            Swap::ToSize { .. } => SIZE,
+            Swap::ToLooks(looks) => looks.parts()[0],
+            Swap::ToText(_) => LABEL,
+            Swap::ToFlag { .. } => FLAG,
+            Swap::ToRank { .. } => RANK,
+            Swap::Other(pair) => part(&pair.new),
+        }
+    }
+}
+
+/// What stands at that place of a list of this part alone.
+pub(crate) fn first_alone(part: u8, place: usize) -> Option<u8>
+    ensures { result ≡ slice_get (part ∷ []) place }
+{
+    if place == 0 { Some(part) } else { None }
 }
 
 /// The rank that an event at that stamp gives.

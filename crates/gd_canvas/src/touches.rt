@@ -7,10 +7,10 @@ ghost use Rattle.gd_model.specs.Forms.{form};
 ghost use Rattle.gd_model.specs.Relations.{touches};
 ghost use Rattle.gd_canvas.specs.Kept.{op_of};
 ghost use Rattle.gd_canvas.specs.Slots.{slot_needed};
-ghost use Rattle.gd_canvas.specs.Touches.{object_of, own_parts, tied_at, ties_of};
+ghost use Rattle.gd_canvas.specs.Touches.{first_part, object_of, own_parts, tied_at, ties_of};
 
-use crate::contents::{LookParts, one_part};
 use crate::kept::Kept;
+use crate::swap::first_alone;
 use crate::tied::id_at;
 use gd_base::Stamp;
 use gd_model::{LINK, WHOLE};
@@ -39,19 +39,37 @@ pub fn object_of(stamp: Stamp, kept: &Kept) -> Stamp
     }
 }
 
-/// The parts of that object that it touches, at any stamp.
-pub fn own_parts(kept: &Kept) -> LookParts
-    ensures parts { (stamp : StampValue) → result.items ≡ own_parts (form stamp (op_of kept.now)) }
-    ensures some { 0 < length result.items }
+/// How many parts of that object it touches, at any stamp.
+fn own_count(kept: &Kept) -> usize
+    ensures count { (stamp : StampValue)
+        → result ≡ length (own_parts (form stamp (op_of kept.now))) }
+    ensures some { 0 < result }
+    ensures few { result ≤ LOOKS }
 {
     match kept {
-        Kept::Set { swap, .. } => swap.parts(),
-        Kept::Create { .. }
-        | Kept::Connect { .. }
-        | Kept::Delete { .. }
-        | Kept::Group(_)
-        | Kept::Restore { .. }
-        | Kept::Disband { .. } => one_part(WHOLE),
+        Kept::Set { swap, .. } => swap.part_count(),
+        _ => 1,
+    }
+}
+
+/// The one of them at that place. None past the last one.
+fn own_at(kept: &Kept, place: usize) -> Option<u8>
+    ensures { (stamp : StampValue)
+        → result ≡ slice_get (own_parts (form stamp (op_of kept.now))) place }
+{
+    match kept {
+        Kept::Set { swap, .. } => swap.part_at(place),
+        _ => first_alone(WHOLE, place),
+    }
+}
+
+/// The first of them.
+pub fn first_part(kept: &Kept) -> u8
+    ensures { (stamp : StampValue) → result ≡ first_part (form stamp (op_of kept.now)) }
+{
+    match kept {
+        Kept::Set { swap, .. } => swap.first_part(),
+        _ => WHOLE,
     }
 }
 
@@ -84,22 +102,17 @@ pub fn touch_count(stamp: Stamp, kept: &Kept) -> usize
     ensures some { 0 < result }
     ensures few { result ≤ MOST_MEMBERS + LOOKS }
 {
-    let own = own_parts(kept);
-    let tied = tied_count(stamp, kept);
-    own.len() + tied
+    own_count(kept) + tied_count(stamp, kept)
 }
 
 /// Its touch at that place. None past the last one.
 pub fn touch_at(stamp: Stamp, kept: &Kept, place: usize) -> Option<(Stamp, u8)>
     ensures { result ≡ slice_get (touches stamp (op_of kept.now)) place }
 {
-    let own = own_parts(kept);
-    let parts = own.as_slice();
-    let count = parts.len();
-    if place < count {
-        return Some((object_of(stamp, kept), parts[place]));
+    if let Some(part) = own_at(kept, place) {
+        return Some((object_of(stamp, kept), part));
     }
-    match tied_at(stamp, kept, place - count) {
+    match tied_at(stamp, kept, place - own_count(kept)) {
         Some(id) => Some((id, LINK)),
         None => None,
     }

@@ -1,4 +1,4 @@
-use Rattle.std.proofs.Common.{length, ap, arith}
+use Rattle.std.proofs.Common.{arith}
 use Rattle.gd_canvas.specs.Kept.{op_of}
 use Rattle.gd_canvas.proofs.TouchLemmas.{touch_count}
 use Rattle.gd_canvas.proofs.touches.touch_count.Goals as goal
@@ -8,8 +8,6 @@ returns-clause-count c =
     omega (
       arith,
       touch_count c.args.stamp (op_of c.args.kept.now),
-      ap length
-          (c.own_parts-own.ensures.parts c.args.stamp),
-      c.len.ensures.value,
-      c.tied_count-tied.ensures.count,
+      c.own_count.ensures.count c.args.stamp,
+      c.tied_count.ensures.count,
     )
