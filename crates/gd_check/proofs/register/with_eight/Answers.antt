@@ -13,6 +13,6 @@ returns c =
     let second_is : second ≡ word c.args.e c.args.f c.args.g c.args.h = c.from_le_bytes-second.ensures ∙ omega arith in
     ap₂ bit_xor
     (c.with_eight_zeros.ensures ∙ ap (λ w. nexts 64 (bit_xor r w)) first_is)
-    (c.with_four_zeros.ensures ∙ ap (nexts 32) second_is)
+    (c.with_four_zeros-behind.ensures ∙ ap (nexts 32) second_is)
     ∙ words_fall r c.args.a c.args.b c.args.c c.args.d c.args.e c.args.f c.args.g c.args.h
     (omega arith) (omega arith) (omega arith) (omega arith) (omega arith) (omega arith)
